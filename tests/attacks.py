@@ -520,7 +520,7 @@ use crate::rattle_std::cmp::Ordering;
         'a sort whose function says nothing of the order',
         edits=[
     ('crates/version_sets/src/spans.rt',
-     '''    // What the sort compares by is a total order, which Rust demands.
+     '''    // The sort's comparison is a total order, which Rust demands.
     ensures total_order { IsTotalOrder (λ (s t : Span L). precedence (L.place s.from)
         (L.place t.from)) }
 ''',
@@ -802,8 +802,8 @@ pub fn begun(all: &[Strings]) -> Strings {
         best_index(self, versions, false)
     }
 
-    /// Returns the index of the lowest of many versions that the range contains, as
-    /// [`VersionRange::highest_of`] that of the highest.
+    /// Returns the index of the lowest of the given versions that the range contains. It is
+    /// otherwise like [`VersionRange::highest_of`].
     ///
     /// ```
     /// use semver_parser::{Dialect, VersionRange};
@@ -821,8 +821,8 @@ pub fn begun(all: &[Strings]) -> Strings {
         best_index(self, versions, true)
     }
 
-    /// Returns the index of the lowest of many versions that the range contains, as
-    /// [`VersionRange::highest_of`] that of the highest.
+    /// Returns the index of the lowest of the given versions that the range contains. It is
+    /// otherwise like [`VersionRange::highest_of`].
     ///
     /// ```
     /// use semver_parser::{Dialect, VersionRange};

@@ -1,4 +1,4 @@
-//! Requirements as Cargo reads them: `1.2` is `>=1.2.0 <2.0.0`, and commas separate comparators.
+//! Cargo's dialect: `1.2` is `>=1.2.0 <2.0.0`, and commas separate comparators.
 
 ghost use Rattle.std.specs.Prelude.{◌≡◌, [], List, true, IfOk, IsTrue};
 ghost use Rattle.semver_ranges.specs.RangeTree.{Simple as SimpleTree, SetTree, Spells};
@@ -31,41 +31,42 @@ use semver_ranges::partial::LowerBounds;
 use semver_ranges::{Compat, Range, RangeError, RangeSet};
 use std::alloc::{AllocError, Global};
 
-/// Cargo reads at most so many comparators.
+/// The maximum number of comparators in a requirement.
 pub(crate) const MOST_COMPARATORS: usize = 32;
 
 // Answer: law answer_laws::ranges::one_cargo_rewrite.
-/// Rewrites a requirement, as Cargo reads it, into plain comparators with exact bounds.
+/// Rewrites a requirement in Cargo's dialect into plain comparators with exact bounds.
 ///
-/// A requirement is one to 32 comparators, separated by commas, or a wildcard alone.
-/// The page `docs::grammar` has the grammar, and `docs::meaning` says which versions satisfy each
-/// comparator in Cargo.
-/// The answer has one range, in Cargo mode.
+/// A requirement is either a single wildcard, or 1 to 32 comparators separated by commas. The page
+/// `docs::grammar` has the grammar, and `docs::meaning` defines which versions satisfy each
+/// comparator in Cargo. The result has one range, in Cargo mode.
 ///
 /// `1.2` gives `>=1.2.0 <2.0.0-0`, `>=1.2.3, <2` gives `>=1.2.3 <2.0.0`, `>1.2` gives `>=1.3.0`,
 /// and `*` gives `>=0.0.0`.
 ///
-/// A release satisfies the answer exactly if the requirement means it. Which pre-releases Cargo
-/// takes comparators can't say.
+/// A release satisfies the result if and only if it satisfies the requirement. Which pre-releases
+/// satisfy it can't be expressed by comparators.
 ///
 /// # Errors
 ///
-/// - `NotARange` exactly where Cargo reads no such requirement, as `1.2 || 3`, `>=1 <2` or `1.x.3`.
-/// - `NumberTooLarge` exactly where it is one, and a number that it states or a bound that is
-///   raised by one is above 2^64 - 1, as `>1.18446744073709551615`.
-/// - `OutOfMemory` if an allocation fails. The first two do not allocate.
+/// - `NotARange` if the string is not a requirement in Cargo's dialect, such as `1.2 || 3`,
+///   `>=1 <2` or `1.x.3`.
+/// - `NumberTooLarge` if the string is a requirement, but one of its numbers, or a bound that is
+///   raised by one, is above 2^64 - 1, such as `>1.18446744073709551615`.
+/// - `OutOfMemory` if an allocation fails. The first two errors are returned without allocating.
 pub fn rewrite(alloc: Global, requirement: &str) -> Result<RangeSet, RangeError>
-    // What isn't a requirement and what is too large is refused, exactly; all else is read. What is
-    // answered is what each tree of the text is rewritten to.
+    // `NotARange` and `NumberTooLarge` are returned for exactly the strings for which they are
+    // defined; all others are read. The result is what the syntax tree of the string is rewritten
+    // to.
     ensures refusals { RefusesAs dialect.Cargo requirement.now result }
     ensures as_rewritten { IfOk result (λ set. (tree : List SimpleTree)
         → SpellsRequirement tree requirement.now → set_of set ≡ rewritten_requirement tree) }
-    // A release satisfies the answer exactly if the requirement means it.
+    // A release satisfies the result if and only if it satisfies the requirement.
     ensures releases { IfOk result (λ set. (tree : List SimpleTree) (v : PlainVersion)
         → SpellsRequirement tree requirement.now → v.pre ≡ [] →
         meets_set v (set_of set) ≡ meets_requirement Default tree v) }
-    // The result is printable, and its text is a range text that `RangeSet::parse` rewrites
-    // to that set again.
+    // The result is printable: printed, it is a range that `RangeSet::parse` rewrites to the same
+    // set.
     ensures printable { IfOk result (λ set. IsPrintableSet (set_of set)) }
     ensures reads_back { IfOk result (λ set. (tree : SetTree)
         × Spells tree (set_text (set_of set)) × IsTrue (fits Cargo tree)
@@ -74,7 +75,7 @@ pub fn rewrite(alloc: Global, requirement: &str) -> Result<RangeSet, RangeError>
     rewritten(alloc, requirement)
 }
 
-/// Returns the set of a requirement. For speed one comparator alone is rewritten as it is read.
+/// Returns the set of a requirement. For speed, a single comparator is rewritten while it is read.
 fn rewritten(alloc: Global, requirement: &str) -> Result<RangeSet, RangeError>
     ensures refusals { RefusesAs dialect.Cargo requirement.now result }
     ensures printed { IfOk result (λ set.
@@ -98,7 +99,7 @@ fn rewritten(alloc: Global, requirement: &str) -> Result<RangeSet, RangeError>
     }
 }
 
-/// Returns the set of one comparator that fits. `Err` is out of memory.
+/// Returns the set of one comparator whose numbers are within the limit. `Err` means out of memory.
 fn set_of_one(alloc: Global, simple: &Simple<'_>) -> Result<RangeSet, AllocError>
     requires { (s : SimpleTree) × IsSimpleOf s simple.now }
     ensures { IfOk result (λ set. (s : SimpleTree) → IsSimpleOf s simple.now

@@ -1,5 +1,5 @@
-//! The dialects of range texts: Cargo's, npm's, and those of the Rust crate in its two modes, with
-//! their numbers and names.
+//! The dialects of range strings: Cargo's, npm's, and the two modes of the crate `semver-parser`,
+//! with their numbers and names.
 
 ghost use Rattle.std.specs.Prelude.{◌≡◌, [], IfOk, IsTrue, MatchOption};
 ghost use Rattle.semver_texts.specs.Versions.{PlainVersion};
@@ -30,20 +30,20 @@ use std::alloc::Global;
 #[derive(Clone, Copy, PartialEq, Eq, Hash, Debug)]
 #[non_exhaustive]
 pub enum Dialect {
-    /// Cargo's: `1.2` is `>=1.2.0 <2.0.0`, and commas separate comparators.
+    /// Cargo's dialect: `1.2` is `>=1.2.0 <2.0.0`, and commas separate comparators.
     Cargo,
-    /// npm's: `>1.2` is `>=1.3.0`, and `v1` is a range.
+    /// npm's dialect: `>1.2` is `>=1.3.0`, and `v1` is a range.
     Npm,
-    /// That of the crate `semver-parser` in its Cargo mode: `1.2` is `>=1.2.0 <1.3.0`.
+    /// The dialect of the crate `semver-parser` in its Cargo mode: `1.2` is `>=1.2.0 <1.3.0`.
     CrateCargo,
-    /// That of the crate `semver-parser` in its npm mode: `>1.2` is `>1.2.0`.
+    /// The dialect of the crate `semver-parser` in its npm mode: `>1.2` is `>1.2.0`.
     CrateNpm,
 }
 
 impl Dialect {
     // Answer: equation.
-    /// Returns the grammar of the versions that are checked by a range text of this dialect: the
-    /// crate's for both of the crate's.
+    /// Returns the grammar of versions in this dialect. Both dialects of the crate have the crate's
+    /// grammar.
     ///
     /// ```
     /// use semver_parser::version::Grammar;
@@ -64,7 +64,7 @@ impl Dialect {
     }
 
     // Answer: equation.
-    /// Returns its number in C, Python and JavaScript.
+    /// Returns the number of the dialect in C, Python and JavaScript.
     ///
     /// ```
     /// use semver_parser::Dialect;
@@ -84,7 +84,7 @@ impl Dialect {
     }
 
     // Answer: law tool_ranges::laws::one_dialect_of_number.
-    /// Returns the dialect of a number, or `None` if none has it.
+    /// Returns the dialect with a number, or `None` if no dialect has it.
     ///
     /// ```
     /// use semver_parser::Dialect;
@@ -107,7 +107,7 @@ impl Dialect {
     }
 
     // Answer: equation.
-    /// Returns its name for programs.
+    /// Returns the name of the dialect for programs.
     ///
     /// ```
     /// use semver_parser::Dialect;
@@ -128,30 +128,30 @@ impl Dialect {
 }
 
 // Answer: law answer_laws::ranges::one_rewrite.
-/// Rewrites a range text of a dialect into plain comparators with exact bounds.
+/// Rewrites a range in a dialect into plain comparators with exact bounds.
 ///
-/// It is [`cargo::rewrite`](crate::cargo::rewrite), [`npm::rewrite`](crate::npm::rewrite) or
-/// `RangeSet::parse_exact`: `1.2` gives `>=1.2.0 <2.0.0-0` as Cargo reads it, and
-/// `>=1.2.0 <1.3.0-0` by the others. A release satisfies the answer exactly if the text means it,
-/// and the printed answer is a range text that `RangeSet::parse` rewrites to it again.
+/// It calls [`cargo::rewrite`](crate::cargo::rewrite), [`npm::rewrite`](crate::npm::rewrite) or
+/// `RangeSet::parse_exact`: `1.2` gives `>=1.2.0 <2.0.0-0` in Cargo's dialect, and
+/// `>=1.2.0 <1.3.0-0` in the others. A release satisfies the result if and only if it satisfies the
+/// range. Printed, the result is a range that `RangeSet::parse` rewrites to the same set.
 ///
 /// # Errors
 ///
-/// `NotARange` exactly where the dialect has no such text, and `NumberTooLarge` exactly
-/// where it has, and a number that it states or a bound that is raised by one is above 2^64 - 1, or
-/// as npm reads it above 2^53 - 1. These two do not allocate; `OutOfMemory` comes only in place of
-/// a set.
+/// - `NotARange` if the string is not a range in the dialect.
+/// - `NumberTooLarge` if it is a range, but one of its numbers, or a bound that is raised by one,
+///   is above 2^64 - 1, or above 2^53 - 1 in npm's dialect.
+/// - `OutOfMemory` if an allocation fails. The first two errors are returned without allocating.
 pub fn rewrite(alloc: Global, dialect: Dialect, range: &str) -> Result<RangeSet, RangeError>
-    // What isn't a range of the dialect, and what is too large, is refused, exactly. The result is
-    // what each tree of the text is rewritten to.
+    // `NotARange` and `NumberTooLarge` are returned for exactly the strings for which they are
+    // defined. The result is what the syntax tree of the string is rewritten to.
     ensures refusals { RefusesAs dialect range.now result }
     ensures as_rewritten { IfOk result (λ set. IsRewrittenAs dialect range.now (set_of set)) }
-    // A release satisfies the answer exactly if the text means it.
+    // A release satisfies the result if and only if it satisfies the range.
     ensures releases { IfOk result (λ set. (tree : TreeOf dialect) (v : PlainVersion)
         → SpellsAs dialect tree range.now → v.pre ≡ [] →
         meets_set v (set_of set) ≡ means_release dialect tree v) }
-    // The result is printable, and its text is a range text that `RangeSet::parse` rewrites
-    // to that set again, in the set's mode.
+    // The result is printable: printed, it is a range that `RangeSet::parse` rewrites to the same
+    // set, in the set's mode.
     ensures printable { IfOk result (λ set. IsPrintableSet (set_of set)) }
     ensures reads_back { IfOk result (λ set. (tree : SetTree)
         × Spells tree (set_text (set_of set)) × IsTrue (fits (mode_of dialect) tree)

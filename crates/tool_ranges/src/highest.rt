@@ -1,4 +1,4 @@
-//! Which of many version strings is the highest that a range contains, or the lowest.
+//! Finds the highest or the lowest of many version strings that a range contains.
 
 ghost use Rattle.std.specs.Prelude.{◌≡◌, ◌↔◌, List, MatchOption, false, true};
 ghost use Rattle.std.specs.Borrow.{Bor};
@@ -18,9 +18,10 @@ use semver_versions::version::{Outline, outline_in};
 
 impl VersionRange {
     // Answer: law answer_laws::version_ranges::one_highest_of.
-    /// Returns the index of the highest of many versions that the range contains, by precedence
-    /// (SemVer 2.0.0, section 11), the first of equal ones, or `None` if it contains none of them.
-    /// Strings that aren't versions of the dialect are skipped. It does not allocate.
+    /// Returns the index of the highest of the given versions that the range contains, or `None` if
+    /// it contains none of them. Versions are compared by precedence (SemVer 2.0.0, section 11),
+    /// and the first of equal versions is chosen. Strings that are invalid versions in the range's
+    /// dialect are skipped. It does not allocate.
     ///
     /// ```
     /// use semver_parser::{Dialect, VersionRange};
@@ -40,8 +41,8 @@ impl VersionRange {
     }
 
     // Answer: law answer_laws::version_ranges::one_lowest_of.
-    /// Returns the index of the lowest of many versions that the range contains, as
-    /// [`VersionRange::highest_of`] that of the highest.
+    /// Returns the index of the lowest of the given versions that the range contains. It is
+    /// otherwise like [`VersionRange::highest_of`].
     ///
     /// ```
     /// use semver_parser::{Dialect, VersionRange};
@@ -59,9 +60,10 @@ impl VersionRange {
     }
 
     // Answer: law answer_laws::version_ranges::one_highest_among.
-    /// Returns the highest of the versions that the range contains, by precedence (SemVer 2.0.0,
-    /// section 11), the first of equal ones, or `None` if it contains none of them. Strings that
-    /// aren't versions of the dialect are skipped. It does not allocate.
+    /// Returns the highest of the given versions that the range contains, or `None` if it contains
+    /// none of them. Versions are compared by precedence (SemVer 2.0.0, section 11), and the first
+    /// of equal versions is returned. Strings that are invalid versions in the range's dialect are
+    /// skipped. It does not allocate.
     pub fn highest_among<'v, I: Iterator<Item = &'v str> + Drop>(
         &self,
         versions: I,
@@ -75,8 +77,8 @@ impl VersionRange {
     }
 
     // Answer: law answer_laws::version_ranges::one_lowest_among.
-    /// Returns the lowest of the versions that the range contains, as
-    /// [`VersionRange::highest_among`] the highest.
+    /// Returns the lowest of the given versions that the range contains. It is otherwise like
+    /// [`VersionRange::highest_among`].
     pub fn lowest_among<'v, I: Iterator<Item = &'v str> + Drop>(
         &self,
         versions: I,
@@ -90,7 +92,7 @@ impl VersionRange {
     }
 }
 
-/// The highest of some strings, or the lowest if `lowest`.
+/// Returns the highest of some strings, or the lowest if `lowest`.
 fn best_string<'v, I: Iterator<Item = &'v str> + Drop>(
     range: &VersionRange,
     versions: I,
@@ -116,7 +118,7 @@ fn best_string<'v, I: Iterator<Item = &'v str> + Drop>(
     found
 }
 
-/// The index of the highest, or of the lowest if `lowest`.
+/// Returns the index of the highest version, or of the lowest if `lowest`.
 fn best_index(range: &VersionRange, versions: &[&[u8]], lowest: bool) -> Option<usize>
     ensures { FindsHighest lowest (versions_grammar range.now) range.now.versions versions.now
         result }
@@ -139,7 +141,7 @@ fn best_index(range: &VersionRange, versions: &[&[u8]], lowest: bool) -> Option<
     }
 }
 
-/// The outline of a version that a range contains.
+/// Returns a string as a borrowed version, if it is one that a range contains.
 #[inline(always)]
 fn member<'t>(range: &VersionRange, version: &'t [u8]) -> Option<Outline<'t>>
     ensures { MatchOption result
@@ -155,7 +157,8 @@ fn member<'t>(range: &VersionRange, version: &'t [u8]) -> Option<Outline<'t>>
     Some(outline)
 }
 
-/// Whether a version is above the best one so far, if there is one, or below it if `lowest`.
+/// Returns whether a version is above the best one so far, or below it if `lowest`. It is true if
+/// there is no best one yet.
 fn is_above(version: &Outline<'_>, best: &Option<Outline<'_>>, lowest: bool) -> bool
     ensures { MatchOption best.now (result ≡ true)
         (λ best. (result ≡ true) ↔ (order_for lowest (version_of best).plain

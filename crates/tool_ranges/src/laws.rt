@@ -18,13 +18,14 @@ use crate::satisfying::{SatisfiesError, satisfies};
 use crate::version_range::VersionRange;
 use semver_versions::laws::one_version_in;
 
-/// In no dialect a range text has two trees.
+/// No range string has two syntax trees in a dialect.
 pub fn one_tree()
     ensures same_tree { (dialect : SomeDialect) (tree other : TreeOf dialect) (t : Text)
         → SpellsAs dialect tree t → SpellsAs dialect other t → tree ≡ other }
 {}
 
-/// What begins a prefix of a range text is one, so is nothing, and so is each range text.
+/// A prefix of a prefix of a range string is itself such a prefix; so are the empty string and
+/// every range string.
 pub fn prefixes_begin_prefixes()
     ensures shorter { (dialect : SomeDialect) (t more : Text) → BeginsAs dialect (t ++ more)
         → BeginsAs dialect t }
@@ -32,42 +33,42 @@ pub fn prefixes_begin_prefixes()
     ensures whole { (dialect : SomeDialect) (t : Text) → IsTextAs dialect t → BeginsAs dialect t }
 {}
 
-/// A text has one offset at which it stops being the prefix of a range text.
+/// A string has only one offset at which it stops being the prefix of a range string.
 pub fn one_offset()
     ensures same_offset { (dialect : SomeDialect) (t : Text) (m n : ℕ)
         → IsLongestPrefix (BeginsAs dialect) t m → IsLongestPrefix (BeginsAs dialect) t n
         → m ≡ n }
 {}
 
-/// And one number that is too large.
+/// A string has only one offset of a number that is too large.
 pub fn one_limit_offset()
     ensures same_offset { (dialect : SomeDialect) (t : Text) (m n : ℕ)
         → IsLimitOffset dialect t m → IsLimitOffset dialect t n → m ≡ n }
 {}
 
-/// A prefix and what follows it have one reason.
+/// A prefix and the byte after it have only one reason.
 pub fn one_reason()
     ensures same_reason { (dialect : SomeDialect) (prefix : Text) (next : Option ℕ)
         (x y : SomeReason) → IsReasonAs dialect prefix next x → IsReasonAs dialect prefix next y
         → x ≡ y }
 {}
 
-/// A range reads identifiers of digits alone as its dialect does.
+/// A range reads numeric identifiers as its dialect does.
 pub fn ranges_read_digits(range: &VersionRange)
     ensures digits { range.now.versions.digits ≡ digits_in (versions_grammar range.now) }
 {
-    // Names a field, so that what each range keeps is known.
+    // The access to a field tells the prover the type's invariant.
     let _ = &range.versions;
 }
 
-/// A number has one dialect, or none.
+/// A number is that of one dialect, or of none.
 pub fn one_dialect_of_number(number: i32) -> (Option<Dialect>, Option<Dialect>)
     ensures one { result.0 ≡ result.1 }
 {
     (Dialect::from_number(number), Dialect::from_number(number))
 }
 
-/// `satisfying::satisfies` has one answer.
+/// `satisfying::satisfies` has only one permitted result.
 pub fn one_satisfies(
     version: &[u8],
     range: &str,

@@ -1,4 +1,5 @@
-//! Range texts as Cargo and npm themselves read them, which differs from the port's two modes.
+//! Ranges as Cargo and npm themselves read them, which differs from the two modes of the crate
+//! `semver-parser`.
 #![tactic(auto)]
 
 pub mod cargo;

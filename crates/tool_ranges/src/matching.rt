@@ -1,4 +1,4 @@
-//! Whether a text is a range, and whether a version satisfies it. Nothing here allocates.
+//! Decides whether a string is a range, and whether a version satisfies it. Nothing here allocates.
 
 ghost use Rattle.std.specs.Prelude.{◌≡◌, ◌≢◌, ◌&&◌, ◌||◌, not, true, if◌then◌else◌, Err, IfOk};
 ghost use Rattle.std.specs.Prelude.{Bool, MatchResult};
@@ -31,7 +31,7 @@ use semver_ranges::partial::{LowerBounds, Partial};
 use semver_versions::version::Outline;
 use version_sets::{Interval, PreReleases};
 
-/// Returns whether a version satisfies a range text.
+/// Returns whether a version satisfies a range.
 #[inline(always)]
 pub(crate) fn answer(
     version: &Outline<'_>,
@@ -59,8 +59,9 @@ pub(crate) fn takes_all(rule: PreReleases) -> bool
     matches!(rule, PreReleases::Included)
 }
 
-/// Returns whether the version satisfies the text, by what is known at its end. If some range
-/// matches everything, then to npm each release satisfies the text by default, and no pre-release.
+/// Returns whether the version satisfies the range, by what is known at the end of the string. In
+/// npm's dialect, if some range matches everything, every release satisfies the string by default,
+/// and no pre-release does.
 #[inline(always)]
 fn said(progress: &Progress, is_release: bool, dialect: Dialect, rule: PreReleases) -> bool
     ensures { (v : PlainVersion) → is_release ≡ is_empty v.pre
@@ -77,14 +78,14 @@ fn said(progress: &Progress, is_release: bool, dialect: Dialect, rule: PreReleas
     }
 }
 
-/// What is known of a version after some terms of a range text.
+/// What is known of a version after some terms of a range string.
 #[derive(Clone, Copy)]
 pub(crate) struct Progress {
-    /// Whether it satisfies the terms of this range so far.
+    /// Whether it satisfies the terms of the current range so far.
     here: bool,
-    /// Whether it counts in this range.
+    /// Whether it counts in the current range.
     counts: bool,
-    /// Whether this range matches everything so far.
+    /// Whether the current range matches everything so far.
     nothing: bool,
     /// Whether it satisfies an earlier range, and counts in it.
     met: bool,
@@ -93,8 +94,8 @@ pub(crate) struct Progress {
 }
 
 impl Progress {
-    /// Returns what is known before the first term. A version counts from the beginning, or from a
-    /// term on that states its numbers and a pre-release.
+    /// Returns what is known before the first term. A version counts from the beginning, or from
+    /// the first term that names its numbers and a pre-release.
     #[inline(always)]
     fn new(counts: bool) -> Progress
         ensures { result ≡ begun counts }
@@ -108,8 +109,8 @@ impl Progress {
         }
     }
 
-    /// Returns what is known after one more term. `by_default` says whether the interval for
-    /// pre-releases that count by default is taken.
+    /// Returns what is known after one more term. `by_default` says whether to use the interval for
+    /// pre-releases that count by default.
     #[inline(always)]
     fn with_term(
         self,
@@ -147,7 +148,7 @@ impl Progress {
     }
 }
 
-/// Returns what is known of a version at the end of a text. If `takes_all`, each pre-release
+/// Returns what is known of a version at the end of a string. If `takes_all`, each pre-release
 /// counts.
 #[inline(always)]
 fn matches(
@@ -181,7 +182,7 @@ fn matches(
     Ok(progress.ended(counts))
 }
 
-/// Returns whether a version counts in each range.
+/// Returns whether a version counts in each range, whatever its terms name.
 #[inline(always)]
 fn counts(version: &Outline<'_>, takes_all: bool) -> bool
     ensures { result ≡ counts takes_all (plain_of version.now) }
@@ -189,7 +190,7 @@ fn counts(version: &Outline<'_>, takes_all: bool) -> bool
     takes_all || is_release(version)
 }
 
-/// Returns how the left side of a hyphen range begins.
+/// Returns how the left side of a hyphen range begins in a dialect.
 #[inline(always)]
 pub(crate) fn lower(dialect: Dialect, takes_all: bool) -> LowerBounds
     ensures { result ≡ lower_of dialect takes_all }
@@ -211,7 +212,8 @@ fn meets(simple: &Simple<'_>, version: &Outline<'_>, dialect: Dialect, by_defaul
     looked_at(simple, dialect, by_default).contains(version, dialect.grammar().digits())
 }
 
-/// Returns the interval of a term: of all versions, or of the pre-releases that count by default.
+/// Returns the interval of a term: the one for all versions, or if `by_default`, the one for
+/// pre-releases that count by default.
 #[inline(always)]
 pub(crate) fn looked_at<'t>(simple: &Simple<'t>, dialect: Dialect, by_default: bool) -> Interval<'t>
     requires { PartsPass simple.now.partial }
@@ -239,7 +241,7 @@ fn is_release(version: &Outline<'_>) -> bool
     !version.is_pre_release()
 }
 
-/// Returns whether a partial states the three numbers of a version, and a pre-release.
+/// Returns whether a partial version names the three numbers of a version, and a pre-release.
 #[inline(always)]
 fn is_stated_by(version: &Outline<'_>, partial: &Partial<'_>) -> bool
     ensures { result ≡ states_at partial.now (plain_of version.now) }
@@ -251,7 +253,7 @@ fn is_stated_by(version: &Outline<'_>, partial: &Partial<'_>) -> bool
         && version.patch() == partial.patch()
 }
 
-/// Returns whether npm matches everything by a term.
+/// Returns whether npm matches everything with a term.
 #[inline(always)]
 pub(crate) fn matches_everything(simple: &Simple<'_>) -> bool
     ensures { result ≡ asks_nothing_by (form_of simple.now.form)
@@ -264,7 +266,8 @@ pub(crate) fn matches_everything(simple: &Simple<'_>) -> bool
     }
 }
 
-/// Returns an error if a text isn't a range, or if its numbers are above the limit of its dialect.
+/// Returns an error if a string isn't a range, or if one of its numbers is above the limit of its
+/// dialect.
 pub(crate) fn check(range: &str, dialect: Dialect) -> Result<(), RangeError>
     ensures { MatchResult result (λ _. IsRead dialect range.now (λ _. Unit {0}))
         (λ e. IsRefusedAs dialect range.now e) }
@@ -284,7 +287,7 @@ pub(crate) fn check(range: &str, dialect: Dialect) -> Result<(), RangeError>
     Ok(())
 }
 
-/// Returns how many terms that state a number come before the first one that doesn't fit.
+/// Returns how many terms with a number come before the first term that doesn't fit.
 pub(crate) fn fitting(range: &str, dialect: Dialect) -> u128
     ensures { (tree : TreeOf dialect) → SpellsAs dialect tree range.now
         → result ≡ prefix_len (term_fits_as dialect) (stating (terms_as dialect tree)) }

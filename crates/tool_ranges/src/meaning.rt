@@ -1,4 +1,4 @@
-//! What a range text means: in which dialect, and with which pre-releases.
+//! The meaning of a range string: its dialect, and which pre-releases satisfy it.
 
 ghost use Rattle.std.specs.Prelude.{◌≡◌, ◌≢◌, ◌&&◌, Bool, true, Err, IfOk};
 ghost use Rattle.semver_texts.specs.Digits.{digits_in};
@@ -25,8 +25,8 @@ use semver_versions::version::Outline;
 use std::alloc::Global;
 use version_sets::{PreReleases, VersionSet};
 
-/// The dialect of a range string, and which pre-releases satisfy it (page `docs::meaning`). Each
-/// dialect has the same three rules for pre-releases.
+/// The dialect of a range string, and which pre-releases satisfy it (page `docs::meaning`). The
+/// three rules for pre-releases are the same in every dialect.
 ///
 /// ```
 /// use semver_parser::{sets, Dialect, Meaning, PreReleases};
@@ -38,56 +38,61 @@ use version_sets::{PreReleases, VersionSet};
 /// ```
 #[derive(Clone, Copy, PartialEq, Eq, Hash, Debug)]
 pub struct Meaning {
-    /// Whose rules the text follows.
+    /// The dialect in which the string is read.
     pub dialect: Dialect,
-    /// Which pre-releases count: with `Default` those that Cargo and npm match by default, with
-    /// `Included` each within the bounds, as with node-semver's `includePrerelease`.
+    /// Which pre-releases count. With `Default` these are the ones that Cargo and npm match by
+    /// default; with `Included`, every one within the bounds, as with node-semver's
+    /// `includePrerelease`; with `Excluded`, none.
     pub pre_releases: PreReleases,
 }
 
 // Answer: law answer_laws::sets::one_read.
-/// Reads a range text into the set of the versions that it means.
+/// Reads a range string into the set of the versions that satisfy it.
 ///
-/// `^1.2.0, <1.5` has 1.4.0 in Cargo's dialect, and is refused in the others. With
-/// `PreReleases::Included` the set of `^1.2` begins with 1.2.0-0, and `*` is every version.
+/// The set of `^1.2.0, <1.5` contains 1.4.0 in Cargo's dialect; in the others that string is not a
+/// range. In Cargo's and npm's dialects, with `PreReleases::Included`, the set of `^1.2` begins
+/// with 1.2.0-0, and that of `*` contains every version.
 ///
 /// # Errors
 ///
-/// `NotARange` exactly where the dialect has no such text, and `NumberTooLarge` exactly where it
-/// has, and a number that it states or a bound that is raised by one is above 2^64 - 1, or in npm's
-/// dialect above 2^53 - 1. These two do not allocate; `OutOfMemory` comes only in place of a set.
+/// - `NotARange` if the string is not a range in the dialect.
+/// - `NumberTooLarge` if it is a range, but one of its numbers, or a bound that is raised by one,
+///   is above 2^64 - 1, or above 2^53 - 1 in npm's dialect.
+/// - `OutOfMemory` if an allocation fails. The first two errors are returned without allocating.
 pub fn read(alloc: Global, meaning: Meaning, range: &str) -> Result<VersionSet, RangeError>
-    // What isn't a range of the dialect, and what is too large, is refused, exactly.
+    // `NotARange` and `NumberTooLarge` are returned for exactly the strings for which they are
+    // defined.
     ensures refusals { RefusesAs meaning.dialect range.now result }
-    // A version is in the set exactly if the text means it.
+    // A version is in the set if and only if it satisfies the range.
     ensures meaning { IfOk result (λ set. MeansAs meaning range.now set) }
-    // Its identifiers can be read back from their texts.
+    // Its identifiers can be parsed back from their strings.
     ensures printable { IfOk result IsPrintable }
-    // It reads identifiers of digits alone as the dialect does.
+    // It reads numeric identifiers as the dialect does.
     ensures digits { IfOk result (λ set. set.digits ≡ digits_in (grammar_of meaning.dialect)) }
 {
     sets::read(alloc, range, meaning.dialect, meaning.pre_releases)
 }
 
 // Answer: law answer_laws::sets::one_satisfies.
-/// Returns whether a version satisfies a range: 1.9.0 satisfies `^1.2` in each dialect, 2.0.0 in
-/// none, and `>=1.2.3, <2` is a range in Cargo's alone.
+/// Returns whether a version satisfies a range. 1.9.0 satisfies `^1.2` in every dialect and 2.0.0
+/// in none; `>=1.2.3, <2` is a range only in Cargo's.
 ///
-/// The range is read once, from the left to the right, and nothing is allocated. For many versions
-/// and one range, read a [`VersionRange`](crate::version_range::VersionRange). The page
+/// The range is read once, from left to right, and nothing is allocated. To check many versions
+/// against one range, read a [`VersionRange`](crate::version_range::VersionRange). The page
 /// `docs::meaning` defines which versions satisfy each range.
 ///
 /// # Errors
 ///
-/// Those of [`read`], without `OutOfMemory`: `NotARange` exactly if the dialect has no such
-/// text, and `NumberTooLarge` exactly if it has, and a number that it states or a bound that
-/// is raised by one is above the dialect's limit.
+/// The errors of [`read`], except `OutOfMemory`: `NotARange` if the string is not a range in the
+/// dialect, and `NumberTooLarge` if it is a range, but one of its numbers, or a bound that is
+/// raised by one, is above the dialect's limit.
 #[inline(always)]
 pub fn satisfies(version: &Outline<'_>, range: &str, meaning: Meaning) -> Result<bool, RangeError>
-    // What isn't a range of the dialect, and what is too large, is refused, exactly.
+    // `NotARange` and `NumberTooLarge` are returned for exactly the strings for which they are
+    // defined.
     ensures refusals { RefusesAs meaning.dialect range.now result }
     ensures no_memory { result ≢ Err RangeError.OutOfMemory }
-    // The answer is what the text says of the version.
+    // The result is whether the version satisfies the range by definition.
     ensures meaning { IfOk result (λ met. (tree : TreeOf meaning.dialect)
         → SpellsAs meaning.dialect tree range.now
         → met ≡ meant_as meaning tree (version_of version.now)) }
@@ -103,11 +108,12 @@ pub fn satisfies(version: &Outline<'_>, range: &str, meaning: Meaning) -> Result
 }
 
 // Answer: equation.
-/// Returns whether a range text is read at all, with the errors of [`satisfies`]: `^1.2` is, and `1
-/// ||` isn't in Cargo's dialect. It does not allocate.
+/// Checks that a string is a range, with the errors of [`satisfies`]: `^1.2` is one, and `1 ||`
+/// isn't in Cargo's dialect. It does not allocate.
 #[inline(never)]
 pub fn check(meaning: Meaning, range: &str) -> Result<(), RangeError>
-    // What isn't a range of the dialect, and what is too large, is refused, exactly.
+    // `NotARange` and `NumberTooLarge` are returned for exactly the strings for which they are
+    // defined.
     ensures refusals { RefusesAs meaning.dialect range.now result }
     ensures no_memory { result ≢ Err RangeError.OutOfMemory }
 {

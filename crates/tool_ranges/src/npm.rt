@@ -1,4 +1,4 @@
-//! Range texts as npm reads them: `>1.2` is `>=1.3.0`, and `v1` is a range.
+//! npm's dialect: `>1.2` is `>=1.3.0`, and `v1` is a range.
 
 ghost use Rattle.std.specs.Prelude.{◌≡◌, [], IsTrue, IfOk};
 ghost use Rattle.std.specs.List.{list_all};
@@ -27,38 +27,41 @@ use semver_texts::white_space::is_white_space_beyond_ascii;
 use std::alloc::Global;
 
 // Answer: law answer_laws::ranges::one_npm_rewrite.
-/// Rewrites a range text, as npm reads it, into plain comparators with exact bounds.
+/// Rewrites a range in npm's dialect into plain comparators with exact bounds.
 ///
-/// The text is one or more ranges separated by `||`. The page `docs::grammar` has the grammar, and
-/// `docs::meaning` says which versions satisfy each range in npm. The answer has the ranges in the
-/// order of the text, in Npm mode. A range by which npm matches everything, as `*`, is `>=0.0.0`.
+/// The string is one or more ranges separated by `||`. The page `docs::grammar` has the grammar,
+/// and `docs::meaning` defines which versions satisfy each range in npm. The result has the ranges
+/// in the order of the string, in Npm mode. A range with which npm matches everything, such as `*`,
+/// becomes `>=0.0.0`.
 ///
 /// `>1.2` gives `>=1.3.0`, `<2` gives `<2.0.0-0`, `v1.2.3` gives `=1.2.3`, and `^1.2 || 3.x` gives
 /// `>=1.2.0 <2.0.0-0 || >=3.0.0 <4.0.0-0`.
 ///
-/// A release satisfies the answer exactly if the text means it. Which pre-releases npm takes
-/// comparators can't say: [`meaning::read`](crate::meaning::read) answers them as a set.
+/// A release satisfies the result if and only if it satisfies the range. Which pre-releases satisfy
+/// it can't be expressed by comparators: [`meaning::read`](crate::meaning::read) returns them as a
+/// set.
 ///
 /// # Errors
 ///
-/// - `NotARange` exactly where npm's grammar has no such text, as `>=1, <2` or `1.2.3-01`, or where
-///   something is too long for node-semver: the version of a comparator has at most 256 characters,
-///   and `docs::grammar` has the limits of numbers and identifiers.
-/// - `NumberTooLarge` exactly where it has, and a number that it states or a bound that is raised
-///   by one is above 2^53 - 1, as `>1.9007199254740991`.
-/// - `OutOfMemory` if an allocation fails. The first two do not allocate.
+/// - `NotARange` if the string is not in npm's grammar, such as `>=1, <2` or `1.2.3-01`, or if a
+///   part of it is too long for node-semver: the version of a comparator has at most 256
+///   characters, and `docs::grammar` has the limits of numbers and identifiers.
+/// - `NumberTooLarge` if the string is a range, but one of its numbers, or a bound that is raised
+///   by one, is above 2^53 - 1, such as `>1.9007199254740991`.
+/// - `OutOfMemory` if an allocation fails. The first two errors are returned without allocating.
 pub fn rewrite(alloc: Global, range: &str) -> Result<RangeSet, RangeError>
-    // What isn't in npm's grammar and what is too large is refused, exactly; all else is read. What
-    // is answered is what each tree of the text is rewritten to.
+    // `NotARange` and `NumberTooLarge` are returned for exactly the strings for which they are
+    // defined; all others are read. The result is what the syntax tree of the string is rewritten
+    // to.
     ensures refusals { RefusesAs dialect.Npm range.now result }
     ensures as_rewritten { IfOk result (λ set. (tree : SetTree) → SpellsNpmRange tree range.now
         → set_of set ≡ rewritten_npm tree) }
-    // A release satisfies the answer exactly if the text means it.
+    // A release satisfies the result if and only if it satisfies the range.
     ensures releases { IfOk result (λ set. (tree : SetTree) (v : PlainVersion)
         → SpellsNpmRange tree range.now → v.pre ≡ [] →
         meets_set v (set_of set) ≡ meets_npm Default tree v) }
-    // The result is printable, and its text is a range text that `RangeSet::parse` rewrites
-    // to that set again.
+    // The result is printable: printed, it is a range that `RangeSet::parse` rewrites to the same
+    // set.
     ensures printable { IfOk result (λ set. IsPrintableSet (set_of set)) }
     ensures reads_back { IfOk result (λ set. (tree : SetTree)
         × Spells tree (set_text (set_of set)) × IsTrue (fits Npm tree)
@@ -93,8 +96,8 @@ pub fn rewrite_included(alloc: Global, range: &str) -> Result<RangeSet, RangeErr
     printing::rewrite(alloc, range, Dialect::Npm, Compat::Npm, LowerBounds::Lowest)
 }
 
-/// Whether each character beyond ASCII is white space to JavaScript. For speed it is asked first
-/// whether there is one.
+/// Returns whether every non-ASCII character of a string is white space to JavaScript. Strings of
+/// only ASCII are recognized first, for speed.
 pub(crate) fn may_stand(range: &str) -> bool
     ensures { result ≡ list_all may_stand (chars range.now) }
 {

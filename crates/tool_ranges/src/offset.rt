@@ -1,6 +1,6 @@
-//! The offset of a range text's error: the end of the longest prefix that some range text begins
-//! with. It is found by asking the dialect itself what completes a prefix, so there is no second
-//! grammar.
+//! The offset of the error in an invalid range string: the end of the longest prefix with which
+//! some range begins. It is found by trying, with the dialect's own reader, whether a completion
+//! makes a prefix a range, so there is no second grammar.
 
 ghost use Rattle.std.specs.Prelude.{◌≡◌, ◌≢◌, ◌↔◌, IfErr, IfOk, IsTrue};
 ghost use Rattle.invalid_strings.specs.Prefixes.{IsLongestPrefix};
@@ -14,13 +14,16 @@ use semver_ranges::RangeError;
 use std::alloc::{AllocError, Global};
 use version_sets::PreReleases;
 
-/// What completes a prefix. Nothing is missing after a number; a wildcard after a dot, an operator
-/// and a blank; a letter after a hyphen or a plus, and after digits with a leading zero; another
-/// bar after a bar; a blank and a wildcard after the hyphen of a hyphen range; and a number if
-/// Cargo takes no wildcard.
+/// The strings that complete a prefix. Which one does depends on the end of the prefix:
+/// - After a number nothing is missing.
+/// - After a dot, an operator or a space: a wildcard.
+/// - After a hyphen or a plus, and after digits with a leading zero: a letter.
+/// - After a bar: another bar.
+/// - After the hyphen of a hyphen range: a space and a wildcard.
+/// - If Cargo allows no wildcard: a number.
 const COMPLETIONS: [&str; 6] = ["", "*", "a", "|", " *", "0"];
 
-/// The range texts of a dialect.
+/// The range strings of a dialect.
 #[derive(Clone, Copy)]
 struct RangeTexts {
     dialect: Dialect,
@@ -43,8 +46,8 @@ impl Language for RangeTexts {
         &COMPLETIONS
     }
 
-    /// Nothing is missing after a number, an identifier or two bars, nor after a space more; the
-    /// second bar is after one, and else a number is.
+    /// Nothing is missing after a number, an identifier or two bars, also if one more space
+    /// follows. After a single bar the second one is missing, and otherwise a number is.
     fn likely(&self, prefix: &str) -> usize {
         match prefix.as_bytes() {
             [.., b'|', b'|'] => 0,
@@ -55,25 +58,25 @@ impl Language for RangeTexts {
     }
 }
 
-/// Whether a range text may end in a byte.
+/// Returns whether a range string may end in a byte.
 fn may_end(byte: u8) -> bool {
     byte.is_ascii_alphanumeric() || matches!(byte, b'*' | b'|')
 }
 
 // Answer: law answer_laws::ranges::one_error_offset.
-/// Returns the offset of the first error of a refused range text, in bytes: no range text of the
-/// dialect begins with a longer prefix of the text. It is 4 in `1.2 || 3` as Cargo reads it, and
-/// the length of the text if something is missing at the end, as in `>=`, or if nothing is wrong
-/// but a number that is too large.
+/// Returns the byte offset of the first error in an invalid range string: no range in the dialect
+/// begins with a longer prefix of the string. It is 4 in `1.2 || 3` in Cargo's dialect. It is the
+/// length of the string if something is missing at the end, as in `>=`, or if the only error is a
+/// number that is too large.
 ///
-/// It takes time in n log n for n bytes, and allocates one buffer of n + 8 bytes if the text is no
-/// range text.
+/// It takes O(n log n) time for n bytes. If the string is not a range, it allocates one buffer of n
+/// + 8 bytes.
 ///
 /// # Errors
 ///
 /// `AllocError` if the allocation of the buffer fails.
 pub fn error_offset(alloc: Global, dialect: Dialect, text: &str) -> Result<usize, AllocError>
-    // Some range text begins with what is before the offset, and none with a longer prefix.
+    // Some range begins with what is before the offset, and none begins with a longer prefix.
     ensures offset { IfOk result (λ offset. IsLongestPrefix (BeginsAs dialect) text.now offset) }
     ensures out_of_memory { IfErr result (λ _. ¬ (IsTextAs dialect text.now)) }
 {
@@ -83,7 +86,7 @@ pub fn error_offset(alloc: Global, dialect: Dialect, text: &str) -> Result<usize
     prefix_end(alloc, dialect, text)
 }
 
-/// The end of the longest prefix of a text that some range text begins with.
+/// Returns the end of the longest prefix of a string with which some range begins.
 pub(crate) fn prefix_end(alloc: Global, dialect: Dialect, text: &str) -> Result<usize, AllocError>
     ensures { IfOk result (λ offset. IsLongestPrefix (BeginsAs dialect) text.now offset) }
 {
@@ -91,8 +94,8 @@ pub(crate) fn prefix_end(alloc: Global, dialect: Dialect, text: &str) -> Result<
 }
 
 // Answer: equation.
-/// Returns whether a text is a range text of a dialect: also one with a number that is too large.
-/// `1.2 || 3` is one as npm reads it, and none as Cargo does. It does not allocate.
+/// Returns whether a string is a range in a dialect, even if one of its numbers is too large.
+/// `1.2 || 3` is one in npm's dialect, but not in Cargo's. It does not allocate.
 pub fn is_range(dialect: Dialect, text: &str) -> bool
     ensures { IsTrue result ↔ IsTextAs dialect text.now }
 {
@@ -104,7 +107,7 @@ pub fn is_range(dialect: Dialect, text: &str) -> bool
     }
 }
 
-/// What a dialect refuses of a text.
+/// Returns the error with which a dialect rejects a string, if it does.
 pub(crate) fn check(dialect: Dialect, text: &str) -> Result<(), RangeError>
     ensures refusals { RefusesAs dialect text.now result }
     ensures no_memory { result ≢ Err RangeError.OutOfMemory }

@@ -1,4 +1,4 @@
-//! Where a number of a range text is too large.
+//! Finds the number of a range string that is too large.
 
 ghost use Rattle.std.specs.Prelude.{◌≡◌, ◌≤◌, ◌+◌, ◌∷◌, [], length, MatchOption};
 ghost use Rattle.std.specs.List.{prefix_len, slice_split};
@@ -16,8 +16,9 @@ use semver_texts::bytes::run_len;
 use semver_texts::decimals::number_of_digits;
 use semver_texts::dotted::split_at_dot;
 
-/// Returns where the number is, in the first term that does not fit, that is above the limit of the
-/// dialect or can't be raised: 1 in `=18446744073709551616 || 1`. It does not allocate.
+/// Returns the offset of the number that is too large: the first number, in the first term that
+/// doesn't fit, that is above the limit of the dialect or can't be raised. It is 1 in
+/// `=18446744073709551616 || 1`. It does not allocate.
 pub(crate) fn limit_offset(dialect: Dialect, text: &str) -> usize
     ensures value { (tree : TreeOf dialect) → SpellsAs dialect tree text.now
         → result ≡ limit_offset dialect tree text.now }
@@ -38,7 +39,8 @@ pub(crate) fn limit_reason(dialect: Dialect, text: &[u8]) -> Reason
     }
 }
 
-/// Returns where the word begins that states a number after so many others, or the last word.
+/// Returns the offset of the word with a number that comes after `others` other such words. If
+/// there are fewer words, it is the offset of the last word.
 fn begin_of_word(text: &[u8], others: u128) -> usize
     ensures value { result ≡ begin_of_word others (words text.now) }
     ensures within { result ≤ length text.now }
@@ -62,8 +64,8 @@ fn begin_of_word(text: &[u8], others: u128) -> usize
     }
 }
 
-/// Returns where the first number is, of a version at the beginning of a text, that isn't below a
-/// limit.
+/// Returns the offset of the first number that isn't below a limit, in the version at the beginning
+/// of a string.
 fn number_at(text: &[u8], limit: u64) -> usize
     ensures value { result ≡ number_at limit text.now }
     ensures within { result ≤ length text.now }
@@ -74,7 +76,7 @@ fn number_at(text: &[u8], limit: u64) -> usize
     }
 }
 
-/// Returns where the first component begins that isn't below a limit, or the last one.
+/// Returns the offset of the first component that isn't below a limit, or of the last one.
 fn component_at(components: &[u8], limit: u64) -> usize
     ensures value { result ≡ component_at limit (slice_split is_dot components.now) }
     ensures within { result ≤ length components.now }
@@ -104,7 +106,7 @@ fn is_below(component: &[u8], limit: u64) -> bool
     }
 }
 
-/// The word at the begin of a text, and what follows the byte after it.
+/// Returns the word at the beginning of a string, and what follows the byte after it.
 fn split_word(text: &[u8]) -> (&[u8], Option<&[u8]>)
     ensures { MatchOption result.1
         ((slice_split is_separator text.now ≡ result.0.now ∷ []) × (text.now ≡ result.0.now))
@@ -120,14 +122,14 @@ fn split_word(text: &[u8]) -> (&[u8], Option<&[u8]>)
     (text, None)
 }
 
-/// Whether a byte separates words.
+/// Returns whether a byte separates words.
 pub(crate) fn is_separator(byte: u8) -> bool
     ensures { result ≡ is_separator byte }
 {
     !(byte.is_ascii_alphanumeric() || matches!(byte, b'-' | b'.' | b'+' | b'*'))
 }
 
-/// Whether a word states a number.
+/// Returns whether a word begins with a number, or with `v` and a number.
 fn states_number(word: &[u8]) -> bool
     ensures { result ≡ states_number word.now }
 {

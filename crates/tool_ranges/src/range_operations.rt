@@ -1,4 +1,4 @@
-//! What two ranges of one meaning contain together, and how they compare.
+//! Set operations on ranges with the same meaning, and comparisons.
 
 ghost use Rattle.std.specs.Prelude.{◌≡◌, ◌≢◌, ◌⊎◌, ◌↔◌, ◌&&◌, ◌||◌, Err, IfOk, false, not, true};
 ghost use Rattle.semver_texts.specs.Versions.{PlainVersion};
@@ -10,7 +10,7 @@ use std::alloc::Global;
 use thiserror::Error;
 use version_sets::SetError;
 
-/// Why two ranges can't be combined or compared.
+/// The error of an operation on two ranges.
 ///
 /// ```
 /// use semver_parser::{Dialect, OperationError, VersionRange};
@@ -23,11 +23,11 @@ use version_sets::SetError;
 #[derive(Clone, Copy, PartialEq, Eq, Debug, Error)]
 #[non_exhaustive]
 pub enum OperationError {
-    /// The dialects of the ranges differ, or which pre-releases count.
+    /// The ranges differ in their dialects, or in which pre-releases count.
     #[error("the ranges have different meanings")]
     DifferentMeanings,
-    /// They read identifiers of digits alone from 2^64 on differently: to Cargo and npm these are
-    /// numbers, and to the crate they are texts.
+    /// The dialects read numeric identifiers above 2^64 - 1 differently: to Cargo and npm they are
+    /// numbers, and to the crate `semver-parser` they are alphanumerics.
     #[error("the ranges read numbers from 2^64 on differently")]
     DifferentDigits,
     /// An allocation failed.
@@ -37,12 +37,12 @@ pub enum OperationError {
 
 impl VersionRange {
     // Answer: law answer_laws::version_ranges::one_union.
-    /// Returns the range of the versions of one or the other.
+    /// Returns the range of the versions that are in either range.
     ///
     /// # Errors
     ///
-    /// `DifferentMeanings` if the dialects differ, or which pre-releases count; `OutOfMemory` if an
-    /// allocation failed.
+    /// `DifferentMeanings` if the ranges differ in their dialects, or in which pre-releases count;
+    /// `OutOfMemory` if an allocation failed.
     ///
     /// ```
     /// use semver_parser::{Dialect, VersionRange};
@@ -60,10 +60,10 @@ impl VersionRange {
             → contains r.versions v ≡ (contains self.now.versions v
             || contains other.now.versions v)) }
         ensures meaning { IfOk result (λ r. r.meaning ≡ self.now.meaning) }
-        // Identifiers that can be read back from their texts are kept so.
+        // If the identifiers of both can be parsed back from their strings, so can the result's.
         ensures printable { IsPrintable self.now.versions → IsPrintable other.now.versions
             → IfOk result (λ r. IsPrintable r.versions) }
-        // Memory runs out only if the result contains a version.
+        // It can run out of memory only if the result would contain a version.
         ensures out_of_memory { result ≡ Err OperationError.OutOfMemory → (v : PlainVersion)
             × (IsIn v self.now.versions ⊎ IsIn v other.now.versions) }
     {
@@ -81,12 +81,12 @@ impl VersionRange {
     }
 
     // Answer: law answer_laws::version_ranges::one_intersection.
-    /// Returns the range of the versions of both.
+    /// Returns the range of the versions that are in both ranges.
     ///
     /// # Errors
     ///
-    /// `DifferentMeanings` if the dialects differ, or which pre-releases count; `OutOfMemory` if an
-    /// allocation failed.
+    /// `DifferentMeanings` if the ranges differ in their dialects, or in which pre-releases count;
+    /// `OutOfMemory` if an allocation failed.
     ///
     /// ```
     /// use semver_parser::{Dialect, VersionRange};
@@ -108,10 +108,10 @@ impl VersionRange {
             → contains r.versions v ≡ (contains self.now.versions v
             && contains other.now.versions v)) }
         ensures meaning { IfOk result (λ r. r.meaning ≡ self.now.meaning) }
-        // Identifiers that can be read back from their texts are kept so.
+        // If the identifiers of both can be parsed back from their strings, so can the result's.
         ensures printable { IsPrintable self.now.versions → IsPrintable other.now.versions
             → IfOk result (λ r. IsPrintable r.versions) }
-        // Memory runs out only if the result contains a version.
+        // It can run out of memory only if the result would contain a version.
         ensures out_of_memory { result ≡ Err OperationError.OutOfMemory → (v : PlainVersion)
             × IsIn v self.now.versions × IsIn v other.now.versions }
     {
@@ -129,12 +129,12 @@ impl VersionRange {
     }
 
     // Answer: law answer_laws::version_ranges::one_difference.
-    /// Returns the range of the versions that the other doesn't contain.
+    /// Returns the range of the versions that are in this range, but not in the other.
     ///
     /// # Errors
     ///
-    /// `DifferentMeanings` if the dialects differ, or which pre-releases count; `OutOfMemory` if an
-    /// allocation failed.
+    /// `DifferentMeanings` if the ranges differ in their dialects, or in which pre-releases count;
+    /// `OutOfMemory` if an allocation failed.
     ///
     /// ```
     /// use semver_parser::{Dialect, VersionRange};
@@ -156,10 +156,10 @@ impl VersionRange {
             → contains r.versions v ≡ (contains self.now.versions v
             && not (contains other.now.versions v))) }
         ensures meaning { IfOk result (λ r. r.meaning ≡ self.now.meaning) }
-        // Identifiers that can be read back from their texts are kept so.
+        // If the identifiers of both can be parsed back from their strings, so can the result's.
         ensures printable { IsPrintable self.now.versions → IsPrintable other.now.versions
             → IfOk result (λ r. IsPrintable r.versions) }
-        // Memory runs out only if the result contains a version.
+        // It can run out of memory only if the result would contain a version.
         ensures out_of_memory { result ≡ Err OperationError.OutOfMemory → (v : PlainVersion)
             × IsIn v self.now.versions × (¬ IsIn v other.now.versions) }
     {
@@ -177,14 +177,14 @@ impl VersionRange {
     }
 
     // Answer: equation.
-    /// Returns whether the other range contains each version that this one does. Their meanings may
-    /// differ. It does not allocate.
+    /// Returns whether the other range contains every version that this one does. Their meanings
+    /// may differ. It does not allocate.
     ///
     /// # Errors
     ///
-    /// `DifferentDigits` if one range is in a dialect of the crate and the other in Cargo's or
-    /// npm's, and no other: a version with an identifier of digits alone from 2^64 on isn't the
-    /// same to both.
+    /// Only `DifferentDigits`, if one range is in a dialect of the crate `semver-parser` and the
+    /// other in Cargo's or npm's: a version with a numeric identifier above 2^64 - 1 isn't the same
+    /// to both.
     ///
     /// ```
     /// use semver_parser::{Dialect, OperationError, VersionRange};
@@ -205,7 +205,7 @@ impl VersionRange {
         ensures no_memory { result ≢ Err OperationError.OutOfMemory }
         ensures subset { IfOk result (λ is. (is ≡ true) ↔ ((v : PlainVersion)
             → IsIn v self.now.versions → IsIn v other.now.versions)) }
-        // If it isn't one, this range contains a version that the other doesn't.
+        // If it isn't a subset, this range contains a version that the other doesn't.
         ensures witness { IfOk result (λ is. is ≡ false → (v : PlainVersion)
             × IsIn v self.now.versions × (¬ IsIn v other.now.versions)) }
     {
@@ -221,7 +221,7 @@ impl VersionRange {
     ///
     /// # Errors
     ///
-    /// Those of [`VersionRange::is_subset`].
+    /// The errors of [`VersionRange::is_subset`].
     ///
     /// ```
     /// use semver_parser::{Dialect, VersionRange};
@@ -237,7 +237,7 @@ impl VersionRange {
         ensures no_memory { result ≢ Err OperationError.OutOfMemory }
         ensures disjoint { IfOk result (λ is. (is ≡ true) ↔ ((v : PlainVersion)
             → IsIn v self.now.versions → ¬ IsIn v other.now.versions)) }
-        // If they aren't disjoint, both contain a version.
+        // If they aren't disjoint, some version is in both.
         ensures witness { IfOk result (λ is. is ≡ false → (v : PlainVersion)
             × IsIn v self.now.versions × IsIn v other.now.versions) }
     {
@@ -258,7 +258,7 @@ impl PartialEq for VersionRange {
 
     ghost laws = { partial_equiv_from_equiv ranges_equiv };
 
-    /// Whether both ranges have the same meaning and contain the same versions. It does not
+    /// Returns whether both ranges have the same meaning and contain the same versions. It does not
     /// allocate.
     ///
     /// ```

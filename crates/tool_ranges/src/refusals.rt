@@ -1,4 +1,4 @@
-//! Where a text stops being a range, and why.
+//! Where and why a string is not a valid range.
 
 ghost use Rattle.std.specs.Prelude.{◌≡◌, ◌≢◌, IfErr, IfOk, drop, take};
 ghost use Rattle.semver_ranges.specs.declared.range_set.RangeError.TheVariants.{NotARange};
@@ -19,7 +19,7 @@ use invalid_strings::reasons::Reason;
 use semver_ranges::RangeError;
 use std::alloc::{AllocError, Global};
 
-/// Where and why a text gives no range.
+/// The error of an invalid range string: its offset and its reason.
 ///
 /// ```
 /// use semver_parser::layers::{explain_range, RangeRefusal};
@@ -34,27 +34,29 @@ use std::alloc::{AllocError, Global};
 pub struct Refusal {
     /// `NotARange` or `NumberTooLarge`.
     pub error: RangeError,
-    /// The byte offset of the first character that no range of the dialect has there, or the
-    /// length of the text if something is missing at its end. If a number is too large, it is that
-    /// of the first number, in the first term that doesn't fit, that is above the limit of the
-    /// dialect or can't be raised: 1 in `=18446744073709551616 || 1`.
+    /// The byte offset of the error:
+    /// - The first character that isn't allowed there in a range of the dialect.
+    /// - The length of the string, if something is missing at its end.
+    /// - If a number is too large, the first number, in the first term that doesn't fit, that is
+    ///   above the limit of the dialect or can't be raised: 1 in `=18446744073709551616 || 1`.
     pub offset: usize,
-    /// Why, which may say what another dialect takes there.
+    /// The reason. It may name another dialect that allows what is there.
     pub reason: Reason,
 }
 
 // Answer: law answer_laws::ranges::one_refusal.
-/// Returns where and why a text gives no range by a dialect, or `None` if it gives one.
+/// Returns the error of a range string in a dialect, with its offset and reason, or `None` if the
+/// string is valid.
 ///
-/// `1.2 || 3` by Cargo's is `NotARange` at 4, since Cargo takes no `||`.
+/// `1.2 || 3` in Cargo's dialect gives `NotARange` at 4, since Cargo doesn't allow `||`.
 ///
 /// # Errors
 ///
-/// `AllocError` if an allocation fails. It allocates only if the text is no range text, and then
+/// `AllocError` if an allocation fails. It allocates only if the string is not a range, and then
 /// two buffers of about its length, one after the other.
 pub fn refused(alloc: Global, dialect: Dialect, text: &str) -> Result<Option<Refusal>, AllocError>
     ensures refused { IfOk result (IsRefusalAs dialect text.now) }
-    // Memory runs out only in place of `NotARange`.
+    // An allocation can fail only if the string is not a range.
     ensures out_of_memory { IfErr result (λ _. ¬ (IsTextAs dialect text.now)) }
 {
     let Err(error) = check(dialect, text) else {
@@ -68,7 +70,7 @@ pub fn refused(alloc: Global, dialect: Dialect, text: &str) -> Result<Option<Ref
     }))
 }
 
-/// The offset of an error of a text, and the reason.
+/// Returns the offset of an error in a string, and the reason.
 fn explained(
     alloc: Global,
     dialect: Dialect,

@@ -1,4 +1,4 @@
-//! Whether a version satisfies a range, of two texts.
+//! Decides whether a version satisfies a range, both given as strings.
 
 ghost use Rattle.tool_ranges.specs.Satisfying.{Satisfies};
 
@@ -7,7 +7,7 @@ use semver_ranges::RangeError;
 use semver_versions::version::outline_in;
 use thiserror::Error;
 
-/// Which of a version and a range is invalid.
+/// Whether the version or the range is invalid.
 ///
 /// ```
 /// use semver_parser::{satisfies_bytes, Dialect};
@@ -17,22 +17,22 @@ use thiserror::Error;
 /// ```
 #[derive(Clone, Copy, PartialEq, Eq, Debug, Error)]
 pub enum SatisfiesError {
-    /// The version isn't one in the dialect.
+    /// The version is invalid in the dialect.
     #[error("invalid version")]
     InvalidVersion,
-    /// The range isn't one in the dialect, or one of its numbers is too large.
+    /// The string is not a range in the dialect, or one of its numbers is too large.
     #[error("invalid range: {0}")]
     InvalidRange(RangeError),
 }
 
 // Answer: law tool_ranges::laws::one_satisfies.
-/// Returns whether a version satisfies a range: each is read by the dialect of the meaning. It does
-/// not allocate.
+/// Returns whether a version satisfies a range, both in the dialect of the meaning. It does not
+/// allocate.
 ///
 /// # Errors
 ///
-/// `InvalidVersion` if the version isn't one in the dialect, or else `InvalidRange` if the range
-/// isn't, or one of its numbers is too large.
+/// `InvalidVersion` if the version is invalid in the dialect; otherwise `InvalidRange` if the range
+/// is invalid, or one of its numbers is too large.
 #[inline(always)]
 pub fn satisfies(version: &[u8], range: &str, meaning: Meaning) -> Result<bool, SatisfiesError>
     ensures answer { Satisfies meaning version.now range.now result }

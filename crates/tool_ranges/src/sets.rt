@@ -1,4 +1,4 @@
-//! A range text as the set of the versions that it means.
+//! A range string as the set of the versions that satisfy it.
 
 ghost use Rattle.std.specs.Prelude.{◌≡◌, ◌≢◌, true, Err, IfOk, Bool, if◌then◌else◌, not};
 ghost use Rattle.semver_texts.specs.Digits.{digits_in};
@@ -31,8 +31,8 @@ use semver_ranges::partial::Partial;
 use std::alloc::{AllocError, Global};
 use version_sets::{Conjunction, PreReleases, Ranges, Release, VersionSet};
 
-/// Reads a range into the set of the versions that it means. The text is checked first, so that an
-/// invalid one doesn't allocate.
+/// Reads a range into the set of the versions that satisfy it. The string is checked first, so
+/// nothing is allocated for an invalid one.
 pub(crate) fn read(
     alloc: Global,
     range: &str,
@@ -57,7 +57,7 @@ pub(crate) fn read(
     }
 }
 
-/// Returns the set of a text that has one. `Err` is out of memory.
+/// Returns the set of a string that has one. `Err` means out of memory.
 fn set_of(
     alloc: Global,
     range: &str,
@@ -84,16 +84,16 @@ fn set_of(
     building.into_set(alloc, dialect, rule)
 }
 
-/// What is known after some terms of a range text.
+/// What is known after some terms of a range string.
 #[derive(Drop)]
 pub(crate) struct Building<'text> {
     /// The versions of earlier ranges.
     ranges: Ranges<'text>,
-    /// The versions that satisfy the terms of this range so far.
+    /// The versions that satisfy the terms of the current range so far.
     here: Conjunction<'text>,
-    /// The numbers that the terms of this range state together with a pre-release.
+    /// The numbers of the terms of the current range that name a pre-release.
     stated: Vec<Release>,
-    /// Whether this range matches everything so far.
+    /// Whether the current range matches everything so far.
     nothing: bool,
     /// Whether an earlier range matches everything.
     every: bool,
@@ -115,7 +115,7 @@ impl<'text> Building<'text> {
         }
     }
 
-    /// Adds a term. `Err` is out of memory.
+    /// Adds a term. `Err` means out of memory.
     fn push_term(
         &mut self,
         simple: &Simple<'text>,
@@ -141,7 +141,7 @@ impl<'text> Building<'text> {
         Ok(())
     }
 
-    /// Ends a range. `Err` is out of memory.
+    /// Ends a range. `Err` means out of memory.
     fn end_range(&mut self, all: bool) -> Result<(), AllocError>
         ensures known { IfOk result (λ _. (v : PlainVersion) → Fits v
             → known all v self.new ≡ ended (counts all v) (known all v self.old)) }
@@ -159,7 +159,7 @@ impl<'text> Building<'text> {
 }
 
 impl Building<'_> {
-    /// Returns the set at the end of the text. `Err` is out of memory.
+    /// Returns the set at the end of the string. `Err` means out of memory.
     fn into_set(
         self,
         alloc: Global,
@@ -187,7 +187,7 @@ impl Building<'_> {
     }
 }
 
-/// Adds the pre-releases of a range that count. `Err` is out of memory.
+/// Adds the pre-releases of a range that count. `Err` means out of memory.
 fn push_pre_releases<'text>(
     ranges: &mut Ranges<'text>,
     here: &Conjunction<'text>,
@@ -209,7 +209,7 @@ fn push_pre_releases<'text>(
     Ok(())
 }
 
-/// Returns the numbers of a partial that states three of them and a pre-release.
+/// Returns the numbers of a partial version, if it names all three and a pre-release.
 fn stated_numbers(partial: &Partial<'_>) -> Option<Release>
     ensures { (v : PlainVersion) → states_at partial.now v ≡ is_one_of result v }
 {
@@ -220,8 +220,8 @@ fn stated_numbers(partial: &Partial<'_>) -> Option<Release>
     }
 }
 
-/// Returns whether each release satisfies the text, and no pre-release, if some range matches
-/// everything.
+/// Returns whether, if some range matches everything, every release satisfies the string and no
+/// pre-release does.
 fn is_by_default_of_npm(dialect: Dialect, rule: PreReleases) -> bool
     ensures { result ≡ takes_releases dialect rule }
 {

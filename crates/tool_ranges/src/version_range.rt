@@ -1,4 +1,4 @@
-//! A range that was read: a set of versions, and the meaning by which it was read.
+//! A range that was read: a set of versions, and the meaning with which it was read.
 
 ghost use Rattle.std.specs.Prelude.{◌≡◌, ◌≢◌, ◌↔◌, Err, IfOk, true};
 ghost use Rattle.semver_texts.specs.Digits.{digits_in};
@@ -23,7 +23,8 @@ use std::marker::Model;
 use version_sets::VersionSet;
 
 /// A range that was read once: the versions that it contains, its dialect, and which pre-releases
-/// count. It is checked for any number of versions, and combined with others of the same meaning.
+/// count. Any number of versions can be checked against it, and it can be combined with other
+/// ranges of the same meaning.
 ///
 /// ```
 /// use semver_parser::{Dialect, VersionRange};
@@ -61,9 +62,11 @@ impl VersionRange {
     ///
     /// # Errors
     ///
-    /// `NotARange` if the dialect has no such range, `NumberTooLarge` if a number that it states or
-    /// a bound that is raised by one is above 2^64 - 1, or in npm's dialect above 2^53 - 1. These
-    /// two do not allocate. `OutOfMemory` if an allocation failed.
+    /// - `NotARange` if the string is not a range in the dialect.
+    /// - `NumberTooLarge` if it is a range, but one of its numbers, or a bound that is raised by
+    ///   one, is above 2^64 - 1, or above 2^53 - 1 in npm's dialect.
+    /// - `OutOfMemory` if an allocation failed. The first two errors are returned without
+    ///   allocating.
     ///
     /// ```
     /// use semver_parser::{Dialect, Meaning, PreReleases, VersionRange};
@@ -74,11 +77,12 @@ impl VersionRange {
     /// # Ok::<(), semver_parser::RangeError>(())
     /// ```
     pub fn parse(alloc: Global, range: &str, meaning: Meaning) -> Result<VersionRange, RangeError>
-        // What isn't a range of the dialect, and what is too large, is refused, exactly.
+        // `NotARange` and `NumberTooLarge` are returned for exactly the strings for which they are
+        // defined.
         ensures refusals { RefusesAs meaning.dialect range.now result }
-        // It contains a version exactly if the text means it.
+        // It contains a version if and only if the version satisfies the string.
         ensures contains { IfOk result (λ r. MeansAs meaning range.now r.versions) }
-        // Its identifiers can be read back from their texts.
+        // Its identifiers can be parsed back from their strings.
         ensures printable { IfOk result (λ r. IsPrintable r.versions) }
         ensures meaning { IfOk result (λ r. r.meaning ≡ meaning) }
     {
@@ -87,12 +91,11 @@ impl VersionRange {
     }
 
     // Answer: equation.
-    /// Returns the range of the versions of a set.
+    /// Returns the range that contains the versions of a set.
     ///
     /// # Errors
     ///
-    /// `DifferentDigits` if the set reads identifiers of digits alone otherwise than the dialect,
-    /// and no other.
+    /// Only `DifferentDigits`, if the set reads numeric identifiers differently than the dialect.
     ///
     /// ```
     /// use semver_parser::sets::VersionSet;
@@ -125,7 +128,7 @@ impl VersionRange {
     }
 
     // Answer: equation.
-    /// Returns the dialect of the range, and which pre-releases count.
+    /// Returns the meaning of the range: its dialect, and which pre-releases count.
     ///
     /// ```
     /// use semver_parser::{Dialect, PreReleases, VersionRange};
@@ -143,7 +146,7 @@ impl VersionRange {
     }
 
     // Answer: equation.
-    /// Returns the versions that the range contains.
+    /// Returns the set of the versions that the range contains.
     ///
     /// ```
     /// use semver_parser::{Dialect, VersionRange};
@@ -161,12 +164,12 @@ impl VersionRange {
     }
 
     // Answer: law answer_laws::version_ranges::one_contains.
-    /// Returns whether the range contains a version, which is read in its dialect. Build metadata
-    /// is ignored. It does not allocate.
+    /// Returns whether the range contains a version, which is read in the range's dialect. Build
+    /// metadata is ignored. It does not allocate.
     ///
     /// # Errors
     ///
-    /// `InvalidVersion` if the version isn't one in the dialect.
+    /// `InvalidVersion` if the version is invalid in the dialect.
     ///
     /// ```
     /// use semver_parser::{Dialect, SatisfiesError, VersionRange};
@@ -187,8 +190,8 @@ impl VersionRange {
     }
 
     // Answer: equation.
-    /// Returns whether the range contains the version of an outline. Its identifiers of digits
-    /// alone are read by the range's dialect. It does not allocate.
+    /// Returns whether the range contains a borrowed version. Its numeric identifiers are read as
+    /// in the range's dialect. It does not allocate.
     ///
     /// ```
     /// use semver_parser::{version, Dialect, VersionRange};
@@ -203,7 +206,7 @@ impl VersionRange {
     pub fn contains_outline(&self, version: &Outline<'_>) -> bool
         ensures contains { result
             ≡ contains_kept self.now.versions (kept_version_of version.now).plain }
-        // If it was read in the range's dialect, this is so of its version.
+        // If the version was read in the range's dialect, that is the version as it was read.
         ensures of_text { (text : Text) → IsOutlineIn (versions_grammar self.now) text version.now
             → result ≡ contains self.now.versions (version_of version.now).plain }
     {
@@ -211,9 +214,9 @@ impl VersionRange {
     }
 
     // Answer: equation.
-    /// Returns whether the range contains a version. Build metadata is ignored. An identifier of
-    /// digits alone from 2^64 on, which a `Version` keeps as a text, is a number to Cargo and npm.
-    /// It does not allocate.
+    /// Returns whether the range contains a version. Build metadata is ignored. A `Version` keeps a
+    /// numeric identifier above 2^64 - 1 as a string; in Cargo's and npm's dialects it is compared
+    /// as a number. It does not allocate.
     ///
     /// ```
     /// use semver_parser::{version, Dialect, VersionRange};
@@ -255,10 +258,10 @@ impl fmt::Display for VersionRange {
 
     ghost output = { λ range. Some (kinds_text range.versions) };
 
-    /// Writes the releases that the range contains as a range in npm's syntax, `<0.0.0-0` if it has
-    /// none, and if it has pre-releases, these after `, pre-releases `, to be compared by
-    /// precedence. Of pre-releases alone the first comma is missing. It does not allocate, and its
-    /// only error is the writer's.
+    /// Writes the range in npm's syntax. First come the releases that it contains, or `<0.0.0-0` if
+    /// it contains no version. If it contains pre-releases, they follow after `, pre-releases `, as
+    /// a range that is to be compared by precedence. If it contains only pre-releases, the first
+    /// comma is missing. It does not allocate, and its only error is the writer's.
     ///
     /// ```
     /// use semver_parser::{Dialect, VersionRange};

@@ -1,4 +1,4 @@
-//! Which of many versions are in a set.
+//! Checks many versions against a set at once.
 
 ghost use Rattle.std.specs.Prelude.{◌≡◌, length, map};
 ghost use Rattle.std.specs.List.{AllByRecursion};
@@ -10,7 +10,7 @@ use crate::release::Release;
 use crate::version_set::VersionSet;
 use semver_versions::version::Version;
 
-/// Whether each version is in the set.
+/// Sets each answer to whether its version is in the set.
 pub(crate) fn contains(set: &VersionSet, versions: &[Version], answers: &mut [bool])
     requires { length answers.old ≡ length versions.now }
     ensures each { answers.new
@@ -22,8 +22,8 @@ pub(crate) fn contains(set: &VersionSet, versions: &[Version], answers: &mut [bo
     }
 }
 
-/// Whether each version is a release that isn't below one, and that is below another, where there
-/// is another. No answer depends on a branch.
+/// Sets each answer to whether its version is a release that isn't below `from`, and that is below
+/// `to`, if there is such a bound. No answer depends on a branch.
 pub(crate) fn is_release_between(
     from: Release,
     to: Option<Release>,

@@ -1,4 +1,4 @@
-//! Lists of boundaries: whether one has a place, and whether two are the same.
+//! Lists of boundaries: whether a version is inside, and whether two lists are equal.
 
 ghost use Rattle.std.specs.Prelude.{◌≡◌, ◌%◌, map, nat_eq};
 ghost use Rattle.std.specs.Ordering.{eq_by_cmp};
@@ -17,8 +17,8 @@ use semver_texts::grammar::Digits;
 use semver_versions::read_version::ReadVersion;
 use semver_versions::version::{Outline, Version};
 
-/// Whether an odd number of the boundaries are at or below a place. It takes time in the logarithm
-/// of their number, and does not allocate.
+/// Returns whether an odd number of the boundaries are at or below a boundary's version. It takes
+/// time logarithmic in their number, and does not allocate.
 pub(crate) fn contains<T: Boundary>(boundaries: &[T], place: &T) -> bool
     requires { IsIncreasing precedence (map T.place boundaries.now) }
     ensures { result ≡ is_inside precedence (map T.place boundaries.now) (T.place place.now) }
@@ -26,8 +26,9 @@ pub(crate) fn contains<T: Boundary>(boundaries: &[T], place: &T) -> bool
     is_odd(boundaries.partition_point(|boundary| boundary.compare(place).is_le()))
 }
 
-/// Whether an odd number of the boundaries are at or below a version, whose identifiers of digits
-/// alone are read so. It takes time in the logarithm of their number, and does not allocate.
+/// Returns whether an odd number of the boundaries are at or below a version, whose numeric
+/// identifiers are read as `digits` says. It takes time logarithmic in their number, and does not
+/// allocate.
 pub(crate) fn contains_version(
     boundaries: &[ReadVersion],
     version: &Version,
@@ -40,12 +41,12 @@ pub(crate) fn contains_version(
     is_odd(boundaries.partition_point(|boundary| boundary.compare_version(version, digits).is_le()))
 }
 
-/// So many boundaries of releases are compared one by one, which is quicker than a search among
-/// them.
+/// Up to this number, boundaries of releases are compared one by one, which is faster than a binary
+/// search.
 const FEW: usize = 8;
 
-/// Whether an odd number of the boundaries are at or below a release. It takes time in the
-/// logarithm of their number, and does not allocate.
+/// Returns whether an odd number of the boundaries are at or below a release. It takes time
+/// logarithmic in their number, and does not allocate.
 #[inline(always)]
 pub(crate) fn contains_release(boundaries: &[Release], release: &Release) -> bool
     requires { IsIncreasing precedence (map release_value boundaries.now) }
@@ -62,8 +63,8 @@ pub(crate) fn contains_release(boundaries: &[Release], release: &Release) -> boo
     is_in
 }
 
-/// Whether an odd number of the boundaries are at or below the version of an outline, whose
-/// identifiers of digits alone are read so. It takes time in the logarithm of their number, and
+/// Returns whether an odd number of the boundaries are at or below a borrowed version, whose
+/// numeric identifiers are read as `digits` says. It takes time logarithmic in their number, and
 /// does not allocate.
 #[inline(always)]
 pub(crate) fn contains_outline(
@@ -88,14 +89,14 @@ pub(crate) fn contains_outline(
     is_odd(low)
 }
 
-/// Whether a number is odd.
+/// Returns whether a number is odd.
 fn is_odd(number: usize) -> bool
     ensures { result ≡ nat_eq (number % 2) 1 }
 {
     number % 2 == 1
 }
 
-/// Whether two lists of boundaries have the same places. It does not allocate.
+/// Returns whether two lists have the same boundaries. It does not allocate.
 pub(crate) fn are_same<T: Boundary>(boundaries: &[T], others: &[T]) -> bool
     ensures { result ≡ pointwise (eq_by_cmp precedence) (map T.place boundaries.now)
         (map T.place others.now) }

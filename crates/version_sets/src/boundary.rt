@@ -1,4 +1,4 @@
-//! What both kinds of boundaries have: a place in the order of precedence.
+//! The trait of both kinds of boundaries: they have a position in the order of precedence.
 
 ghost use Rattle.std.specs.Prelude.{◌≡◌, IfOk};
 ghost use Rattle.semver_texts.specs.Versions.{PlainVersion};
@@ -8,15 +8,16 @@ use crate::release::Release;
 use std::alloc::{AllocError, Global};
 use std::cmp::Ordering;
 
-/// A boundary of a set: from its place on, versions of its kind are in the set, or are no longer.
+/// A boundary of a set: from its position on, versions of its kind are in the set, or no longer
+/// are.
 pub(crate) trait Boundary: Drop {
     ghost place: { Self → PlainVersion };
 
-    /// How two boundaries compare by precedence.
+    /// Compares two boundaries by precedence.
     fn compare(&self, other: &Self) -> Ordering
         ensures { result ≡ precedence (place self.now) (place other.now) };
 
-    /// A boundary at the same place. `Err` is out of memory.
+    /// Returns a boundary at the same position. `Err` means out of memory.
     fn at_same_place(&self, alloc: Global) -> Result<Self, AllocError>
         ensures { IfOk result (λ boundary. place boundary ≡ place self.now) };
 }
@@ -30,7 +31,7 @@ impl Boundary for Release {
         self.cmp(other)
     }
 
-    /// It does not allocate.
+    /// Copies the numbers. It does not allocate.
     fn at_same_place(&self, _alloc: Global) -> Result<Release, AllocError> {
         Ok(*self)
     }

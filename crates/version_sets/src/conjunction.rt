@@ -11,14 +11,14 @@ use crate::pre_release_place::PreReleaseEnd;
 use crate::release::Release;
 use crate::spans::{Bounds, Span};
 
-/// The versions that are in each of some intervals.
+/// The versions that are in each of several intervals.
 #[derive(Clone, Copy)]
 pub struct Conjunction<'text> {
     pub(crate) releases: Bounds<Release>,
     pub(crate) pre_releases: Bounds<PreReleaseEnd<'text>>,
 }
 
-/// The versions that are in some range.
+/// The versions that are in at least one range.
 #[derive(Drop)]
 pub struct Ranges<'text> {
     pub(crate) releases: Vec<Span<Release>>,

@@ -17,8 +17,7 @@ use std::cmp::Ordering;
 
 impl Cut<'_> {
     // Answer: equation.
-    /// Returns whether the cut is below a version. `digits` says how identifiers of digits alone
-    /// are read.
+    /// Returns whether the cut is below a version. `digits` says how numeric identifiers are read.
     #[inline(always)]
     pub fn is_below(&self, version: &Outline<'_>, digits: Digits) -> bool
         ensures { result ≡ is_above_cut digits self.now (version_of version.now).plain }
@@ -49,7 +48,7 @@ impl Cut<'_> {
             .then(minor.then(patch))
     }
 
-    /// Compares a version with that of the cut by precedence.
+    /// Compares a version with the version of the cut by precedence.
     #[inline(always)]
     fn against(&self, version: &Outline<'_>, digits: Digits) -> Ordering
         ensures { result ≡ precedence (version_of version.now).plain (beside digits self.now) }
@@ -65,8 +64,8 @@ impl Cut<'_> {
 
 impl Interval<'_> {
     // Answer: equation.
-    /// Returns whether the interval contains a version. `digits` says how identifiers of digits
-    /// alone are read.
+    /// Returns whether the interval contains a version. `digits` says how numeric identifiers are
+    /// read.
     #[inline(always)]
     pub fn contains(&self, version: &Outline<'_>, digits: Digits) -> bool
         ensures { result ≡ is_in_interval digits self.now (version_of version.now).plain }

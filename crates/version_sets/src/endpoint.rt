@@ -1,4 +1,4 @@
-//! Where spans of versions begin and end, and those of releases.
+//! Endpoints of spans of versions, and those of releases.
 
 ghost use Rattle.std.specs.Prelude.{◌≡◌, IfOk};
 ghost use Rattle.semver_texts.specs.Precedence.{precedence};
@@ -11,20 +11,20 @@ use crate::release::Release;
 use std::alloc::{AllocError, Global};
 use std::cmp::Ordering;
 
-/// Where a span of one kind of versions begins or ends. It owns no memory.
+/// The beginning or the end of a span of one kind of versions. It owns no memory.
 pub(crate) trait Endpoint: Copy {
-    /// What a set keeps of it.
+    /// The boundary that a set keeps of the endpoint.
     type Boundary: Boundary;
 
     ghost place: { Self → PlainVersion };
 
     ghost IsOfKind: { PlainVersion → Type 0 };
 
-    /// How two endpoints compare by precedence.
+    /// Compares two endpoints by precedence.
     fn compare(&self, other: &Self) -> Ordering
         ensures { result ≡ precedence (place self.now) (place other.now) };
 
-    /// The boundary at the same place. `Err` is out of memory.
+    /// Returns the boundary at the same position. `Err` means out of memory.
     fn boundary(&self, alloc: Global) -> Result<Self::Boundary, AllocError>
         ensures same { IfOk result (λ boundary. Self.Boundary.place boundary ≡ place self.now) }
         ensures kind { IfOk result (λ _. IsOfKind (place self.now)) };
@@ -41,7 +41,7 @@ impl Endpoint for Release {
         self.cmp(other)
     }
 
-    /// It does not allocate.
+    /// Copies the numbers. It does not allocate.
     fn boundary(&self, _alloc: Global) -> Result<Release, AllocError> {
         let (major, minor, patch) = (self.major, self.minor, self.patch);
         Ok(Release {

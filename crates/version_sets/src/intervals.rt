@@ -37,7 +37,7 @@ pub(crate) struct Shown<'a> {
 }
 
 impl Shown<'_> {
-    /// The comparator with identifiers of its own. `Err` is out of memory.
+    /// Returns the comparator with identifiers that it owns. `Err` means out of memory.
     fn comparator(self, alloc: Global) -> Result<Comparator, AllocError>
         ensures { IfOk result
             (λ made. comparator_of made ≡ comparator_kept (shown_value self.entry)) }
@@ -56,21 +56,21 @@ impl Shown<'_> {
 pub(crate) trait Bound: Boundary {
     ghost kind: { Kind };
 
-    /// Whether it is at the lowest version of its kind.
+    /// Returns whether the boundary is at the lowest version of its kind.
     fn is_lowest(&self) -> bool
         ensures { result ≡ is_lowest (Self.place self.now) };
 
-    /// Whether it is the only version of its kind from itself on and below another, if there is
-    /// one.
+    /// Returns whether the boundary's version is the only one of its kind that is at or above it
+    /// and below `to`, if `to` is given.
     fn is_alone(&self, to: Option<&Self>) -> bool
         ensures { result ≡ is_same_end (option_map (λ x. Self.place x.now) to.entry)
             (kind.next (Self.place self.now)) };
 
-    /// The comparator of an operator and its version.
+    /// Returns the comparator with an operator and the boundary's version.
     fn shown<'a>(&'a self, op: Op) -> Shown<'a>
         ensures { shown_value result ≡ plain_comparator op (Self.place self.now) };
 
-    /// The comparator that is below the end of an interval from itself on and below another.
+    /// Returns the upper comparator of the interval from this boundary up to another.
     fn shown_end<'a>(&self, to: &'a Self) -> Shown<'a>
         ensures { shown_value result
             ≡ plain_comparator Op.Lt (kind.end (Self.place self.now) (Self.place to.now)) };
@@ -154,7 +154,7 @@ impl Bound for ReadVersion {
     }
 }
 
-/// Whether a boundary is at the lowest pre-release of the numbers right above those of another.
+/// Returns whether a boundary is at the lowest pre-release of the numbers right above another's.
 fn begins_next_numbers(boundary: &ReadVersion, below: &ReadVersion) -> bool
     ensures { result ≡ is_same_end (Some (read_plain boundary.now))
         (pre_release_above (read_plain below.now)) }
@@ -171,7 +171,7 @@ fn begins_next_numbers(boundary: &ReadVersion, below: &ReadVersion) -> bool
     }
 }
 
-/// Whether identifiers that are read so are none, or the lowest, `0`.
+/// Returns whether identifiers, read as `digits` says, are none, or only the lowest, `0`.
 #[tactic(auto, using(crate::proofs::DigitLaws::lowest_by))]
 fn has_lowest_pre(identifiers: &[version::Identifier], digits: Digits) -> bool
     ensures { result ≡ lowest_pre (identifiers_by digits (map identifier_value identifiers.now)) }
@@ -180,7 +180,7 @@ fn has_lowest_pre(identifiers: &[version::Identifier], digits: Digits) -> bool
     is_lowest_pre(identifiers)
 }
 
-/// Whether the identifiers of a boundary are those of another with the number 0 after them.
+/// Returns whether the identifiers of a boundary are another's followed by the number 0.
 fn are_right_above(boundary: &ReadVersion, below: &ReadVersion) -> bool
     ensures { result ≡ is_eq (pre_cmp (read_plain boundary.now).pre
         ((read_plain below.now).pre ++ numeric 0 ∷ [])) }
@@ -192,7 +192,8 @@ fn are_right_above(boundary: &ReadVersion, below: &ReadVersion) -> bool
     compare_pre_releases(boundary.pre(), above).is_eq()
 }
 
-/// Identifiers of a version that are read so, as those of a range.
+/// Copies identifiers of a version, read as `digits` says, as identifiers of a range. `Err` means
+/// out of memory.
 fn copied(
     alloc: Global,
     identifiers: &[version::Identifier],
@@ -208,7 +209,8 @@ fn copied(
     Ok(copies)
 }
 
-/// An identifier of a version that is read so, as one of a range.
+/// Copies an identifier of a version, read as `digits` says, as one of a range. `Err` means out of
+/// memory.
 #[tactic(auto, using(crate::proofs::DigitLaws::kept_number, crate::proofs::DigitLaws::kept_text))]
 fn copy_of(identifier: &version::Identifier, digits: Digits) -> Result<Identifier, AllocError>
     ensures { IfOk result (λ copy. identifier_of copy
@@ -221,15 +223,15 @@ fn copy_of(identifier: &version::Identifier, digits: Digits) -> Result<Identifie
     }
 }
 
-/// The comparators of an interval: one, or two.
+/// The one or two comparators of an interval.
 #[derive(Drop)]
 pub(crate) struct ShownInterval<'a> {
     pub(crate) first: Shown<'a>,
     pub(crate) second: Option<Shown<'a>>,
 }
 
-/// The comparators of the versions from one on and below another, if there is one. None is below
-/// the lowest.
+/// Returns the comparators of the versions that are at or above one boundary, and below another if
+/// it is given. No version is below the lowest.
 fn interval_of<'a, T: Bound>(from: &'a T, to: Option<&'a T>) -> ShownInterval<'a>
     ensures { interval_value result ≡ interval T.kind (T.place from.now)
         (option_map (λ x. T.place x.now) to.entry) }
@@ -256,7 +258,8 @@ fn interval_of<'a, T: Bound>(from: &'a T, to: Option<&'a T>) -> ShownInterval<'a
     }
 }
 
-/// The first interval of boundaries, and the boundaries that are left; `None` if there is none.
+/// Returns the first interval of boundaries, and the boundaries that follow it, or `None` if there
+/// is no boundary.
 pub(crate) fn first_interval<'a, T: Bound>(
     boundaries: &'a [T],
 ) -> Option<(ShownInterval<'a>, &'a [T])>
@@ -273,7 +276,7 @@ pub(crate) fn first_interval<'a, T: Bound>(
 }
 
 impl ShownInterval<'_> {
-    /// The interval as a range of comparators. `Err` is out of memory.
+    /// Returns the interval as a range of comparators. `Err` means out of memory.
     fn range(self, alloc: Global) -> Result<Range, AllocError>
         ensures { IfOk result (λ range.
             range_of range ≡ range_kept (npm_range (interval_value self.entry))) }
@@ -290,8 +293,8 @@ impl ShownInterval<'_> {
     }
 }
 
-/// The ranges of increasing boundaries in npm mode, one for each interval. It allocates only if
-/// there is a boundary. `Err` is out of memory.
+/// Returns the ranges of increasing boundaries in npm mode, one for each interval. It allocates
+/// only if there is a boundary. `Err` means out of memory.
 pub(crate) fn ranges_of<T: Bound>(alloc: Global, boundaries: &[T]) -> Result<Vec<Range>, AllocError>
     ensures ranges { IfOk result (λ ranges.
         map range_of ranges.items

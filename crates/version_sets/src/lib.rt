@@ -1,5 +1,5 @@
-//! Sets of versions, in one normal form: which versions are in one, those that a range text means,
-//! what two have in common or one alone, the lowest version, and whether two sets are the same.
+//! Sets of versions in a normal form: membership, the set of a range, the union, intersection and
+//! difference of two sets, the lowest version, and equality.
 #![tactic(auto)]
 
 mod batch;

@@ -19,10 +19,10 @@ use std::alloc::{AllocError, Global};
 
 impl VersionSet {
     // Answer: law answer_laws::sets::one_lowest.
-    /// The lowest version in the set by precedence, without a build; `None` exactly where the set
-    /// is empty.
+    /// Returns the lowest version in the set by precedence, without build metadata, or `None` if
+    /// and only if the set is empty.
     ///
-    /// It allocates only if a pre-release is answered. `Err` is out of memory.
+    /// It allocates only if the result is a pre-release. `Err` means out of memory.
     ///
     /// ```
     /// use semver_parser::{sets, Dialect};
@@ -32,13 +32,13 @@ impl VersionSet {
     /// # Ok::<(), semver_parser::Error>(())
     /// ```
     pub fn lowest(&self, alloc: Global) -> Result<Option<Version>, AllocError>
-        // It is as it is kept: a number of 2^64 or more as its text.
+        // A `Version` keeps a number of 2^64 or more as a string.
         ensures lowest { IfOk result (λ lowest. IfSome lowest (λ version. (v : PlainVersion)
             × IsLowest Fits self.now v × ((version_value version).plain ≡ plain_kept v))) }
         ensures no_build { IfOk result (λ lowest. IfSome lowest (λ version.
             (version_value version).build ≡ [])) }
         ensures none { IfOk result (λ lowest. (lowest ≡ None) ↔ HasNone Fits self.now) }
-        // Memory runs out only where the lowest version is a pre-release.
+        // It can run out of memory only if the lowest version is a pre-release.
         ensures out_of_memory { IfErr result (λ _. (v : PlainVersion)
             × IsLowest Fits self.now v × IsPreRelease v) }
     {
@@ -46,8 +46,8 @@ impl VersionSet {
     }
 
     // Answer: law answer_laws::sets::one_lowest_release.
-    /// The lowest release in the set by precedence; `None` exactly where it has no release. It does
-    /// not allocate.
+    /// Returns the lowest release in the set by precedence, or `None` if and only if the set
+    /// contains no release. It does not allocate.
     ///
     /// ```
     /// use semver_parser::sets::{self, Release};
@@ -66,8 +66,8 @@ impl VersionSet {
     }
 }
 
-/// The lower one of a release and a pre-release, or the one that there is, without a build. `Err`
-/// is out of memory, which is allocated only for a pre-release.
+/// Returns the lower of a release and a pre-release, or the only one that is given, without build
+/// metadata. It allocates only if the result is the pre-release. `Err` means out of memory.
 pub(crate) fn lower_one(
     alloc: Global,
     release: Option<&Release>,
@@ -91,7 +91,7 @@ pub(crate) fn lower_one(
     Ok(Some(kept_version(alloc, pre_release)?))
 }
 
-/// The release as a version, if there is one.
+/// Returns a release as a version, if one is given.
 fn as_version(alloc: Global, release: Option<&Release>) -> Option<Version>
     ensures { option_map version_value result
         ≡ option_map unbuilt (option_map (λ r. release_value r.now) release.entry) }
@@ -102,8 +102,8 @@ fn as_version(alloc: Global, release: Option<&Release>) -> Option<Version>
     }
 }
 
-/// Whether there is a release, and it is below a version by precedence: its numbers are, since no
-/// version of the same numbers is above it.
+/// Returns whether a release is given and is below a version by precedence. It is enough to compare
+/// the numbers, since no version is above the release with the same numbers.
 fn is_below(release: Option<&Release>, version: &ReadVersion) -> bool
     ensures { result ≡ is_below (option_map (λ r. release_value r.now) release.entry)
         (read_plain version.now) }

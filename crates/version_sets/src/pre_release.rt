@@ -12,7 +12,7 @@ use semver_versions::version::{Identifier, Version};
 use std::alloc::{AllocError, Global};
 use std::cmp::Ordering;
 
-/// A boundary of pre-releases is a version, and how its identifiers of digits alone are read.
+/// A boundary of pre-releases: a version, and how its numeric identifiers are read.
 impl Boundary for ReadVersion {
     ghost use Rattle.semver_versions.specs.ReadVersions.{read_plain};
 
@@ -22,13 +22,13 @@ impl Boundary for ReadVersion {
         self.compare(other)
     }
 
-    /// The build is left out.
+    /// Copies the version without its build metadata.
     fn at_same_place(&self, alloc: Global) -> Result<ReadVersion, AllocError> {
         self.without_build(alloc)
     }
 }
 
-/// The version as it is kept, without a build. `Err` is out of memory.
+/// Returns the version as a `Version` keeps it, without build metadata. `Err` means out of memory.
 pub(crate) fn kept_version(alloc: Global, read: &ReadVersion) -> Result<Version, AllocError>
     ensures { IfOk result (λ version. version_value version
         ≡ record { plain = plain_kept (read_plain read.now); build = [] }) }
@@ -42,7 +42,7 @@ pub(crate) fn kept_version(alloc: Global, read: &ReadVersion) -> Result<Version,
     })
 }
 
-/// Identifiers that are read so, as they are kept.
+/// Copies identifiers, read as `digits` says, as a `Version` keeps them. `Err` means out of memory.
 fn kept(
     alloc: Global,
     identifiers: &[Identifier],
@@ -58,7 +58,7 @@ fn kept(
     Ok(copies)
 }
 
-/// An identifier that is read so, as it is kept.
+/// Copies an identifier, read as `digits` says, as a `Version` keeps it. `Err` means out of memory.
 #[tactic(auto, using(crate::proofs::DigitLaws::kept_number, crate::proofs::DigitLaws::kept_text))]
 fn kept_copy(identifier: &Identifier, digits: Digits) -> Result<Identifier, AllocError>
     ensures { IfOk result (λ copy. identifier_value copy

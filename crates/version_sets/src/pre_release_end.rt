@@ -1,4 +1,4 @@
-//! Where the releases and the pre-releases above a cut begin.
+//! The lowest release and the lowest pre-release above a cut.
 
 ghost use Rattle.std.specs.Prelude.{◌≡◌, true, map, option_map, IfOk};
 ghost use Rattle.std.specs.List.{list_all};
@@ -36,8 +36,8 @@ use semver_versions::version::{Identifier, Version};
 use std::alloc::{AllocError, Global};
 use std::cmp::Ordering;
 
-/// Returns the lowest release above a cut, if there is one. Above a pre-release it has the same
-/// numbers.
+/// Returns the lowest release above a cut, if there is one. If the cut is at a pre-release, that
+/// release has the same numbers.
 pub(crate) fn first_release(cut: &Cut<'_>) -> Option<Release>
     ensures { (digits : SomeDigits) (v : PlainVersion) → IsRelease v
         → reached precedence (option_map release_value result) v ≡ is_above_cut digits cut.now v }
@@ -50,7 +50,7 @@ pub(crate) fn first_release(cut: &Cut<'_>) -> Option<Release>
     }
 }
 
-/// Returns the highest numbers that are equal to these up to a place.
+/// Returns the highest numbers that are equal to the given ones up to a place.
 fn highest_numbers(numbers: Release, place: Place) -> Release
     ensures { (v : PlainVersion) → Fits v → is_gt (numbers_cmp v (release_value result))
         ≡ is_gt (first_numbers (place_number place) v (release_value numbers)) }
@@ -76,7 +76,7 @@ fn highest_numbers(numbers: Release, place: Place) -> Release
 }
 
 impl<'text> PreReleaseEnd<'text> {
-    /// Returns where the pre-releases of some numbers begin.
+    /// Returns the beginning of the pre-releases with some numbers.
     pub(crate) fn lowest(numbers: Release) -> PreReleaseEnd<'text>
         ensures place { end_place result ≡ lowest_place numbers }
         ensures printable { (digits : SomeDigits) → prints_by digits (end_place result) ≡ true }
@@ -89,7 +89,7 @@ impl<'text> PreReleaseEnd<'text> {
         }
     }
 
-    /// Returns where the pre-releases of the next numbers begin.
+    /// Returns the beginning of the pre-releases of the next numbers, if there are any.
     pub(crate) fn above_numbers(numbers: Release) -> Option<PreReleaseEnd<'text>>
         ensures meaning { (v : PlainVersion) → IsPreRelease v
             → reached precedence (option_map end_place result) v
@@ -100,9 +100,9 @@ impl<'text> PreReleaseEnd<'text> {
         Some(PreReleaseEnd::lowest(next_numbers(numbers)?))
     }
 
-    /// Returns where the pre-releases above a cut begin, if there are any. Above a release they
-    /// begin with the next numbers, since none of the same numbers is above it. Directly above a
-    /// pre-release comes the one that has the number 0 as one more identifier.
+    /// Returns the beginning of the pre-releases above a cut, if there are any. Above a release
+    /// they begin with the next numbers, since no pre-release with the same numbers is above it.
+    /// Directly above a pre-release comes the one that has the number 0 as one more identifier.
     pub(crate) fn first(cut: &Cut<'text>, digits: Digits) -> Option<PreReleaseEnd<'text>>
         ensures meaning { (v : PlainVersion) → IsPreRelease v
             → reached precedence (option_map end_place result) v ≡ is_above_cut digits cut.now v }
@@ -176,7 +176,7 @@ impl<'text> Endpoint for PreReleaseEnd<'text> {
 }
 
 impl PreReleaseEnd<'_> {
-    /// Returns the identifiers as a version keeps them. `Err` is out of memory.
+    /// Returns the identifiers as a version keeps them. `Err` means out of memory.
     fn kept_pre(&self, alloc: Global) -> Result<Vec<Identifier>, AllocError>
         ensures { IfOk result (λ pre. map identifier_value pre.items ≡ (kept_end self.now).pre) }
     {
@@ -188,7 +188,7 @@ impl PreReleaseEnd<'_> {
     }
 }
 
-/// Returns the parts of a pre-release as ranges keep them. `Err` is out of memory.
+/// Returns the parts of a pre-release as ranges keep them. `Err` means out of memory.
 fn kept_parts(alloc: Global, pre: &[u8]) -> Result<Vec<Identifier>, AllocError>
     requires { list_all is_part (cut_at_dots pre.now) ≡ true }
     ensures { IfOk result (λ parts. map identifier_value parts.items
@@ -197,7 +197,7 @@ fn kept_parts(alloc: Global, pre: &[u8]) -> Result<Vec<Identifier>, AllocError>
     of_parts(alloc, text_of_parts(pre), |part| kept(alloc, part))
 }
 
-/// Returns a part of a pre-release as ranges keep it.
+/// Returns a part of a pre-release as ranges keep it. `Err` means out of memory.
 fn kept(alloc: Global, part: &str) -> Result<Identifier, AllocError>
     ensures { IfOk result (λ identifier. identifier_value identifier ≡ kept part.now) }
 {

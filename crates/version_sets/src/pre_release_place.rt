@@ -1,4 +1,4 @@
-//! Where spans of pre-releases begin and end.
+//! Endpoints of spans of pre-releases.
 
 ghost use Rattle.std.specs.Prelude.{◌≡◌, true};
 ghost use Rattle.std.specs.List.{list_all};
@@ -7,9 +7,9 @@ ghost use Rattle.semver_texts.specs.Texts.{cut_at_dots, is_part};
 use crate::release::Release;
 use semver_texts::grammar::Digits;
 
-/// Where pre-releases begin or end: at the version with these numbers and identifiers. If
-/// `successor`, the number 0 follows the identifiers. Without identifiers it is the lowest
-/// pre-release of the numbers, whose only identifier is 0.
+/// The beginning or the end of a span of pre-releases: the version with these numbers and
+/// identifiers. If `successor`, the number 0 follows the identifiers. Without identifiers it is the
+/// lowest pre-release of the numbers, whose only identifier is 0.
 #[derive(Clone, Copy)]
 pub(crate) struct PreReleaseEnd<'text> {
     pub(crate) numbers: Release,

@@ -1,4 +1,4 @@
-//! The text of a set, written from its boundaries.
+//! Writes a set as a string, directly from its boundaries.
 
 ghost use Rattle.std.specs.Prelude.{◌≡◌, map};
 ghost use Rattle.std.specs.Fmt.{WritesOnOk};
@@ -17,7 +17,7 @@ impl fmt::Display for Shown<'_> {
 
     ghost output = { λ s. Some (comparator_text (shown_value s)) };
 
-    /// Writes the comparator as a `Comparator` of the same parts.
+    /// Writes the comparator as the `Comparator` of the same parts is written.
     fn fmt<W: fmt::Write>(&self, f: &mut fmt::Formatter<W>) -> fmt::Result {
         let (op, numbers) = (&self.op, self.numbers);
         let (major, minor, patch) = (numbers.major, numbers.minor, numbers.patch);
@@ -51,10 +51,10 @@ impl fmt::Display for VersionSet {
 
     ghost output = { λ set. Some (kinds_text set) };
 
-    /// Writes the releases of the set as a range in npm's syntax, `<0.0.0-0` if it has none, and if
-    /// it has pre-releases, these after `, pre-releases `, to be compared by precedence. Of
-    /// pre-releases alone the first comma is missing. It does not allocate, and its only error is
-    /// the writer's.
+    /// Writes the set in npm's syntax. First come its releases as a range, or `<0.0.0-0` if the set
+    /// is empty. If it contains pre-releases, they follow after `, pre-releases `, as a range that
+    /// is to be compared by precedence. If it contains only pre-releases, the first comma is
+    /// missing. It does not allocate, and its only error is the writer's.
     ///
     /// ```
     /// use semver_parser::{sets, Dialect};
@@ -77,8 +77,8 @@ impl fmt::Display for VersionSet {
     }
 }
 
-/// Writes the intervals of increasing boundaries as a range text of npm mode, separated by ` || `:
-/// `*` for all of a kind, and `<0.0.0-0` for none.
+/// Writes the intervals of increasing boundaries as a range in npm mode, separated by ` || `: `*`
+/// if they contain all versions of the kind, and `<0.0.0-0` if they contain none.
 fn write_ranges<W: fmt::Write, T: Bound>(f: &mut fmt::Formatter<W>, boundaries: &[T]) -> fmt::Result
     ensures { WritesOnOk W.write_str_gives f.old result
         (ranges_text (npm_set (intervals T.kind (map T.place boundaries.now)))) f.new }
@@ -93,7 +93,7 @@ fn write_ranges<W: fmt::Write, T: Bound>(f: &mut fmt::Formatter<W>, boundaries: 
     write_others(f, others)
 }
 
-/// Writes these intervals after others.
+/// Writes intervals, each after ` || `.
 fn write_others<W: fmt::Write, T: Bound>(f: &mut fmt::Formatter<W>, boundaries: &[T]) -> fmt::Result
     ensures { WritesOnOk W.write_str_gives f.old result
         (others_text (intervals T.kind (map T.place boundaries.now))) f.new }
@@ -106,8 +106,8 @@ fn write_others<W: fmt::Write, T: Bound>(f: &mut fmt::Formatter<W>, boundaries: 
     Ok(())
 }
 
-/// Whether all versions of a kind are in the intervals. The last release, which has no end either,
-/// is alone in its interval.
+/// Returns whether the intervals contain all versions of a kind. The last release of all has no
+/// upper bound either, but it is written as a single version.
 fn is_whole<T: Bound>(boundaries: &[T]) -> bool
     ensures { result ≡ is_whole (intervals T.kind (map T.place boundaries.now)) }
 {

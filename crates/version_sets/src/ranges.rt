@@ -30,7 +30,7 @@ use std::alloc::{AllocError, Global};
 
 impl<'text> Conjunction<'text> {
     // Answer: equation.
-    /// Returns the intersection of no interval, which is all versions.
+    /// Returns the intersection of no intervals, which contains all versions.
     pub fn new() -> Conjunction<'text>
         ensures all { (v : PlainVersion) → Fits v → in_each result v ≡ true }
         ensures printable { (digits : SomeDigits) → each_prints digits result ≡ true }
@@ -48,8 +48,8 @@ impl<'text> Conjunction<'text> {
     }
 
     // Answer: equation.
-    /// Returns the intersection with one more term. A term has an interval for releases and one for
-    /// pre-releases. `digits` says how identifiers of digits alone are read.
+    /// Returns the intersection with one more term, which has an interval for releases and one for
+    /// pre-releases. `digits` says how numeric identifiers are read.
     pub fn and(
         self,
         releases: &Interval<'text>,
@@ -104,7 +104,7 @@ fn pre_released<'text>(interval: &Interval<'text>, digits: Digits) -> Bounds<Pre
 
 impl<'text> Ranges<'text> {
     // Answer: equation.
-    /// Returns no range. It does not allocate.
+    /// Returns a list of no ranges, which contains no version. It does not allocate.
     pub fn new(alloc: Global) -> Ranges<'text>
         ensures none { (v : PlainVersion) → in_ranges result v ≡ false }
         ensures printable { (digits : SomeDigits) → ranges_print digits result ≡ true }
@@ -116,7 +116,7 @@ impl<'text> Ranges<'text> {
     }
 
     // Answer: equation.
-    /// Adds the releases of a range. `Err` is out of memory.
+    /// Adds the releases of a range. `Err` means out of memory.
     pub fn push_releases(&mut self, range: &Conjunction<'text>) -> Result<(), AllocError>
         ensures meaning { IfOk result (λ _. (v : PlainVersion) → in_ranges self.new v
             ≡ (in_ranges self.old v || (is_empty v.pre && in_each range.now v))) }
@@ -127,7 +127,7 @@ impl<'text> Ranges<'text> {
     }
 
     // Answer: equation.
-    /// Adds the pre-releases of a range. `Err` is out of memory.
+    /// Adds the pre-releases of a range. `Err` means out of memory.
     pub fn push_pre_releases(&mut self, range: &Conjunction<'text>) -> Result<(), AllocError>
         ensures meaning { IfOk result (λ _. (v : PlainVersion) → in_ranges self.new v
             ≡ (in_ranges self.old v || (not (is_empty v.pre) && in_each range.now v))) }
@@ -138,7 +138,8 @@ impl<'text> Ranges<'text> {
     }
 
     // Answer: equation.
-    /// Adds the pre-releases of a range that have these numbers. `Err` is out of memory.
+    /// Adds the pre-releases of a range that have one of the given triples of numbers. `Err` means
+    /// out of memory.
     pub fn push_stated(
         &mut self,
         range: &Conjunction<'text>,
@@ -161,8 +162,8 @@ impl<'text> Ranges<'text> {
     }
 
     // Answer: equation.
-    /// Returns the set of the versions in these ranges and of the releases in a last one. `Err` is
-    /// out of memory.
+    /// Returns the set of the versions in these ranges, and of the releases in one last range.
+    /// `Err` means out of memory.
     pub fn into_set(
         self,
         alloc: Global,
@@ -181,8 +182,8 @@ impl<'text> Ranges<'text> {
     }
 }
 
-/// Returns the boundaries of releases, together with those of a last range. For speed nothing is
-/// sorted if there is only the last range, since most texts have one range.
+/// Returns the boundaries of the releases, together with those of a last range. Nothing is sorted
+/// if there is only the last range, for speed, since most range strings have one range.
 fn all_releases(
     alloc: Global,
     spans: Vec<Span<Release>>,

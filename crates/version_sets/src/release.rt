@@ -1,4 +1,4 @@
-//! Releases: versions without a pre-release and without a build.
+//! Releases: versions without a pre-release and build metadata.
 
 ghost use Rattle.std.specs.Prelude.{◌≡◌, ◌+◌, ◌*◌, ◌<◌, [], option_map};
 ghost use Rattle.std.specs.Ordering.{is_lt, is_gt};
@@ -13,7 +13,7 @@ ghost use Rattle.version_sets.specs.VersionSets.{Fits};
 use semver_versions::version::Version;
 use std::alloc::Global;
 
-/// A release: the three numbers of a version. Its derived order is that of precedence.
+/// A release: the three numbers of a version. Its derived order is precedence.
 ///
 /// ```
 /// use semver_parser::sets::Release;
@@ -33,7 +33,7 @@ pub struct Release {
 
 impl Release {
     // Answer: equation.
-    /// The numbers of a version, without its pre-release and its build.
+    /// Returns the numbers of a version, without its pre-release and build metadata.
     ///
     /// ```
     /// use semver_parser::sets::Release;
@@ -55,7 +55,8 @@ impl Release {
     }
 
     // Answer: equation.
-    /// The release as a version, without a pre-release and without a build. It does not allocate.
+    /// Returns the release as a version, without a pre-release and build metadata. It does not
+    /// allocate.
     ///
     /// ```
     /// use semver_parser::sets::Release;
@@ -75,8 +76,8 @@ impl Release {
         }
     }
 
-    /// Whether a release is below another by precedence: by each number, so that the answer takes
-    /// no branch.
+    /// Returns whether a release is below another by precedence. The numbers are compared without
+    /// branches, for speed.
     #[inline(always)]
     pub(crate) fn is_below(&self, other: &Release) -> bool
         ensures { result ≡ is_lt (precedence (release_value self.now) (release_value other.now)) }
@@ -85,7 +86,8 @@ impl Release {
             | ((self.major == other.major) & (self.after_major() < other.after_major()))
     }
 
-    /// The second and the third number as one, which two words compare as it.
+    /// Returns the second and the third number combined in one integer, which can be compared in
+    /// one step.
     #[inline(always)]
     fn after_major(&self) -> u128
         ensures value { result ≡ self.now.minor * 18446744073709551616 + self.now.patch }
@@ -102,7 +104,7 @@ pub(crate) const LOWEST: Release = Release {
     patch: 0,
 };
 
-/// The numbers right after these. There are none after the last.
+/// Returns the numbers right after the given ones, or `None` after the highest.
 pub(crate) fn next_numbers(numbers: Release) -> Option<Release>
     ensures above { (v : PlainVersion) → Fits v
         → reaches result v ≡ is_gt (numbers_cmp v (release_value numbers)) }

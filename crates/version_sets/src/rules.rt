@@ -1,11 +1,11 @@
-//! The three rules by which pre-releases count, with their numbers and names.
+//! The three rules for pre-releases, with their numbers and names.
 
 ghost use Rattle.std.specs.Prelude.{◌≡◌, MatchOption};
 ghost use Rattle.version_sets.specs.PreReleaseTable.{name_of, number_of};
 ghost use Rattle.version_sets.specs.declared.rules.PreReleases.{PreReleases as SomePreReleases};
 
-/// Which pre-releases satisfy a range (page `docs::ranges`, "Pre-releases"). Releases count by each
-/// rule.
+/// Which pre-releases satisfy a range (page `docs::ranges`, "Pre-releases"). The rules are the same
+/// for releases.
 ///
 /// ```
 /// use semver_parser::{satisfies, Dialect, Meaning, PreReleases};
@@ -19,20 +19,19 @@ ghost use Rattle.version_sets.specs.declared.rules.PreReleases.{PreReleases as S
 /// ```
 #[derive(Clone, Copy, PartialEq, Eq, Hash, Debug)]
 pub enum PreReleases {
-    /// None.
+    /// No pre-release.
     Excluded,
-    /// The rule that npm and Cargo's `semver` have for pre-releases: one that satisfies a range by
-    /// precedence, and of which a term of that range states the three numbers and a pre-release.
-    /// 1.2.3-rc is meant by `^1.2.3-beta`, and neither by `>=1.2.0` nor by
-    /// `^1.2.0 || =1.2.3-beta`.
+    /// The default rule of npm and of Cargo's `semver`: a pre-release that satisfies a range by
+    /// precedence, if a term of the same range names its three numbers and a pre-release. 1.2.3-rc
+    /// satisfies `^1.2.3-beta`, but neither `>=1.2.0` nor `^1.2.0 || =1.2.3-beta`.
     Default,
-    /// Each that satisfies a range by precedence: 1.3.0-rc is meant by `^1.2.0`.
+    /// Every pre-release that satisfies a range by precedence: 1.3.0-rc satisfies `^1.2.0`.
     Included,
 }
 
 impl PreReleases {
     // Answer: equation.
-    /// Returns its number in C, Python and JavaScript.
+    /// Returns the number of the rule in C, Python and JavaScript.
     ///
     /// ```
     /// use semver_parser::PreReleases;
@@ -51,7 +50,7 @@ impl PreReleases {
     }
 
     // Answer: law version_sets::laws::one_rule_of_number.
-    /// Returns the rule of a number, or `None` if none has it.
+    /// Returns the rule with a number, or `None` if no rule has it.
     ///
     /// ```
     /// use semver_parser::PreReleases;
@@ -73,7 +72,7 @@ impl PreReleases {
     }
 
     // Answer: equation.
-    /// Returns its name for programs.
+    /// Returns the name of the rule for programs.
     ///
     /// ```
     /// use semver_parser::PreReleases;

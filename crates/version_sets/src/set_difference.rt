@@ -1,5 +1,5 @@
-//! How two sets differ: what is lost, gained and shared, and whether one is a subset of the other,
-//! disjoint from it, or the same.
+//! Compares two sets: what is lost, gained and shared, and whether one is a subset of the other,
+//! disjoint from it, or equal to it.
 
 ghost use Rattle.std.specs.Prelude.{Err, IfErr, IfOk, false, true, ◌↔◌, ◌≡◌, ◌≢◌, ◌⊎◌};
 ghost use Rattle.semver_texts.specs.Versions.{PlainVersion};
@@ -15,8 +15,8 @@ use crate::version_set::VersionSet;
 use semver_versions::version::Version;
 use std::alloc::{AllocError, Global};
 
-/// How two sets differ, and what they share, each by the lowest version by precedence. None of
-/// these has a build.
+/// The difference of an old and a new set, and their intersection, each represented by its lowest
+/// version by precedence. None of these has build metadata.
 ///
 /// ```
 /// use semver_parser::{sets, Dialect};
@@ -29,29 +29,29 @@ use std::alloc::{AllocError, Global};
 /// ```
 #[derive(Debug, PartialEq, Eq, Drop)]
 pub struct Comparison {
-    /// The lowest version that is in the old set and not in the new one; `None` where there is
+    /// The lowest version that is in the old set and not in the new one, or `None` if there is
     /// none.
     pub lost: Option<Version>,
-    /// The lowest version that is in the new set and not in the old one; `None` where there is
+    /// The lowest version that is in the new set and not in the old one, or `None` if there is
     /// none.
     pub gained: Option<Version>,
-    /// The lowest version that is in both; `None` where there is none.
+    /// The lowest version that is in both sets, or `None` if there is none.
     pub shared: Option<Version>,
 }
 
 impl VersionSet {
     // Answer: law answer_laws::sets::one_compare.
-    /// Compares the set with a new one that is to take its place. It takes time in the number of
+    /// Compares the set with a new one that is to replace it. It takes time linear in the number of
     /// their boundaries.
     ///
-    /// Both sets have the same versions exactly where nothing is lost or gained.
+    /// Both sets contain the same versions if and only if nothing is lost or gained.
     ///
-    /// It allocates only for the identifiers of a pre-release that is answered.
+    /// It allocates only for the identifiers of pre-releases that it returns.
     ///
     /// # Errors
     ///
-    /// `DifferentDigits` if the sets read identifiers of digits alone differently, and
-    /// `OutOfMemory` if an allocation failed.
+    /// `DifferentDigits` if the sets read numeric identifiers differently, and `OutOfMemory` if an
+    /// allocation failed.
     ///
     /// ```
     /// use semver_parser::{sets, Dialect};
@@ -72,7 +72,8 @@ impl VersionSet {
             TellsLowest (IsInFirstAlone new.now self.now) answer.gained) }
         ensures shared { IfOk result (λ answer.
             TellsLowest (IsInBoth self.now new.now) answer.shared) }
-        // Memory runs out only where the lowest that is lost, gained or shared is a pre-release.
+        // It can run out of memory only if the lowest version that is lost, gained or shared is a
+        // pre-release.
         ensures out_of_memory { result ≡ Err SetError.OutOfMemory
             → LowestIsPreRelease (IsInFirstAlone self.now new.now)
             ⊎ LowestIsPreRelease (IsInFirstAlone new.now self.now)
@@ -87,7 +88,8 @@ impl VersionSet {
         }
     }
 
-    /// Compares the set with a new one that reads digits in the same way.
+    /// Compares the set with a new one that reads numeric identifiers in the same way. `Err` means
+    /// out of memory.
     fn compared(&self, alloc: Global, new: &VersionSet) -> Result<Comparison, AllocError>
         ensures lost { IfOk result (λ answer.
             TellsLowest (IsInFirstAlone self.now new.now) answer.lost) }
@@ -107,7 +109,7 @@ impl VersionSet {
         })
     }
 
-    /// The lowest version of a combination.
+    /// Returns the lowest version of a combination. `Err` means out of memory.
     fn lowest_combined(
         &self,
         alloc: Global,
@@ -126,7 +128,7 @@ impl VersionSet {
 
 impl VersionSet {
     // Answer: equation.
-    /// Whether no version is in the set. It does not allocate.
+    /// Returns whether the set contains no version. It does not allocate.
     ///
     /// ```
     /// use semver_parser::{sets, Dialect};
@@ -142,12 +144,12 @@ impl VersionSet {
     }
 
     // Answer: equation.
-    /// Whether each version that is in the set is in the other, too. It takes time in the number of
-    /// their boundaries, and does not allocate.
+    /// Returns whether every version in this set is in the other, too. It takes time linear in the
+    /// number of their boundaries, and does not allocate.
     ///
     /// # Errors
     ///
-    /// `DifferentDigits` if the sets read identifiers of digits alone differently, and no other.
+    /// Only `DifferentDigits`, if the sets read numeric identifiers differently.
     ///
     /// ```
     /// use semver_parser::{sets, Dialect};
@@ -163,7 +165,7 @@ impl VersionSet {
         ensures no_memory { result ≢ Err SetError.OutOfMemory }
         ensures subset { IfOk result (λ is. (is ≡ true)
             ↔ ((v : PlainVersion) → IsIn v self.now → IsIn v other.now)) }
-        // If it isn't one, some version is in the set and not in the other.
+        // If it isn't a subset, some version is in this set and not in the other.
         ensures witness { IfOk result (λ is. is ≡ false → (v : PlainVersion)
             × IsIn v self.now × (¬ IsIn v other.now)) }
     {
@@ -174,12 +176,12 @@ impl VersionSet {
     }
 
     // Answer: equation.
-    /// Whether no version is in both sets. It takes time in the number of their boundaries, and
-    /// does not allocate.
+    /// Returns whether no version is in both sets. It takes time linear in the number of their
+    /// boundaries, and does not allocate.
     ///
     /// # Errors
     ///
-    /// `DifferentDigits` if the sets read identifiers of digits alone differently, and no other.
+    /// Only `DifferentDigits`, if the sets read numeric identifiers differently.
     ///
     /// ```
     /// use semver_parser::{sets, Dialect};
@@ -207,7 +209,7 @@ impl VersionSet {
         Ok(!self.keeps_some(Combination::Intersection, other))
     }
 
-    /// Whether some version is in a combination of two sets.
+    /// Returns whether a combination of two sets contains a version.
     fn keeps_some(&self, how: Combination, other: &VersionSet) -> bool
         ensures { (result ≡ true) ↔ KeepsSome how self.now other.now }
     {
@@ -226,10 +228,10 @@ impl PartialEq for VersionSet {
 
     ghost laws = { partial_equiv_from_equiv sets_equiv };
 
-    /// Whether both sets read identifiers of digits alone in the same way, and have the same
-    /// versions. It takes time in the number of their boundaries, and does not allocate.
+    /// Returns whether both sets read numeric identifiers in the same way, and contain the same
+    /// versions. It takes time linear in the number of their boundaries, and does not allocate.
     ///
-    /// Those of `>=1.0.0 <2.0.0 || >=2.0.0 <3.0.0` and of `>=1.0.0 <3.0.0` are equal.
+    /// The sets of `>=1.0.0 <2.0.0 || >=2.0.0 <3.0.0` and of `>=1.0.0 <3.0.0` are equal.
     fn eq(&self, other: &VersionSet) -> bool
         ensures value { result ≡ same_set self.now other.now }
         ensures same_versions { (result ≡ true) ↔ ((self.now.digits ≡ other.now.digits)

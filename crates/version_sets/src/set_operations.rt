@@ -1,4 +1,4 @@
-//! What is in one set or another, in both, or in the first alone.
+//! Union, intersection and difference of sets.
 
 ghost use Rattle.std.specs.Prelude.{Err, IfErr, IfOk, false, map, not, option_map};
 ghost use Rattle.std.specs.Prelude.{slice_get, true, ◌&&◌, ◌||◌, ◌≡◌, ◌≢◌, ◌⊎◌, ◌↔◌};
@@ -13,7 +13,7 @@ use crate::version_set::VersionSet;
 use std::alloc::{AllocError, Global};
 use thiserror::Error;
 
-/// Why two sets can't be combined or compared.
+/// The error of an operation on two sets.
 ///
 /// ```
 /// use semver_parser::sets::{self, SetError};
@@ -26,8 +26,8 @@ use thiserror::Error;
 /// ```
 #[derive(Clone, Copy, PartialEq, Eq, Debug, Error)]
 pub enum SetError {
-    /// The sets read identifiers of digits alone from 2^64 on differently: one as texts, and the
-    /// other as numbers.
+    /// The sets read numeric identifiers above 2^64 - 1 differently: one as strings, and the other
+    /// as numbers.
     #[error("the sets read numbers from 2^64 on differently")]
     DifferentDigits,
     /// An allocation failed.
@@ -47,19 +47,19 @@ impl From<AllocError> for SetError {
     }
 }
 
-/// What of two sets is in their combination.
+/// How two sets are combined.
 #[derive(Clone, Copy)]
 pub(crate) enum Combination {
-    /// What is in one or the other.
+    /// The versions in either set.
     Union,
-    /// What is in both.
+    /// The versions in both sets.
     Intersection,
-    /// What is in the first alone.
+    /// The versions only in the first set.
     Difference,
 }
 
 impl Combination {
-    /// Whether what is in the first or in the second is in the combination.
+    /// Returns whether a version is in the combination, given whether it is in each set.
     fn keeps(self, in_first: bool, in_second: bool) -> bool
         ensures { result ≡ keeps self in_first in_second }
     {
@@ -70,7 +70,7 @@ impl Combination {
         }
     }
 
-    /// Whether some piece of two sets is in the combination. It does not allocate.
+    /// Returns whether some piece of two sets is in the combination. It does not allocate.
     pub(crate) fn keeps_some<T: Boundary>(self, first: &[T], second: &[T]) -> bool
         ensures { result ≡ keeps_some self
             (pieces (map T.place first.now) (map T.place second.now)) }
@@ -78,8 +78,8 @@ impl Combination {
         Sweep::over(first, second).any(|piece| self.keeps(piece.in_first, piece.in_second))
     }
 
-    /// The first boundary of the combination, where the first piece begins that is in it. It does
-    /// not allocate.
+    /// Returns the first boundary of the combination: the beginning of the first piece in it. It
+    /// does not allocate.
     pub(crate) fn first<'a, T: Boundary>(self, first: &'a [T], second: &'a [T]) -> Option<&'a T>
         ensures { option_map (λ x. T.place x.now) result ≡ slice_get (combined self
             (pieces (map T.place first.entry.now) (map T.place second.entry.now))) 0 }
@@ -92,8 +92,9 @@ impl Combination {
         None
     }
 
-    /// The boundaries of the combination, which are those where being in it changes. `Err` is out
-    /// of memory; nothing is allocated if there are none.
+    /// Returns the boundaries of the combination. These are the boundaries at which a version
+    /// begins or ceases to be in it. Nothing is allocated if there are none. `Err` means out of
+    /// memory.
     pub(crate) fn of<T: Boundary>(
         self,
         alloc: Global,
@@ -119,14 +120,15 @@ impl Combination {
 
 impl VersionSet {
     // Answer: law answer_laws::sets::one_union.
-    /// The versions of one set or the other. It takes time in the number of their boundaries.
+    /// Returns the versions that are in either set. It takes time linear in the number of their
+    /// boundaries.
     ///
     /// The result is allocated as it grows, and not at all if it is empty.
     ///
     /// # Errors
     ///
-    /// `DifferentDigits` if the sets read identifiers of digits alone differently, and
-    /// `OutOfMemory` if an allocation failed.
+    /// `DifferentDigits` if the sets read numeric identifiers differently, and `OutOfMemory` if an
+    /// allocation failed.
     ///
     /// ```
     /// use semver_parser::{sets, Dialect};
@@ -142,10 +144,10 @@ impl VersionSet {
         ensures contains { IfOk result (λ set. (v : PlainVersion)
             → contains set v ≡ (contains self.now v || contains other.now v)) }
         ensures digits { IfOk result (λ set. set.digits ≡ self.now.digits) }
-        // Identifiers that can be read back from their texts are kept so.
+        // If the identifiers of both can be parsed back from their strings, so can the result's.
         ensures printable { IsPrintable self.now → IsPrintable other.now
             → IfOk result IsPrintable }
-        // Memory runs out only where the answer has a version.
+        // It can run out of memory only if the result would contain a version.
         ensures out_of_memory { result ≡ Err SetError.OutOfMemory → (v : PlainVersion)
             × (IsIn v self.now ⊎ IsIn v other.now) }
     {
@@ -153,14 +155,15 @@ impl VersionSet {
     }
 
     // Answer: law answer_laws::sets::one_intersection.
-    /// The versions of both sets. It takes time in the number of their boundaries.
+    /// Returns the versions that are in both sets. It takes time linear in the number of their
+    /// boundaries.
     ///
     /// The result is allocated as it grows, and not at all if it is empty.
     ///
     /// # Errors
     ///
-    /// `DifferentDigits` if the sets read identifiers of digits alone differently, and
-    /// `OutOfMemory` if an allocation failed.
+    /// `DifferentDigits` if the sets read numeric identifiers differently, and `OutOfMemory` if an
+    /// allocation failed.
     ///
     /// ```
     /// use semver_parser::{sets, Dialect};
@@ -176,10 +179,10 @@ impl VersionSet {
         ensures contains { IfOk result (λ set. (v : PlainVersion)
             → contains set v ≡ (contains self.now v && contains other.now v)) }
         ensures digits { IfOk result (λ set. set.digits ≡ self.now.digits) }
-        // Identifiers that can be read back from their texts are kept so.
+        // If the identifiers of both can be parsed back from their strings, so can the result's.
         ensures printable { IsPrintable self.now → IsPrintable other.now
             → IfOk result IsPrintable }
-        // Memory runs out only where the answer has a version.
+        // It can run out of memory only if the result would contain a version.
         ensures out_of_memory { result ≡ Err SetError.OutOfMemory → (v : PlainVersion)
             × IsIn v self.now × IsIn v other.now }
     {
@@ -187,15 +190,15 @@ impl VersionSet {
     }
 
     // Answer: law answer_laws::sets::one_difference.
-    /// The versions of the first set that the other doesn't have. It takes time in the number of
-    /// their boundaries.
+    /// Returns the versions that are in this set, but not in the other. It takes time linear in the
+    /// number of their boundaries.
     ///
     /// The result is allocated as it grows, and not at all if it is empty.
     ///
     /// # Errors
     ///
-    /// `DifferentDigits` if the sets read identifiers of digits alone differently, and
-    /// `OutOfMemory` if an allocation failed.
+    /// `DifferentDigits` if the sets read numeric identifiers differently, and `OutOfMemory` if an
+    /// allocation failed.
     ///
     /// ```
     /// use semver_parser::{sets, Dialect};
@@ -211,17 +214,18 @@ impl VersionSet {
         ensures contains { IfOk result (λ set. (v : PlainVersion)
             → contains set v ≡ (contains self.now v && not (contains other.now v))) }
         ensures digits { IfOk result (λ set. set.digits ≡ self.now.digits) }
-        // Identifiers that can be read back from their texts are kept so.
+        // If the identifiers of both can be parsed back from their strings, so can the result's.
         ensures printable { IsPrintable self.now → IsPrintable other.now
             → IfOk result IsPrintable }
-        // Memory runs out only where the answer has a version.
+        // It can run out of memory only if the result would contain a version.
         ensures out_of_memory { result ≡ Err SetError.OutOfMemory → (v : PlainVersion)
             × IsIn v self.now × (¬ IsIn v other.now) }
     {
         self.checked(alloc, Combination::Difference, other)
     }
 
-    /// The versions of a combination of sets that read digits in the same way.
+    /// Returns the combination of two sets, or `DifferentDigits` if they read numeric identifiers
+    /// differently.
     fn checked(
         &self,
         alloc: Global,
@@ -247,7 +251,8 @@ impl VersionSet {
         }
     }
 
-    /// The versions of a combination.
+    /// Returns the combination of two sets that read numeric identifiers in the same way. `Err`
+    /// means out of memory.
     fn combined(
         &self,
         alloc: Global,

@@ -1,4 +1,4 @@
-//! A set as ranges of plain comparators, and their text.
+//! A set as ranges of plain comparators, and as a string.
 
 ghost use Rattle.std.specs.Prelude.{◌≡◌, not, map, Some, IfOk, IfErr, IsTrue};
 ghost use Rattle.std.specs.List.{list_all};
@@ -25,7 +25,7 @@ use std::fmt;
 /// The releases or the pre-releases of a set as ranges of plain comparators: one range for each
 /// interval, in ascending order.
 ///
-/// `Display` writes a range text of npm mode: `*` if all are in the set, and `<0.0.0-0`, which no
+/// `Display` writes a range in npm mode: `*` if all are in the set, and `<0.0.0-0`, which no
 /// version satisfies, if none is.
 ///
 /// ```
@@ -46,17 +46,17 @@ pub struct SetRanges {
 
 impl VersionSet {
     // Answer: equation.
-    /// The releases of the set as ranges of plain comparators.
+    /// Returns the releases of the set as ranges of plain comparators.
     ///
     /// The ranges are:
     ///
-    /// - `=1.2.0` if 1.2.0 is alone in its interval, else `>=1.9.0 <2.0.0`;
+    /// - `=1.2.0` if 1.2.0 is the only release in its interval, otherwise `>=1.9.0 <2.0.0`;
     /// - `>=1.9.0` if the interval has no end, and `<2.0.0` if it begins with 0.0.0;
-    /// - `>=0.0.0` if all releases are in the set, which `Display` writes as `*`;
-    /// - no range if the set has no release.
+    /// - only `>=0.0.0` if all releases are in the set, which `Display` writes as `*`;
+    /// - no range if the set contains no release.
     ///
-    /// It takes time in the number of boundaries, and allocates only if the set has a release.
-    /// `Err` is out of memory.
+    /// It takes time linear in the number of boundaries, and allocates only if the set contains a
+    /// release. `Err` means out of memory.
     ///
     /// ```
     /// use semver_parser::{sets, Dialect};
@@ -69,13 +69,13 @@ impl VersionSet {
     pub fn release_ranges(&self, alloc: Global) -> Result<SetRanges, AllocError>
         ensures ranges { IfOk result (λ ranges.
             set_of ranges.range_set ≡ release_ranges self.now) }
-        // A release satisfies them exactly if it is in the set.
+        // A release satisfies them if and only if it is in the set.
         ensures meaning { IfOk result (λ ranges. (v : PlainVersion) → IsRelease v
             → meets_set v (set_of ranges.range_set) ≡ contains self.now v) }
-        // The text, read in npm mode, gives comparators that the same releases satisfy.
+        // Printed and read in npm mode, they give comparators that the same releases satisfy.
         ensures reads_back { IfOk result (λ ranges.
             ReadsBack (ranges_text (set_of ranges.range_set)) IsRelease self.now) }
-        // It is out of memory only if the set has a release.
+        // It can run out of memory only if the set contains a release.
         ensures out_of_memory { IfErr result (λ _. (v : PlainVersion)
             × IsRelease v × IsIn v self.now) }
     {
@@ -85,16 +85,16 @@ impl VersionSet {
     }
 
     // Answer: equation.
-    /// The pre-releases of the set as ranges of plain comparators, as
-    /// [`VersionSet::release_ranges`] returns the releases. A pre-release satisfies them by
-    /// precedence.
+    /// Returns the pre-releases of the set as ranges of plain comparators, like
+    /// [`VersionSet::release_ranges`] for the releases. A pre-release satisfies them by precedence.
     ///
-    /// Each lower bound has a pre-release, and an upper one is a release if all pre-releases below
-    /// it are in the set, as in `>=1.2.3-b <1.2.3`. The version right above 1.2.3-a is 1.2.3-a.0,
-    /// so 1.2.3-a alone is `=1.2.3-a`. The lowest is 0.0.0-0, and all pre-releases are `>=0.0.0-0`.
+    /// Each lower bound has a pre-release. An upper bound is a release if all pre-releases right
+    /// below it are in the set, as in `>=1.2.3-b <1.2.3`. The version right above 1.2.3-a is
+    /// 1.2.3-a.0, so if only 1.2.3-a is in the interval, it is written as `=1.2.3-a`. The lowest
+    /// pre-release is 0.0.0-0, and all pre-releases are `>=0.0.0-0`.
     ///
-    /// It takes time in the number of boundaries, and allocates only if the set has a pre-release.
-    /// `Err` is out of memory.
+    /// It takes time linear in the number of boundaries, and allocates only if the set contains a
+    /// pre-release. `Err` means out of memory.
     ///
     /// ```
     /// use semver_parser::{sets, Dialect, Meaning, PreReleases};
@@ -107,16 +107,17 @@ impl VersionSet {
     pub fn pre_release_ranges(&self, alloc: Global) -> Result<SetRanges, AllocError>
         ensures ranges { IfOk result (λ ranges.
             set_of ranges.range_set ≡ set_kept (pre_release_ranges self.now)) }
-        // A pre-release satisfies them exactly if it is in the set. They are as they are kept: a
-        // number of 2^64 or more as its text.
+        // A pre-release satisfies them if and only if it is in the set. The result keeps a number
+        // of 2^64 or more as a string.
         ensures meaning { IfOk result (λ ranges. (v : PlainVersion) → IsPreRelease v
             → meets_set v (pre_release_ranges self.now) ≡ contains self.now v) }
-        // If the identifiers are printable, the text, read in npm mode, gives comparators that the
-        // same pre-releases satisfy. The exception is `*`, which npm mode reads as `>=0.0.0`.
+        // If the identifiers are printable, the ranges, printed and read in npm mode, give
+        // comparators that the same pre-releases satisfy. The exception is `*`, which npm mode
+        // reads as `>=0.0.0`.
         ensures reads_back { IsTrue (list_all is_printable_version self.now.pre_releases)
             → IfOk result (λ ranges. IsTrue (not (is_whole (set_of ranges.range_set).ranges))
             → ReadsBack (ranges_text (set_of ranges.range_set)) IsPreRelease self.now) }
-        // It is out of memory only if the set has a pre-release.
+        // It can run out of memory only if the set contains a pre-release.
         ensures out_of_memory { IfErr result (λ _. (v : PlainVersion)
             × IsPreRelease v × IsIn v self.now) }
     {
@@ -126,7 +127,7 @@ impl VersionSet {
     }
 }
 
-/// Ranges as a set in npm mode.
+/// Returns ranges as a set in npm mode.
 fn in_npm_mode(ranges: Vec<Range>) -> SetRanges
     ensures { set_of result.range_set ≡ record {
       ranges = map range_of ranges.items;
@@ -147,7 +148,7 @@ impl fmt::Display for SetRanges {
 
     ghost output = { λ ranges. Some (ranges_text (set_of ranges.range_set)) };
 
-    /// Writes the ranges as a range text of npm mode, separated by ` || `: `*` for `>=0.0.0` and
+    /// Writes the ranges as a range in npm mode, separated by ` || `: `*` for `>=0.0.0` and
     /// `>=0.0.0-0`, and `<0.0.0-0` for no range. It does not allocate, and its only error is the
     /// writer's.
     fn fmt<W: fmt::Write>(&self, f: &mut fmt::Formatter<W>) -> fmt::Result {
@@ -160,7 +161,7 @@ impl fmt::Display for SetRanges {
     }
 }
 
-/// Whether the comparators are `>=0.0.0` alone, or `>=0.0.0-0`.
+/// Returns whether the comparators are only `>=0.0.0` or only `>=0.0.0-0`.
 fn is_from_lowest(comparators: &[Comparator]) -> bool
     ensures { result ≡ from_lowest (map comparator_of comparators.now) }
 {
@@ -173,7 +174,7 @@ fn is_from_lowest(comparators: &[Comparator]) -> bool
     }
 }
 
-/// Whether there is no pre-release, or the lowest, `0`.
+/// Returns whether there is no pre-release, or only the lowest, `0`.
 pub(crate) fn is_lowest_pre<T: AsIdentifier>(identifiers: &[T]) -> bool
     ensures { result ≡ lowest_pre (map T.value identifiers.now) }
 {

@@ -1,4 +1,4 @@
-//! Spans of one kind of versions, and the boundaries of what is in some of them.
+//! Spans of one kind of versions, and the boundaries of their union.
 
 ghost use Rattle.std.specs.Prelude.{◌≡◌, ◌&&◌, ◌||◌, ◌++◌, Bool, true, false, Some, map};
 ghost use Rattle.std.specs.Prelude.{option_map, MatchOption, IfOk, IfSome};
@@ -18,25 +18,27 @@ ghost use Rattle.version_sets.specs.Steps.SpanViews.{bounds_hold, spans_hold};
 use crate::endpoint::Endpoint;
 use std::alloc::{AllocError, Global};
 
-/// The versions at or above one endpoint and below another. `None` is above all versions.
+/// The versions at or above one endpoint and below another. `None` is an endpoint above all
+/// versions.
 #[derive(Clone, Copy)]
 pub(crate) struct Bounds<L> {
-    /// Where they begin.
+    /// The beginning.
     pub from: Option<L>,
-    /// Where they end.
+    /// The end.
     pub to: Option<L>,
 }
 
-/// The versions from a endpoint on and below another, if there is one, which is above the first.
+/// The versions at or above one endpoint, and below another if there is one. The second is above
+/// the first.
 #[derive(Clone, Copy)]
 pub(crate) struct Span<L> {
-    /// Where they begin.
+    /// The beginning.
     pub from: L,
-    /// Where they end.
+    /// The end.
     pub to: Option<L>,
 }
 
-/// The endpoint that fewer versions reach.
+/// Returns the higher of two endpoints. `None` is above all versions.
 fn later<L: Endpoint>(first: Option<L>, second: Option<L>) -> Option<L>
     ensures { option_map L.place result
         ≡ later precedence (option_map L.place first) (option_map L.place second) }
@@ -49,7 +51,7 @@ fn later<L: Endpoint>(first: Option<L>, second: Option<L>) -> Option<L>
     })
 }
 
-/// The endpoint that more versions reach.
+/// Returns the lower of two endpoints. `None` is above all versions.
 fn earlier<L: Endpoint>(first: Option<L>, second: Option<L>) -> Option<L>
     ensures { option_map L.place result
         ≡ earlier precedence (option_map L.place first) (option_map L.place second) }
@@ -68,7 +70,7 @@ fn earlier<L: Endpoint>(first: Option<L>, second: Option<L>) -> Option<L>
 }
 
 impl<L: Endpoint> Bounds<L> {
-    /// The versions that are within other bounds, too.
+    /// Returns the versions that are within other bounds, too.
     pub(crate) fn and(self, other: Bounds<L>) -> Bounds<L>
         ensures meaning { (v : PlainVersion) → is_within L.place result v
             ≡ (is_within L.place self v && is_within L.place other v) }
@@ -81,7 +83,7 @@ impl<L: Endpoint> Bounds<L> {
         }
     }
 
-    /// The span of the versions, if there is any between the endpoints.
+    /// Returns the span of the versions, if there is anything between the endpoints.
     fn span(self) -> Option<Span<L>>
         ensures meaning { MatchOption result ((v : PlainVersion) → is_within L.place self v ≡ false)
             (λ span. IsSpan precedence (span_value L.place span) × ((v : PlainVersion)
@@ -98,7 +100,8 @@ impl<L: Endpoint> Bounds<L> {
         Some(Span { from, to: self.to })
     }
 
-    /// Adds the span of the versions to others, if there is any. `Err` is out of memory.
+    /// Adds the span of the versions to others, if there is anything between the endpoints. `Err`
+    /// means out of memory.
     pub(crate) fn push_to(self, spans: &mut Vec<Span<L>>) -> Result<(), AllocError>
         ensures spans { some_empty precedence (map (span_value L.place) spans.old.items) ≡ false
             → some_empty precedence (map (span_value L.place) spans.new.items) ≡ false }
@@ -115,7 +118,7 @@ impl<L: Endpoint> Bounds<L> {
         Ok(())
     }
 
-    /// The boundaries of the versions. `Err` is out of memory.
+    /// Returns the boundaries of the versions. `Err` means out of memory.
     pub(crate) fn boundaries(self, alloc: Global) -> Result<Vec<L::Boundary>, AllocError>
         ensures boundaries { IfOk result (λ boundaries.
             AreBoundaries L.IsOfKind (map L.Boundary.place boundaries.items)) }
@@ -132,7 +135,7 @@ impl<L: Endpoint> Bounds<L> {
     }
 }
 
-/// The boundaries of what is in some of the spans. `Err` is out of memory.
+/// Returns the boundaries of the union of the spans. `Err` means out of memory.
 pub(crate) fn boundaries_of<L: Endpoint>(
     alloc: Global,
     spans: &mut [Span<L>],
@@ -146,7 +149,7 @@ pub(crate) fn boundaries_of<L: Endpoint>(
     ensures holds { IfOk result (λ boundaries. (p : PlainVersion → Bool)
         → spans_hold L.place p spans.old ≡ true
         → list_all p (map L.Boundary.place boundaries.items) ≡ true) }
-    // What the sort compares by is a total order, which Rust demands.
+    // The sort's comparison is a total order, which Rust demands.
     ensures total_order { IsTotalOrder (λ (s t : Span L). precedence (L.place s.from)
         (L.place t.from)) }
 {
@@ -154,7 +157,7 @@ pub(crate) fn boundaries_of<L: Endpoint>(
     joined(alloc, spans)
 }
 
-/// The boundaries of ascending spans. `Err` is out of memory.
+/// Returns the boundaries of ascending spans. `Err` means out of memory.
 fn joined<L: Endpoint>(alloc: Global, spans: &[Span<L>]) -> Result<Vec<L::Boundary>, AllocError>
     ensures { IfOk result (λ boundaries.
         AllByRecursion L.IsOfKind (map L.Boundary.place boundaries.items)
@@ -178,7 +181,7 @@ fn joined<L: Endpoint>(alloc: Global, spans: &[Span<L>]) -> Result<Vec<L::Bounda
     Ok(boundaries)
 }
 
-/// Whether there is an end below a endpoint.
+/// Returns whether there is an end, and it is below an endpoint.
 fn is_apart<L: Endpoint>(end: Option<L>, endpoint: &L) -> bool
     ensures { result ≡ is_below precedence (option_map L.place end) (L.place endpoint.now) }
 {
@@ -188,7 +191,7 @@ fn is_apart<L: Endpoint>(end: Option<L>, endpoint: &L) -> bool
     }
 }
 
-/// Adds the boundaries of a span. `Err` is out of memory.
+/// Adds the boundaries of a span. `Err` means out of memory.
 fn push_boundaries<L: Endpoint>(
     alloc: Global,
     span: &Span<L>,

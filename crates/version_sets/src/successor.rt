@@ -1,10 +1,10 @@
-//! Identifiers with the number 0 after them: the pre-release right above theirs.
+//! Identifiers followed by the number 0: the pre-release right above theirs.
 
 ghost use Rattle.version_sets.specs.Steps.SpanViews.{successor};
 
 use semver_texts::precedence::{IdentifierRef, Identifiers};
 
-/// Identifiers, and the number 0 after them or not.
+/// Identifiers, and whether the number 0 follows them.
 #[derive(Clone, Copy)]
 pub(crate) struct Successor<A> {
     pub(crate) identifiers: A,

@@ -1,4 +1,4 @@
-//! Two lists of boundaries, swept together from the lowest to the highest.
+//! Goes through two lists of boundaries together, from the lowest to the highest.
 
 ghost use Rattle.std.specs.Prelude.{◌≡◌, false, map};
 ghost use Rattle.std.specs.Iterator.{YieldsFirstBy, item_count};
@@ -9,18 +9,19 @@ ghost use Rattle.version_sets.specs.Steps.SweepViews.{piece_value, pieces_left};
 use crate::boundary::Boundary;
 use std::cmp::Ordering;
 
-/// What is between one boundary and the next of either list.
+/// The versions between one boundary and the next boundary of either list.
 #[derive(Drop)]
 pub(crate) struct Piece<'a, T> {
-    /// The boundary that begins it.
+    /// The boundary at the beginning of the piece.
     pub from: &'a T,
-    /// Whether it is in the first set.
+    /// Whether the piece is in the first set.
     pub in_first: bool,
-    /// Whether it is in the second set.
+    /// Whether the piece is in the second set.
     pub in_second: bool,
 }
 
-/// The boundaries that are left of two lists, and whether what is below them is in the two sets.
+/// The rest of two lists of boundaries, and whether the versions right below it are in the two
+/// sets.
 #[derive(Drop)]
 pub(crate) struct Sweep<'a, T> {
     first: &'a [T],
@@ -30,8 +31,9 @@ pub(crate) struct Sweep<'a, T> {
 }
 
 impl<'a, T: Boundary> Sweep<'a, T> {
-    /// The pieces of two sets, each by its increasing boundaries. Of 1, 3 and 2, 3 they are: from 1
-    /// on in the first, from 2 on in both, from 3 on in neither.
+    /// Returns the pieces of two sets, which are given by their increasing boundaries. For the
+    /// boundaries 1, 3 and 2, 3 the pieces are: from 1 only in the first, from 2 in both, from 3 in
+    /// neither.
     pub(crate) fn over(first: &'a [T], second: &'a [T]) -> Sweep<'a, T>
         ensures { pieces_left T.place result ≡ sweep precedence (map T.place first.now)
             false false (map T.place second.now) }

@@ -22,13 +22,14 @@ use semver_versions::version::{Outline, Version};
 use std::alloc::Global;
 use std::marker::Model;
 
-/// A set of versions, in one normal form: for releases and for pre-releases a list of boundaries,
-/// each below the next by precedence (SemVer 2.0.0, section 11). A version is in the set exactly if
-/// an odd number of its kind's boundaries are at or below it; its build doesn't count.
+/// A set of versions in a normal form: one list of boundaries for releases and one for
+/// pre-releases, each in ascending order of precedence (SemVer 2.0.0, section 11). A version is in
+/// the set if and only if an odd number of the boundaries of its kind are at or below it. Its build
+/// metadata is ignored.
 ///
-/// A set also says what an identifier of digits alone is from 2^64 on: a number, as in the dialects
-/// of Cargo and npm, or a text, as in those of the crate. Sets that differ in this can't be
-/// combined or compared.
+/// A set also knows what a numeric identifier above 2^64 - 1 is: a number, as in the dialects of
+/// Cargo and npm, or a string, as in those of the crate `semver-parser`. Sets that differ in this
+/// can't be combined or compared.
 ///
 /// The releases of `>=1.2.0 <2.0.0 || 3.1.4` have the boundaries 1.2.0, 2.0.0, 3.1.4 and 3.1.5.
 ///
@@ -46,7 +47,7 @@ pub struct VersionSet {
     pub(crate) releases: Vec<Release>,
     /// The boundaries of the pre-releases. Each has a pre-release.
     pub(crate) pre_releases: Vec<ReadVersion>,
-    /// How identifiers of digits alone are read.
+    /// How numeric identifiers are read.
     pub(crate) digits: Digits,
 }
 
@@ -63,7 +64,8 @@ impl Model for VersionSet {
 
 impl VersionSet {
     // Answer: law answer_laws::sets::one_empty.
-    /// The set without versions, which reads identifiers of digits alone so. It does not allocate.
+    /// Returns the empty set, for versions whose numeric identifiers are read as `digits` says. It
+    /// does not allocate.
     ///
     /// ```
     /// use semver_parser::sets::VersionSet;
@@ -80,7 +82,7 @@ impl VersionSet {
         VersionSet::of_boundaries(digits, Vec::new(alloc), Vec::new(alloc))
     }
 
-    /// The set with these boundaries, which are in the normal form. It does not allocate.
+    /// Returns the set with these boundaries, which are in the normal form. It does not allocate.
     pub(crate) fn of_boundaries(
         digits: Digits,
         releases: Vec<Release>,
@@ -97,7 +99,7 @@ impl VersionSet {
     }
 
     // Answer: equation.
-    /// What an identifier of digits alone is from 2^64 on, in the versions of the set.
+    /// Returns how a numeric identifier above 2^64 - 1 is read, in the versions of the set.
     ///
     /// ```
     /// use semver_parser::{sets, Dialect, Digits};
@@ -114,7 +116,7 @@ impl VersionSet {
     }
 
     // Answer: law answer_laws::sets::one_only_releases.
-    /// The releases of the set. It does not allocate.
+    /// Returns the releases of the set. It does not allocate.
     ///
     /// ```
     /// use semver_parser::{sets, version, Dialect, Meaning, PreReleases};
@@ -136,7 +138,7 @@ impl VersionSet {
     }
 
     // Answer: law answer_laws::sets::one_only_pre_releases.
-    /// The pre-releases of the set. It does not allocate.
+    /// Returns the pre-releases of the set. It does not allocate.
     ///
     /// ```
     /// use semver_parser::{sets, version, Dialect};
@@ -150,7 +152,7 @@ impl VersionSet {
     pub fn only_pre_releases(self, alloc: Global) -> VersionSet
         ensures pre_releases { (v : PlainVersion) → contains result v
             ≡ (not (is_empty v.pre) && contains self v) }
-        // Identifiers that can be read back from their texts are kept so.
+        // If identifiers can be parsed back from their strings, so can the result's.
         ensures printable { IsPrintable self → IsPrintable result }
         ensures digits { result.digits ≡ self.digits }
     {
@@ -158,11 +160,11 @@ impl VersionSet {
     }
 
     // Answer: equation.
-    /// Whether a version is in the set; its build doesn't count. It takes time in the logarithm of
-    /// the number of boundaries, and does not allocate.
+    /// Returns whether a version is in the set. Its build metadata is ignored. It takes time
+    /// logarithmic in the number of boundaries, and does not allocate.
     ///
-    /// An identifier of digits alone from 2^64 on, which a `Version` keeps as a text, is read as
-    /// the set says.
+    /// A `Version` keeps a numeric identifier above 2^64 - 1 as a string; here it is read as the
+    /// set reads such identifiers.
     ///
     /// ```
     /// use semver_parser::{sets, version, Dialect};
@@ -185,7 +187,7 @@ impl VersionSet {
         let release = Release::from_version(version);
         let is_release = version.pre.is_empty();
         if self.pre_releases.is_empty() {
-            // Evaluates both, so that the answer depends on no branch.
+            // Evaluates both sides, so the result doesn't depend on a branch.
             return is_release & self.contains_release(release);
         }
         if is_release {
@@ -195,12 +197,13 @@ impl VersionSet {
     }
 
     // Answer: equation.
-    /// Whether each of some versions is in the set, as [`VersionSet::contains`] says of one. Of
-    /// many versions it is quicker so: where the set has no pre-release and at most two boundaries
-    /// of releases, as that of `^1.2.0` has, no answer depends on a branch. It does not allocate.
+    /// Writes to `answers`, for each version, whether it is in the set, like
+    /// [`VersionSet::contains`]. It is faster for many versions: if the set contains no pre-release
+    /// and has at most two boundaries of releases, such as the set of `^1.2.0`, no answer depends
+    /// on a branch. It does not allocate.
     ///
-    /// `answers` has to have as many places as there are versions. Of 1.1.0, 1.9.0 and 2.0.0 the
-    /// set of `^1.2.0` answers `false`, `true` and `false`.
+    /// `answers` must have the same length as `versions`. For 1.1.0, 1.9.0 and 2.0.0 and the set of
+    /// `^1.2.0`, the answers are `false`, `true` and `false`.
     pub fn contains_each(&self, versions: &[Version], answers: &mut [bool])
         requires { length answers.old ≡ length versions.now }
         ensures each { answers.new
@@ -223,7 +226,7 @@ impl VersionSet {
     }
 
     // Answer: equation.
-    /// Whether a release is in the set, as [`VersionSet::contains`] says of a version.
+    /// Returns whether a release is in the set, like [`VersionSet::contains`] for a version.
     ///
     /// ```
     /// use semver_parser::sets::{self, Release};
@@ -242,9 +245,10 @@ impl VersionSet {
     }
 
     // Answer: equation.
-    /// Whether the version of an outline is in the set, as [`VersionSet::contains`] says of a
-    /// version. Its identifiers are compared as they are in the text, and those of digits alone are
-    /// read as the set says, whatever the dialect of the outline. It does not allocate.
+    /// Returns whether a borrowed version is in the set, like [`VersionSet::contains`] for a
+    /// version. Its identifiers are compared as they are in the string, and the numeric ones are
+    /// read as the set reads them, whatever the dialect of the borrowed version. It does not
+    /// allocate.
     ///
     /// ```
     /// use semver_parser::{sets, version, Dialect};
@@ -258,10 +262,10 @@ impl VersionSet {
     #[must_use]
     #[inline(always)]
     pub fn contains_outline(&self, outline: &Outline<'_>) -> bool
-        // It is that of the version of each text that has this outline.
+        // The result is that for the version of each string that has this borrowed version.
         ensures contains { (text : Text) (v : VersionValue) → IsOutlineOf text outline.now
             → SpellsVersion v text → result ≡ contains_kept self.now v.plain }
-        // So of the version that the outline is of.
+        // It is also that for the version that the borrowed version stands for.
         ensures of_version { result ≡ contains_kept self.now (kept_version_of outline.now).plain }
     {
         laws::one_outlined_version();

@@ -1,5 +1,5 @@
 // Made by tools/erase.py from crates/tool_ranges/src/cargo.rt; not edited by hand.
-//! Requirements as Cargo reads them: `1.2` is `>=1.2.0 <2.0.0`, and commas separate comparators.
+//! Cargo's dialect: `1.2` is `>=1.2.0 <2.0.0`, and commas separate comparators.
 
 use crate::rattle_std::prelude::*;
 mod grammar;
@@ -13,33 +13,33 @@ use crate::proved::semver_ranges::partial::LowerBounds;
 use crate::proved::semver_ranges::{Compat, Range, RangeError, RangeSet};
 use crate::rattle_std::AllocError;
 
-/// Cargo reads at most so many comparators.
+/// The maximum number of comparators in a requirement.
 pub(crate) const MOST_COMPARATORS: usize = 32;
 
-/// Rewrites a requirement, as Cargo reads it, into plain comparators with exact bounds.
+/// Rewrites a requirement in Cargo's dialect into plain comparators with exact bounds.
 ///
-/// A requirement is one to 32 comparators, separated by commas, or a wildcard alone.
-/// The page `docs::grammar` has the grammar, and `docs::meaning` says which versions satisfy each
-/// comparator in Cargo.
-/// The answer has one range, in Cargo mode.
+/// A requirement is either a single wildcard, or 1 to 32 comparators separated by commas. The page
+/// `docs::grammar` has the grammar, and `docs::meaning` defines which versions satisfy each
+/// comparator in Cargo. The result has one range, in Cargo mode.
 ///
 /// `1.2` gives `>=1.2.0 <2.0.0-0`, `>=1.2.3, <2` gives `>=1.2.3 <2.0.0`, `>1.2` gives `>=1.3.0`,
 /// and `*` gives `>=0.0.0`.
 ///
-/// A release satisfies the answer exactly if the requirement means it. Which pre-releases Cargo
-/// takes comparators can't say.
+/// A release satisfies the result if and only if it satisfies the requirement. Which pre-releases
+/// satisfy it can't be expressed by comparators.
 ///
 /// # Errors
 ///
-/// - `NotARange` exactly where Cargo reads no such requirement, as `1.2 || 3`, `>=1 <2` or `1.x.3`.
-/// - `NumberTooLarge` exactly where it is one, and a number that it states or a bound that is
-///   raised by one is above 2^64 - 1, as `>1.18446744073709551615`.
-/// - `OutOfMemory` if an allocation fails. The first two do not allocate.
+/// - `NotARange` if the string is not a requirement in Cargo's dialect, such as `1.2 || 3`,
+///   `>=1 <2` or `1.x.3`.
+/// - `NumberTooLarge` if the string is a requirement, but one of its numbers, or a bound that is
+///   raised by one, is above 2^64 - 1, such as `>1.18446744073709551615`.
+/// - `OutOfMemory` if an allocation fails. The first two errors are returned without allocating.
 pub fn rewrite(requirement: &str) -> Result<RangeSet, RangeError> {
     rewritten(requirement)
 }
 
-/// Returns the set of a requirement. For speed one comparator alone is rewritten as it is read.
+/// Returns the set of a requirement. For speed, a single comparator is rewritten while it is read.
 fn rewritten(requirement: &str) -> Result<RangeSet, RangeError> {
     let Some((simple, None)) = read_comparator(requirement.as_bytes()) else {
         return printing::rewrite(
@@ -58,7 +58,7 @@ fn rewritten(requirement: &str) -> Result<RangeSet, RangeError> {
     }
 }
 
-/// Returns the set of one comparator that fits. `Err` is out of memory.
+/// Returns the set of one comparator whose numbers are within the limit. `Err` means out of memory.
 fn set_of_one(simple: &Simple<'_>) -> Result<RangeSet, AllocError> {
     let mut comparator_set = Vec::fallible_with_capacity(2)?;
     printing::push(

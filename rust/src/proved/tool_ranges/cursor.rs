@@ -1,5 +1,5 @@
 // Made by tools/erase.py from crates/tool_ranges/src/cursor.rt; not edited by hand.
-//! The terms of a range text, one after the other, in each dialect. Nothing here allocates.
+//! Reads the terms of a range one after the other, in each dialect. Nothing here allocates.
 
 use crate::rattle_std::prelude::*;
 use crate::proved::tool_ranges::cargo::{MOST_COMPARATORS, read_comparator};
@@ -11,28 +11,32 @@ use crate::proved::semver_ranges::grammar::Simple;
 use crate::proved::semver_ranges::partial::LowerBounds;
 use crate::proved::semver_texts::grammar::Grammar;
 
-/// What is left of the comparators of a requirement.
+/// The comparators of a requirement that are still to be read.
 #[derive(Clone, Copy)]
 pub(crate) struct Comparators<'text> {
-    /// What follows the last comma, or the whole text. None at the end.
+    /// What follows the last comma, or the whole string at first. `None` at the end.
     rest: Option<&'text [u8]>,
-    /// How many more may come.
+    /// How many more comparators are allowed.
     more: usize,
-    /// Whether none has come yet.
+    /// Whether no comparator has been read yet.
     is_first: bool,
 }
 
-/// What is left of a range text.
+/// The part of a range string that is still to be read.
 #[derive(Clone, Copy)]
 pub(crate) enum Cursor<'text> {
-    /// The comparators of a requirement of Cargo.
+    /// The comparators of a requirement in Cargo's dialect.
     Requirement(Comparators<'text>),
     /// The ranges of the other dialects.
     Ranges(Events<'text>),
 }
 
 impl<'text> Cursor<'text> {
-    /// Returns the cursor at the beginning of a text, if each of its characters may be in a range.
+    /// Returns the cursor at the beginning of a string.
+    ///
+    /// # Errors
+    ///
+    /// `NotARange` if the string has a character that can't be in a range.
     #[inline(always)]
     pub(crate) fn new(
         text: &'text str,
@@ -58,8 +62,8 @@ impl<'text> Cursor<'text> {
         }
     }
 
-    /// Returns the next term, or that the next range begins, or an error if the text isn't in the
-    /// grammar. Returns `None` at the end.
+    /// Returns the next term, or the event that the next range begins, or an error if the string
+    /// isn't in the grammar. Returns `None` at the end.
     #[inline(always)]
     pub(crate) fn next(&mut self, grammar: Grammar) -> Option<Result<Event<'text>, RangeError>> {
         match self {
@@ -88,8 +92,8 @@ impl<'text> Comparators<'text> {
         }
     }
 
-    /// Returns the comparator at the beginning of a text, if one may come there, and what follows
-    /// its comma.
+    /// Returns the comparator at the beginning of a string, if one is allowed there, and what
+    /// follows its comma.
     #[inline(always)]
     fn read(&self, rest: &'text [u8]) -> Option<(Simple<'text>, Option<&'text [u8]>)> {
         if self.more == 0 {
@@ -102,7 +106,7 @@ impl<'text> Comparators<'text> {
         Some((simple, after))
     }
 
-    /// Returns whether a comparator may come. One that states no number has to be the only one.
+    /// Returns whether a comparator is allowed. One without a number has to be the only one.
     #[inline(always)]
     fn may_come(&self, simple: &Simple<'_>, after: Option<&[u8]>) -> bool {
         !simple.partial.states_nothing() || (self.is_first && after.is_none())

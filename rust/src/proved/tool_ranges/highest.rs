@@ -1,14 +1,15 @@
 // Made by tools/erase.py from crates/tool_ranges/src/highest.rt; not edited by hand.
-//! Which of many version strings is the highest that a range contains, or the lowest.
+//! Finds the highest or the lowest of many version strings that a range contains.
 
 use crate::rattle_std::prelude::*;
 use crate::proved::tool_ranges::version_range::VersionRange;
 use crate::proved::semver_versions::version::{Outline, outline_in};
 
 impl VersionRange {
-    /// Returns the index of the highest of many versions that the range contains, by precedence
-    /// (SemVer 2.0.0, section 11), the first of equal ones, or `None` if it contains none of them.
-    /// Strings that aren't versions of the dialect are skipped. It does not allocate.
+    /// Returns the index of the highest of the given versions that the range contains, or `None` if
+    /// it contains none of them. Versions are compared by precedence (SemVer 2.0.0, section 11),
+    /// and the first of equal versions is chosen. Strings that are invalid versions in the range's
+    /// dialect are skipped. It does not allocate.
     ///
     /// ```
     /// use semver_parser::{Dialect, VersionRange};
@@ -24,8 +25,8 @@ impl VersionRange {
         best_index(self, versions, false)
     }
 
-    /// Returns the index of the lowest of many versions that the range contains, as
-    /// [`VersionRange::highest_of`] that of the highest.
+    /// Returns the index of the lowest of the given versions that the range contains. It is
+    /// otherwise like [`VersionRange::highest_of`].
     ///
     /// ```
     /// use semver_parser::{Dialect, VersionRange};
@@ -39,9 +40,10 @@ impl VersionRange {
         best_index(self, versions, true)
     }
 
-    /// Returns the highest of the versions that the range contains, by precedence (SemVer 2.0.0,
-    /// section 11), the first of equal ones, or `None` if it contains none of them. Strings that
-    /// aren't versions of the dialect are skipped. It does not allocate.
+    /// Returns the highest of the given versions that the range contains, or `None` if it contains
+    /// none of them. Versions are compared by precedence (SemVer 2.0.0, section 11), and the first
+    /// of equal versions is returned. Strings that are invalid versions in the range's dialect are
+    /// skipped. It does not allocate.
     pub(crate) fn highest_among<'v, I: Iterator<Item = &'v str> >(
         &self,
         versions: I,
@@ -49,8 +51,8 @@ impl VersionRange {
         best_string(self, versions, false)
     }
 
-    /// Returns the lowest of the versions that the range contains, as
-    /// [`VersionRange::highest_among`] the highest.
+    /// Returns the lowest of the given versions that the range contains. It is otherwise like
+    /// [`VersionRange::highest_among`].
     pub(crate) fn lowest_among<'v, I: Iterator<Item = &'v str> >(
         &self,
         versions: I,
@@ -59,7 +61,7 @@ impl VersionRange {
     }
 }
 
-/// The highest of some strings, or the lowest if `lowest`.
+/// Returns the highest of some strings, or the lowest if `lowest`.
 fn best_string<'v, I: Iterator<Item = &'v str> >(
     range: &VersionRange,
     versions: I,
@@ -79,7 +81,7 @@ fn best_string<'v, I: Iterator<Item = &'v str> >(
     found
 }
 
-/// The index of the highest, or of the lowest if `lowest`.
+/// Returns the index of the highest version, or of the lowest if `lowest`.
 fn best_index(range: &VersionRange, versions: &[&[u8]], lowest: bool) -> Option<usize> {
     let mut found = 0;
     let mut best: Option<Outline<'_>> = None;
@@ -98,7 +100,7 @@ fn best_index(range: &VersionRange, versions: &[&[u8]], lowest: bool) -> Option<
     }
 }
 
-/// The outline of a version that a range contains.
+/// Returns a string as a borrowed version, if it is one that a range contains.
 #[inline(always)]
 fn member<'t>(range: &VersionRange, version: &'t [u8]) -> Option<Outline<'t>> {
     let outline = outline_in(version, range.meaning.dialect.grammar())?;
@@ -108,7 +110,8 @@ fn member<'t>(range: &VersionRange, version: &'t [u8]) -> Option<Outline<'t>> {
     Some(outline)
 }
 
-/// Whether a version is above the best one so far, if there is one, or below it if `lowest`.
+/// Returns whether a version is above the best one so far, or below it if `lowest`. It is true if
+/// there is no best one yet.
 fn is_above(version: &Outline<'_>, best: &Option<Outline<'_>>, lowest: bool) -> bool {
     let Some(best) = best else {
         return true;

@@ -1,5 +1,5 @@
 // Made by tools/erase.py from crates/tool_ranges/src/meaning.rt; not edited by hand.
-//! What a range text means: in which dialect, and with which pre-releases.
+//! The meaning of a range string: its dialect, and which pre-releases satisfy it.
 
 use crate::rattle_std::prelude::*;
 use crate::proved::tool_ranges::dialect::Dialect;
@@ -9,8 +9,8 @@ use crate::proved::semver_ranges::RangeError;
 use crate::proved::semver_versions::version::Outline;
 use crate::proved::version_sets::{PreReleases, VersionSet};
 
-/// The dialect of a range string, and which pre-releases satisfy it (page `docs::meaning`). Each
-/// dialect has the same three rules for pre-releases.
+/// The dialect of a range string, and which pre-releases satisfy it (page `docs::meaning`). The
+/// three rules for pre-releases are the same in every dialect.
 ///
 /// ```
 /// use semver_parser::{sets, Dialect, Meaning, PreReleases};
@@ -22,39 +22,42 @@ use crate::proved::version_sets::{PreReleases, VersionSet};
 /// ```
 #[derive(Clone, Copy, PartialEq, Eq, Hash, Debug)]
 pub struct Meaning {
-    /// Whose rules the text follows.
+    /// The dialect in which the string is read.
     pub dialect: Dialect,
-    /// Which pre-releases count: with `Default` those that Cargo and npm match by default, with
-    /// `Included` each within the bounds, as with node-semver's `includePrerelease`.
+    /// Which pre-releases count. With `Default` these are the ones that Cargo and npm match by
+    /// default; with `Included`, every one within the bounds, as with node-semver's
+    /// `includePrerelease`; with `Excluded`, none.
     pub pre_releases: PreReleases,
 }
 
-/// Reads a range text into the set of the versions that it means.
+/// Reads a range string into the set of the versions that satisfy it.
 ///
-/// `^1.2.0, <1.5` has 1.4.0 in Cargo's dialect, and is refused in the others. With
-/// `PreReleases::Included` the set of `^1.2` begins with 1.2.0-0, and `*` is every version.
+/// The set of `^1.2.0, <1.5` contains 1.4.0 in Cargo's dialect; in the others that string is not a
+/// range. In Cargo's and npm's dialects, with `PreReleases::Included`, the set of `^1.2` begins
+/// with 1.2.0-0, and that of `*` contains every version.
 ///
 /// # Errors
 ///
-/// `NotARange` exactly where the dialect has no such text, and `NumberTooLarge` exactly where it
-/// has, and a number that it states or a bound that is raised by one is above 2^64 - 1, or in npm's
-/// dialect above 2^53 - 1. These two do not allocate; `OutOfMemory` comes only in place of a set.
+/// - `NotARange` if the string is not a range in the dialect.
+/// - `NumberTooLarge` if it is a range, but one of its numbers, or a bound that is raised by one,
+///   is above 2^64 - 1, or above 2^53 - 1 in npm's dialect.
+/// - `OutOfMemory` if an allocation fails. The first two errors are returned without allocating.
 pub fn read(meaning: Meaning, range: &str) -> Result<VersionSet, RangeError> {
     sets::read(range, meaning.dialect, meaning.pre_releases)
 }
 
-/// Returns whether a version satisfies a range: 1.9.0 satisfies `^1.2` in each dialect, 2.0.0 in
-/// none, and `>=1.2.3, <2` is a range in Cargo's alone.
+/// Returns whether a version satisfies a range. 1.9.0 satisfies `^1.2` in every dialect and 2.0.0
+/// in none; `>=1.2.3, <2` is a range only in Cargo's.
 ///
-/// The range is read once, from the left to the right, and nothing is allocated. For many versions
-/// and one range, read a [`VersionRange`](crate::proved::tool_ranges::version_range::VersionRange). The page
+/// The range is read once, from left to right, and nothing is allocated. To check many versions
+/// against one range, read a [`VersionRange`](crate::proved::tool_ranges::version_range::VersionRange). The page
 /// `docs::meaning` defines which versions satisfy each range.
 ///
 /// # Errors
 ///
-/// Those of [`read`], without `OutOfMemory`: `NotARange` exactly if the dialect has no such
-/// text, and `NumberTooLarge` exactly if it has, and a number that it states or a bound that
-/// is raised by one is above the dialect's limit.
+/// The errors of [`read`], except `OutOfMemory`: `NotARange` if the string is not a range in the
+/// dialect, and `NumberTooLarge` if it is a range, but one of its numbers, or a bound that is
+/// raised by one, is above the dialect's limit.
 #[inline(always)]
 pub fn satisfies(version: &Outline<'_>, range: &str, meaning: Meaning) -> Result<bool, RangeError> {
     let rule = meaning.pre_releases;
@@ -66,8 +69,8 @@ pub fn satisfies(version: &Outline<'_>, range: &str, meaning: Meaning) -> Result
     }
 }
 
-/// Returns whether a range text is read at all, with the errors of [`satisfies`]: `^1.2` is, and `1
-/// ||` isn't in Cargo's dialect. It does not allocate.
+/// Checks that a string is a range, with the errors of [`satisfies`]: `^1.2` is one, and `1 ||`
+/// isn't in Cargo's dialect. It does not allocate.
 #[inline(never)]
 pub fn check(meaning: Meaning, range: &str) -> Result<(), RangeError> {
     matching::check(range, meaning.dialect)

@@ -1,5 +1,6 @@
 // Made by tools/erase.py from crates/tool_ranges/src/lib.rt; not edited by hand.
-//! Range texts as Cargo and npm themselves read them, which differs from the port's two modes.
+//! Ranges as Cargo and npm themselves read them, which differs from the two modes of the crate
+//! `semver-parser`.
 
 use crate::rattle_std::prelude::*;
 pub mod cargo;

@@ -1,5 +1,5 @@
 // Made by tools/erase.py from crates/tool_ranges/src/overflow_offset.rt; not edited by hand.
-//! Where a number of a range text is too large.
+//! Finds the number of a range string that is too large.
 
 use crate::rattle_std::prelude::*;
 use crate::proved::tool_ranges::dialect::Dialect;
@@ -10,8 +10,9 @@ use crate::proved::semver_texts::bytes::run_len;
 use crate::proved::semver_texts::decimals::number_of_digits;
 use crate::proved::semver_texts::dotted::split_at_dot;
 
-/// Returns where the number is, in the first term that does not fit, that is above the limit of the
-/// dialect or can't be raised: 1 in `=18446744073709551616 || 1`. It does not allocate.
+/// Returns the offset of the number that is too large: the first number, in the first term that
+/// doesn't fit, that is above the limit of the dialect or can't be raised. It is 1 in
+/// `=18446744073709551616 || 1`. It does not allocate.
 pub(crate) fn limit_offset(dialect: Dialect, text: &str) -> usize {
     let begin = begin_of_word(text.as_bytes(), fitting(text, dialect));
     begin + number_at(&text.as_bytes()[begin..], limit(dialect))
@@ -26,7 +27,8 @@ pub(crate) fn limit_reason(dialect: Dialect, text: &[u8]) -> Reason {
     }
 }
 
-/// Returns where the word begins that states a number after so many others, or the last word.
+/// Returns the offset of the word with a number that comes after `others` other such words. If
+/// there are fewer words, it is the offset of the last word.
 fn begin_of_word(text: &[u8], others: u128) -> usize {
     let mut begin = 0;
     let mut left = others;
@@ -47,8 +49,8 @@ fn begin_of_word(text: &[u8], others: u128) -> usize {
     }
 }
 
-/// Returns where the first number is, of a version at the beginning of a text, that isn't below a
-/// limit.
+/// Returns the offset of the first number that isn't below a limit, in the version at the beginning
+/// of a string.
 fn number_at(text: &[u8], limit: u64) -> usize {
     match text {
         [b'v', components @ ..] => 1 + component_at(components, limit),
@@ -56,7 +58,7 @@ fn number_at(text: &[u8], limit: u64) -> usize {
     }
 }
 
-/// Returns where the first component begins that isn't below a limit, or the last one.
+/// Returns the offset of the first component that isn't below a limit, or of the last one.
 fn component_at(components: &[u8], limit: u64) -> usize {
     let mut begin = 0;
     let mut rest = components;
@@ -81,7 +83,7 @@ fn is_below(component: &[u8], limit: u64) -> bool {
     }
 }
 
-/// The word at the begin of a text, and what follows the byte after it.
+/// Returns the word at the beginning of a string, and what follows the byte after it.
 fn split_word(text: &[u8]) -> (&[u8], Option<&[u8]>) {
     for at in 0..text.len() {
         if is_separator(text[at]) {
@@ -91,12 +93,12 @@ fn split_word(text: &[u8]) -> (&[u8], Option<&[u8]>) {
     (text, None)
 }
 
-/// Whether a byte separates words.
+/// Returns whether a byte separates words.
 pub(crate) fn is_separator(byte: u8) -> bool {
     !(byte.is_ascii_alphanumeric() || matches!(byte, b'-' | b'.' | b'+' | b'*'))
 }
 
-/// Whether a word states a number.
+/// Returns whether a word begins with a number, or with `v` and a number.
 fn states_number(word: &[u8]) -> bool {
     match word {
         [first] => first.is_ascii_digit(),

@@ -1,11 +1,11 @@
 // Made by tools/erase.py from crates/tool_ranges/src/range_operations.rt; not edited by hand.
-//! What two ranges of one meaning contain together, and how they compare.
+//! Set operations on ranges with the same meaning, and comparisons.
 
 use crate::rattle_std::prelude::*;
 use crate::proved::tool_ranges::version_range::VersionRange;
 use crate::proved::version_sets::SetError;
 
-/// Why two ranges can't be combined or compared.
+/// The error of an operation on two ranges.
 ///
 /// ```
 /// use semver_parser::{Dialect, OperationError, VersionRange};
@@ -18,10 +18,10 @@ use crate::proved::version_sets::SetError;
 #[derive(Clone, Copy, PartialEq, Eq, Debug)]
 #[non_exhaustive]
 pub enum OperationError {
-    /// The dialects of the ranges differ, or which pre-releases count.
+    /// The ranges differ in their dialects, or in which pre-releases count.
     DifferentMeanings,
-    /// They read identifiers of digits alone from 2^64 on differently: to Cargo and npm these are
-    /// numbers, and to the crate they are texts.
+    /// The dialects read numeric identifiers above 2^64 - 1 differently: to Cargo and npm they are
+    /// numbers, and to the crate `semver-parser` they are alphanumerics.
     DifferentDigits,
     /// An allocation failed.
     OutOfMemory,
@@ -41,12 +41,12 @@ impl crate::rattle_std::fmt::Display for OperationError {
 impl crate::rattle_std::Error for OperationError {}
 
 impl VersionRange {
-    /// Returns the range of the versions of one or the other.
+    /// Returns the range of the versions that are in either range.
     ///
     /// # Errors
     ///
-    /// `DifferentMeanings` if the dialects differ, or which pre-releases count; `OutOfMemory` if an
-    /// allocation failed.
+    /// `DifferentMeanings` if the ranges differ in their dialects, or in which pre-releases count;
+    /// `OutOfMemory` if an allocation failed.
     ///
     /// ```
     /// use semver_parser::{Dialect, VersionRange};
@@ -70,12 +70,12 @@ impl VersionRange {
         }
     }
 
-    /// Returns the range of the versions of both.
+    /// Returns the range of the versions that are in both ranges.
     ///
     /// # Errors
     ///
-    /// `DifferentMeanings` if the dialects differ, or which pre-releases count; `OutOfMemory` if an
-    /// allocation failed.
+    /// `DifferentMeanings` if the ranges differ in their dialects, or in which pre-releases count;
+    /// `OutOfMemory` if an allocation failed.
     ///
     /// ```
     /// use semver_parser::{Dialect, VersionRange};
@@ -102,12 +102,12 @@ impl VersionRange {
         }
     }
 
-    /// Returns the range of the versions that the other doesn't contain.
+    /// Returns the range of the versions that are in this range, but not in the other.
     ///
     /// # Errors
     ///
-    /// `DifferentMeanings` if the dialects differ, or which pre-releases count; `OutOfMemory` if an
-    /// allocation failed.
+    /// `DifferentMeanings` if the ranges differ in their dialects, or in which pre-releases count;
+    /// `OutOfMemory` if an allocation failed.
     ///
     /// ```
     /// use semver_parser::{Dialect, VersionRange};
@@ -134,14 +134,14 @@ impl VersionRange {
         }
     }
 
-    /// Returns whether the other range contains each version that this one does. Their meanings may
-    /// differ. It does not allocate.
+    /// Returns whether the other range contains every version that this one does. Their meanings
+    /// may differ. It does not allocate.
     ///
     /// # Errors
     ///
-    /// `DifferentDigits` if one range is in a dialect of the crate and the other in Cargo's or
-    /// npm's, and no other: a version with an identifier of digits alone from 2^64 on isn't the
-    /// same to both.
+    /// Only `DifferentDigits`, if one range is in a dialect of the crate `semver-parser` and the
+    /// other in Cargo's or npm's: a version with a numeric identifier above 2^64 - 1 isn't the same
+    /// to both.
     ///
     /// ```
     /// use semver_parser::{Dialect, OperationError, VersionRange};
@@ -167,7 +167,7 @@ impl VersionRange {
     ///
     /// # Errors
     ///
-    /// Those of [`VersionRange::is_subset`].
+    /// The errors of [`VersionRange::is_subset`].
     ///
     /// ```
     /// use semver_parser::{Dialect, VersionRange};
@@ -185,7 +185,7 @@ impl VersionRange {
 }
 
 impl PartialEq for VersionRange {
-    /// Whether both ranges have the same meaning and contain the same versions. It does not
+    /// Returns whether both ranges have the same meaning and contain the same versions. It does not
     /// allocate.
     ///
     /// ```

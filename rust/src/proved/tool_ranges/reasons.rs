@@ -1,7 +1,8 @@
 // Made by tools/erase.py from crates/tool_ranges/src/reasons.rt; not edited by hand.
-//! Why a text stops being a range at an offset: what another dialect takes there, which rule of the
-//! dialect is broken, or what is missing. The dialect itself says whether the text before the
-//! offset is a range, and whether it ends within an identifier; the bytes at its end say the rest.
+//! Why a string stops being a range at an offset: another dialect allows what is there, a rule of
+//! the dialect is broken, or something is missing. The dialect's own reader decides whether the
+//! string before the offset is a range, and whether it ends within an identifier; the rest is
+//! decided by its last bytes.
 
 use crate::rattle_std::prelude::*;
 use crate::proved::tool_ranges::dialect::Dialect;
@@ -14,7 +15,7 @@ use crate::proved::semver_texts::bytes::is_part_byte;
 use crate::proved::semver_texts::npm_limits::MAX_SAFE_BUILD_LENGTH;
 use crate::rattle_std::AllocError;
 
-/// Why a text stops being a range at an offset.
+/// Returns why a string stops being a range at an offset.
 pub(crate) fn reason_at(
     dialect: Dialect,
     text: &str,
@@ -29,7 +30,8 @@ pub(crate) fn reason_at(
     Ok(reason_by(dialect, complete, letter, prefix.as_bytes(), next))
 }
 
-/// The reason, by whether the prefix is a range text, and whether a letter after it makes one.
+/// Returns the reason. `complete` is whether the prefix is a range, and `letter` whether it is one
+/// with a letter appended.
 fn reason_by(
     dialect: Dialect,
     complete: bool,
@@ -51,7 +53,7 @@ fn reason_by(
     }
 }
 
-/// What is missing at the end of a text.
+/// Returns what is missing at the end of a string.
 fn reason_at_end(letter: bool, prefix: &[u8]) -> Reason {
     let last = from_end(prefix, 0);
     if is_spaces(prefix) {
@@ -69,7 +71,7 @@ fn reason_at_end(letter: bool, prefix: &[u8]) -> Reason {
     }
 }
 
-/// What may have been meant to Cargo, or the other reason.
+/// Returns the reason in Cargo's dialect: what may have been meant, or else `other`.
 fn of_cargo(complete: bool, letter: bool, prefix: &[u8], byte: u8, other: Reason) -> Reason {
     let last = from_end(prefix, 0);
     let after_space = last == b' ';
@@ -90,8 +92,8 @@ fn of_cargo(complete: bool, letter: bool, prefix: &[u8], byte: u8, other: Reason
     }
 }
 
-/// Why Cargo takes no comma after a requirement: it is a wildcard, or has all comparators that may
-/// come.
+/// Returns why Cargo allows no comma after a requirement: it is a wildcard, or it already has the
+/// maximum number of comparators.
 fn of_comma(prefix: &[u8]) -> Reason {
     if has_no_digit(prefix) {
         Reason::CargoWildcard
@@ -100,7 +102,7 @@ fn of_comma(prefix: &[u8]) -> Reason {
     }
 }
 
-/// The same to npm.
+/// Returns the reason in npm's dialect: what may have been meant, or else `other`.
 fn of_npm(complete: bool, letter: bool, prefix: &[u8], byte: u8, other: Reason) -> Reason {
     let is_dotted = is_part_byte(byte) || byte == b'.';
     if is_dotted && (!is_open(complete, letter) && is_long(prefix)) {
@@ -112,7 +114,7 @@ fn of_npm(complete: bool, letter: bool, prefix: &[u8], byte: u8, other: Reason) 
     }
 }
 
-/// The same to the crate.
+/// Returns the reason in a dialect of the crate: what may have been meant, or else `other`.
 fn of_crate(prefix: &[u8], byte: u8, other: Reason) -> Reason {
     if byte == b',' {
         Reason::CrateComma
@@ -123,7 +125,7 @@ fn of_crate(prefix: &[u8], byte: u8, other: Reason) -> Reason {
     }
 }
 
-/// What is wrong to each dialect.
+/// Returns the reason that is the same in each dialect.
 fn of_any(complete: bool, letter: bool, prefix: &[u8], byte: u8) -> Reason {
     if matches!(byte, b'-' | b'+') && (ends_in_component(prefix) && !letter) {
         Reason::NotThreeNumbers
@@ -136,23 +138,23 @@ fn of_any(complete: bool, letter: bool, prefix: &[u8], byte: u8) -> Reason {
     }
 }
 
-/// Whether the prefix ends within an identifier that is empty, or has a leading zero.
+/// Returns whether the prefix ends within an identifier that is empty or has a leading zero.
 fn is_open(complete: bool, letter: bool) -> bool {
     letter && !complete
 }
 
-/// Whether a number or a wildcard is to come, or the second of two bars.
+/// Returns whether a number or a wildcard has to follow, or the second of two bars.
 fn is_begun(complete: bool, letter: bool) -> bool {
     !complete && !letter
 }
 
-/// Whether the identifier has a leading zero, or the number before a digit.
+/// Returns whether the identifier has a leading zero, or the number before a digit has.
 fn has_leading_zero(complete: bool, letter: bool, prefix: &[u8], byte: u8) -> bool {
     (is_open(complete, letter) && from_end(prefix, 0).is_ascii_digit())
         || (byte.is_ascii_digit() && (ends_in_zero(prefix) && !letter))
 }
 
-/// Whether a number is to come, and the byte begins none.
+/// Returns whether a number has to follow, but the byte doesn't begin one.
 fn expects_number(complete: bool, letter: bool, prefix: &[u8], byte: u8) -> bool {
     let last = from_end(prefix, 0);
     is_begun(complete, letter)
@@ -160,18 +162,19 @@ fn expects_number(complete: bool, letter: bool, prefix: &[u8], byte: u8) -> bool
         && !(is_spaces(prefix) || (last == b'|' || last == b'-'))
 }
 
-/// Whether it is nothing but spaces.
+/// Returns whether a prefix consists of only spaces.
 fn is_spaces(prefix: &[u8]) -> bool {
     prefix.iter().all(|byte| *byte == b' ')
 }
 
-/// Whether it ends in a digit or a wildcard.
+/// Returns whether a prefix ends in a digit or a wildcard.
 fn ends_in_component(prefix: &[u8]) -> bool {
     let last = from_end(prefix, 0);
     last.is_ascii_digit() || is_wildcard(last)
 }
 
-/// Whether it ends in one word that is at least as long as the smallest of npm's limits.
+/// Returns whether a prefix ends in one word that is at least as long as the smallest of npm's
+/// limits.
 fn is_long(prefix: &[u8]) -> bool {
     if prefix.len() < MAX_SAFE_BUILD_LENGTH {
         return false;
@@ -179,27 +182,27 @@ fn is_long(prefix: &[u8]) -> bool {
     is_word(&prefix[prefix.len() - MAX_SAFE_BUILD_LENGTH..])
 }
 
-/// Whether no byte of it separates words.
+/// Returns whether no byte separates words.
 fn is_word(bytes: &[u8]) -> bool {
     bytes.iter().all(|byte| !is_separator(*byte))
 }
 
-/// Whether an operator begins with the byte.
+/// Returns whether an operator begins with the byte.
 fn is_operator(byte: u8) -> bool {
     matches!(byte, b'<'..=b'>' | b'^' | b'~')
 }
 
-/// Whether the byte is a wildcard.
+/// Returns whether the byte is a wildcard.
 fn is_wildcard(byte: u8) -> bool {
     matches!(byte, b'x' | b'X' | b'*')
 }
 
-/// Whether a comparator without operator begins with the byte.
+/// Returns whether a comparator without an operator begins with the byte.
 fn begins_partial(byte: u8) -> bool {
     byte.is_ascii_digit() || is_wildcard(byte)
 }
 
-/// Whether an identifier may end before the byte.
+/// Returns whether an identifier may end before the byte.
 fn ends_identifier(byte: u8) -> bool {
     prefix_bytes::is_separator(byte) || matches!(byte, b'|' | b',')
 }

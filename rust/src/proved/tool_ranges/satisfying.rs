@@ -1,12 +1,12 @@
 // Made by tools/erase.py from crates/tool_ranges/src/satisfying.rt; not edited by hand.
-//! Whether a version satisfies a range, of two texts.
+//! Decides whether a version satisfies a range, both given as strings.
 
 use crate::rattle_std::prelude::*;
 use crate::proved::tool_ranges::meaning::{self, Meaning};
 use crate::proved::semver_ranges::RangeError;
 use crate::proved::semver_versions::version::outline_in;
 
-/// Which of a version and a range is invalid.
+/// Whether the version or the range is invalid.
 ///
 /// ```
 /// use semver_parser::{satisfies_bytes, Dialect};
@@ -16,9 +16,9 @@ use crate::proved::semver_versions::version::outline_in;
 /// ```
 #[derive(Clone, Copy, PartialEq, Eq, Debug)]
 pub enum SatisfiesError {
-    /// The version isn't one in the dialect.
+    /// The version is invalid in the dialect.
     InvalidVersion,
-    /// The range isn't one in the dialect, or one of its numbers is too large.
+    /// The string is not a range in the dialect, or one of its numbers is too large.
     InvalidRange(RangeError),
 }
 
@@ -34,13 +34,13 @@ impl crate::rattle_std::fmt::Display for SatisfiesError {
 #[cfg(feature = "std")]
 impl crate::rattle_std::Error for SatisfiesError {}
 
-/// Returns whether a version satisfies a range: each is read by the dialect of the meaning. It does
-/// not allocate.
+/// Returns whether a version satisfies a range, both in the dialect of the meaning. It does not
+/// allocate.
 ///
 /// # Errors
 ///
-/// `InvalidVersion` if the version isn't one in the dialect, or else `InvalidRange` if the range
-/// isn't, or one of its numbers is too large.
+/// `InvalidVersion` if the version is invalid in the dialect; otherwise `InvalidRange` if the range
+/// is invalid, or one of its numbers is too large.
 #[inline(always)]
 pub fn satisfies(version: &[u8], range: &str, meaning: Meaning) -> Result<bool, SatisfiesError> {
     let Some(outline) = outline_in(version, meaning.dialect.grammar()) else {

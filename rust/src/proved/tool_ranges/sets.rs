@@ -1,5 +1,5 @@
 // Made by tools/erase.py from crates/tool_ranges/src/sets.rt; not edited by hand.
-//! A range text as the set of the versions that it means.
+//! A range string as the set of the versions that satisfy it.
 
 use crate::rattle_std::prelude::*;
 use crate::proved::tool_ranges::cursor::Cursor;
@@ -14,8 +14,8 @@ use crate::proved::semver_ranges::partial::Partial;
 use crate::rattle_std::AllocError;
 use crate::proved::version_sets::{Conjunction, PreReleases, Ranges, Release, VersionSet};
 
-/// Reads a range into the set of the versions that it means. The text is checked first, so that an
-/// invalid one doesn't allocate.
+/// Reads a range into the set of the versions that satisfy it. The string is checked first, so
+/// nothing is allocated for an invalid one.
 pub(crate) fn read(
     range: &str,
     dialect: Dialect,
@@ -34,7 +34,7 @@ pub(crate) fn read(
     }
 }
 
-/// Returns the set of a text that has one. `Err` is out of memory.
+/// Returns the set of a string that has one. `Err` means out of memory.
 fn set_of(
     range: &str,
     dialect: Dialect,
@@ -55,15 +55,15 @@ fn set_of(
     building.into_set(dialect, rule)
 }
 
-/// What is known after some terms of a range text.
+/// What is known after some terms of a range string.
 pub(crate) struct Building<'text> {
     /// The versions of earlier ranges.
     ranges: Ranges<'text>,
-    /// The versions that satisfy the terms of this range so far.
+    /// The versions that satisfy the terms of the current range so far.
     here: Conjunction<'text>,
-    /// The numbers that the terms of this range state together with a pre-release.
+    /// The numbers of the terms of the current range that name a pre-release.
     stated: Vec<Release>,
-    /// Whether this range matches everything so far.
+    /// Whether the current range matches everything so far.
     nothing: bool,
     /// Whether an earlier range matches everything.
     every: bool,
@@ -81,7 +81,7 @@ impl<'text> Building<'text> {
         }
     }
 
-    /// Adds a term. `Err` is out of memory.
+    /// Adds a term. `Err` means out of memory.
     fn push_term(
         &mut self,
         simple: &Simple<'text>,
@@ -100,7 +100,7 @@ impl<'text> Building<'text> {
         Ok(())
     }
 
-    /// Ends a range. `Err` is out of memory.
+    /// Ends a range. `Err` means out of memory.
     fn end_range(&mut self, all: bool) -> Result<(), AllocError> {
         self.ranges.push_releases(&self.here)?;
         push_pre_releases(&mut self.ranges, &self.here, &self.stated, all)?;
@@ -113,7 +113,7 @@ impl<'text> Building<'text> {
 }
 
 impl Building<'_> {
-    /// Returns the set at the end of the text. `Err` is out of memory.
+    /// Returns the set at the end of the string. `Err` means out of memory.
     fn into_set(
         self,
         dialect: Dialect,
@@ -133,7 +133,7 @@ impl Building<'_> {
     }
 }
 
-/// Adds the pre-releases of a range that count. `Err` is out of memory.
+/// Adds the pre-releases of a range that count. `Err` means out of memory.
 fn push_pre_releases<'text>(
     ranges: &mut Ranges<'text>,
     here: &Conjunction<'text>,
@@ -149,7 +149,7 @@ fn push_pre_releases<'text>(
     Ok(())
 }
 
-/// Returns the numbers of a partial that states three of them and a pre-release.
+/// Returns the numbers of a partial version, if it names all three and a pre-release.
 fn stated_numbers(partial: &Partial<'_>) -> Option<Release> {
     if partial.has_pre_release() && partial.states_three() {
         Some(numbers(partial))
@@ -158,8 +158,8 @@ fn stated_numbers(partial: &Partial<'_>) -> Option<Release> {
     }
 }
 
-/// Returns whether each release satisfies the text, and no pre-release, if some range matches
-/// everything.
+/// Returns whether, if some range matches everything, every release satisfies the string and no
+/// pre-release does.
 fn is_by_default_of_npm(dialect: Dialect, rule: PreReleases) -> bool {
     matches!(dialect, Dialect::Npm) && !takes_all(rule)
 }

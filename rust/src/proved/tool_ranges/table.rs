@@ -1,10 +1,11 @@
 // Made by tools/erase.py from crates/tool_ranges/src/table.rt; not edited by hand.
-//! The table of the interval of each term, in each dialect.
+//! The table with the interval of each term, in each dialect.
 //!
-//! The numbers that a term states have a block of versions: all versions with these numbers. `<`
-//! contains the versions below the block, and `<=` those that aren't above it. `>=` contains the
-//! versions that aren't below it, and `>` those above it. `=` contains the block itself. `~` and
-//! `^` go from the beginning of the block to the end of the block of fewer numbers.
+//! The numbers of a term have a block of versions: all versions with these numbers. `<` contains
+//! the versions below the block, and `<=` those that aren't above it. `>=` contains the versions
+//! that aren't below it, and `>` those above it. `=` contains the block itself. `~` and `^` contain
+//! the versions from the beginning of the block to the end of a larger block, that of fewer
+//! numbers.
 
 use crate::rattle_std::prelude::*;
 use crate::proved::tool_ranges::dialect::Dialect;
@@ -19,7 +20,7 @@ pub(crate) fn bounds<'t>(simple: &Simple<'t>, dialect: Dialect) -> Interval<'t> 
     between(&simple.partial, sides(simple, dialect))
 }
 
-/// Returns the interval between two sides of the zero-filled version of a partial.
+/// Returns the interval between two sides of the zero-filled version of a partial version.
 #[inline(always)]
 fn between<'t>(partial: &Partial<'t>, sides: (Option<Side>, Option<Side>)) -> Interval<'t> {
     Interval {
@@ -28,7 +29,7 @@ fn between<'t>(partial: &Partial<'t>, sides: (Option<Side>, Option<Side>)) -> In
     }
 }
 
-/// Returns the cut at a side of the zero-filled version of a partial, if there is a side.
+/// Returns the cut at a side of the zero-filled version of a partial version, if there is a side.
 #[inline(always)]
 fn beside<'t>(partial: &Partial<'t>, side: Option<Side>) -> Option<Cut<'t>> {
     match side {
@@ -37,7 +38,7 @@ fn beside<'t>(partial: &Partial<'t>, side: Option<Side>) -> Option<Cut<'t>> {
     }
 }
 
-/// Returns the cut at a side of the zero-filled version of a partial.
+/// Returns the cut at a side of the zero-filled version of a partial version.
 #[inline(always)]
 fn cut<'t>(partial: &Partial<'t>, side: Side) -> Cut<'t> {
     Cut {
@@ -47,7 +48,7 @@ fn cut<'t>(partial: &Partial<'t>, side: Side) -> Cut<'t> {
     }
 }
 
-/// Returns the interval in which a pre-release satisfies a term, if it counts by default.
+/// Returns the interval of the pre-releases that satisfy a term, if they count by default.
 #[inline(always)]
 pub(crate) fn counted<'t>(simple: &Simple<'t>, dialect: Dialect) -> Interval<'t> {
     match dialect {
@@ -57,15 +58,15 @@ pub(crate) fn counted<'t>(simple: &Simple<'t>, dialect: Dialect) -> Interval<'t>
     }
 }
 
-/// Returns the interval for pre-releases by default in Cargo's dialect. No pre-release of the block
-/// of one or two numbers is in it, except for `^`.
+/// Returns the interval for pre-releases by default in Cargo's dialect. If the term has one or two
+/// numbers, no pre-release of its block is in the interval, except for `^`.
 #[inline(always)]
 fn besides_block<'t>(simple: &Simple<'t>) -> Interval<'t> {
     between(&simple.partial, cargo_sides(simple))
 }
 
-/// Returns the sides of the interval for pre-releases in Cargo's dialect. Between the same side
-/// twice there is no version.
+/// Returns the sides of the interval for pre-releases in Cargo's dialect. If both sides are equal,
+/// the interval is empty.
 #[inline(always)]
 fn cargo_sides(simple: &Simple<'_>) -> (Option<Side>, Option<Side>) {
     match simple.partial.kind() {
@@ -75,7 +76,8 @@ fn cargo_sides(simple: &Simple<'_>) -> (Option<Side>, Option<Side>) {
     }
 }
 
-/// Returns these sides for a term of one or two numbers.
+/// Returns the sides of the interval for pre-releases in Cargo's dialect, for a term of one or two
+/// numbers.
 #[inline(always)]
 fn sides_beside(simple: &Simple<'_>) -> (Option<Side>, Option<Side>) {
     match simple.form {
@@ -93,9 +95,9 @@ fn sides_beside(simple: &Simple<'_>) -> (Option<Side>, Option<Side>) {
 }
 
 /// Returns the interval for pre-releases by default in npm's dialect. It begins at the version of
-/// the term, or at the release that is raised above it, where the other interval may begin below
-/// all pre-releases of these numbers. If that version is 0.0.0, there is no lower bound, except for
-/// `=0.0.0`.
+/// the term, or at the release that is raised above it, even if the interval for all versions
+/// begins below all pre-releases of these numbers. If that version is 0.0.0, there is no lower
+/// bound, except for `=0.0.0`.
 #[inline(always)]
 fn from_release<'t>(simple: &Simple<'t>) -> Interval<'t> {
     let (lower, upper) = sides(simple, Dialect::Npm);
@@ -111,9 +113,10 @@ pub(crate) fn is_past(upper: Option<Side>) -> bool {
     matches!(upper, Some(Side::Past))
 }
 
-/// Returns the lower cut of that interval, if it excludes any version. `is_one` says whether the
-/// interval ends directly above the same version, as that of `=0.0.0` does. The raised number
-/// saturates, since this is computed before it is known whether the term fits.
+/// Returns the lower cut of the interval for pre-releases in npm's dialect, if it excludes any
+/// version. `is_one` says whether the interval ends directly above the same version, as that of
+/// `=0.0.0` does. The raised number saturates, since this is computed before it is known whether
+/// the term fits.
 #[inline(always)]
 fn release_of<'t>(partial: &Partial<'t>, lower: Option<Side>, is_one: bool) -> Option<Cut<'t>> {
     match lower {
@@ -129,7 +132,7 @@ fn release_of<'t>(partial: &Partial<'t>, lower: Option<Side>, is_one: bool) -> O
     }
 }
 
-/// Returns whether the zero-filled version is 0.0.0.
+/// Returns whether the zero-filled version of a partial version is 0.0.0.
 #[inline(always)]
 pub(crate) fn is_zero(partial: &Partial<'_>) -> bool {
     partial.major() == 0
@@ -154,8 +157,7 @@ pub(crate) fn raised(partial: &Partial<'_>, place: Place) -> Release {
     }
 }
 
-/// Returns whether the numbers of a term, and those that are raised, are within the limit of a
-/// dialect.
+/// Returns whether the numbers of a term, and the raised ones, are within the limit of a dialect.
 #[inline(always)]
 pub(crate) fn fits(simple: &Simple<'_>, dialect: Dialect) -> bool {
     let most = limit(dialect);
@@ -164,7 +166,7 @@ pub(crate) fn fits(simple: &Simple<'_>, dialect: Dialect) -> bool {
     partial.states_at_most(most) & may_rise(partial, lower, most) & may_rise(partial, upper, most)
 }
 
-/// Returns the highest number of a dialect.
+/// Returns the highest number that a dialect allows.
 #[inline(always)]
 pub(crate) fn limit(dialect: Dialect) -> u64 {
     match dialect {
@@ -173,7 +175,7 @@ pub(crate) fn limit(dialect: Dialect) -> u64 {
     }
 }
 
-/// Returns whether the number that would be raised for a side is below a limit.
+/// Returns whether the number that is raised for a side is below a limit.
 #[inline(always)]
 fn may_rise(partial: &Partial<'_>, side: Option<Side>, most: u64) -> bool {
     match side {
@@ -182,7 +184,7 @@ fn may_rise(partial: &Partial<'_>, side: Option<Side>, most: u64) -> bool {
     }
 }
 
-/// Returns the three numbers of the zero-filled version of a partial.
+/// Returns the three numbers of the zero-filled version of a partial version.
 #[inline(always)]
 pub(crate) fn numbers(partial: &Partial<'_>) -> Release {
     Release {
@@ -192,7 +194,7 @@ pub(crate) fn numbers(partial: &Partial<'_>) -> Release {
     }
 }
 
-/// Returns on which sides of the zero-filled version the interval of a term begins and ends.
+/// Returns the sides of the zero-filled version at which the interval of a term begins and ends.
 #[inline(always)]
 pub(crate) fn sides(simple: &Simple<'_>, dialect: Dialect) -> (Option<Side>, Option<Side>) {
     let first = beginning(simple, dialect);
@@ -220,8 +222,7 @@ pub(crate) fn sides(simple: &Simple<'_>, dialect: Dialect) -> (Option<Side>, Opt
     }
 }
 
-/// Returns the sides for a term that states no number. In Cargo's dialect such a term has no
-/// operator.
+/// Returns the sides for a term without a number. In Cargo's dialect such a term has no operator.
 #[inline(always)]
 fn sides_of_nothing(form: Form, dialect: Dialect, first: Side) -> (Option<Side>, Option<Side>) {
     match (dialect, form) {
@@ -231,12 +232,13 @@ fn sides_of_nothing(form: Form, dialect: Dialect, first: Side) -> (Option<Side>,
     }
 }
 
-/// Returns where the block of a term begins:
+/// Returns at which side of the zero-filled version the block of a term begins:
 ///
 /// - In the dialects of the crate it begins at the zero-filled version.
-/// - For Cargo and npm the block of fewer than three numbers begins below all pre-releases of them,
-///   except for Cargo's `<` and npm's `~`. The block of three begins at the version.
-/// - For npm `^0.2.3` begins below all pre-releases of 0.2.3, too.
+/// - For Cargo and npm, a block of fewer than three numbers begins below all pre-releases with
+///   these numbers, except with Cargo's `<` and npm's `~`. A block of three numbers begins at the
+///   version.
+/// - For npm, `^0.2.3` begins below all pre-releases of 0.2.3, too.
 #[inline(always)]
 fn beginning(simple: &Simple<'_>, dialect: Dialect) -> Side {
     let partial = &simple.partial;

@@ -1,5 +1,5 @@
 // Made by tools/erase.py from crates/tool_ranges/src/version_range.rt; not edited by hand.
-//! A range that was read: a set of versions, and the meaning by which it was read.
+//! A range that was read: a set of versions, and the meaning with which it was read.
 
 use crate::rattle_std::prelude::*;
 use crate::proved::tool_ranges::meaning::{self, Meaning};
@@ -11,7 +11,8 @@ use crate::rattle_std::fmt;
 use crate::proved::version_sets::VersionSet;
 
 /// A range that was read once: the versions that it contains, its dialect, and which pre-releases
-/// count. It is checked for any number of versions, and combined with others of the same meaning.
+/// count. Any number of versions can be checked against it, and it can be combined with other
+/// ranges of the same meaning.
 ///
 /// ```
 /// use semver_parser::{Dialect, VersionRange};
@@ -34,9 +35,11 @@ impl VersionRange {
     ///
     /// # Errors
     ///
-    /// `NotARange` if the dialect has no such range, `NumberTooLarge` if a number that it states or
-    /// a bound that is raised by one is above 2^64 - 1, or in npm's dialect above 2^53 - 1. These
-    /// two do not allocate. `OutOfMemory` if an allocation failed.
+    /// - `NotARange` if the string is not a range in the dialect.
+    /// - `NumberTooLarge` if it is a range, but one of its numbers, or a bound that is raised by
+    ///   one, is above 2^64 - 1, or above 2^53 - 1 in npm's dialect.
+    /// - `OutOfMemory` if an allocation failed. The first two errors are returned without
+    ///   allocating.
     ///
     /// ```
     /// use semver_parser::{Dialect, Meaning, PreReleases, VersionRange};
@@ -51,12 +54,11 @@ impl VersionRange {
         Ok(VersionRange { versions, meaning })
     }
 
-    /// Returns the range of the versions of a set.
+    /// Returns the range that contains the versions of a set.
     ///
     /// # Errors
     ///
-    /// `DifferentDigits` if the set reads identifiers of digits alone otherwise than the dialect,
-    /// and no other.
+    /// Only `DifferentDigits`, if the set reads numeric identifiers differently than the dialect.
     ///
     /// ```
     /// use semver_parser::sets::VersionSet;
@@ -81,7 +83,7 @@ impl VersionRange {
         Ok(VersionRange { versions, meaning })
     }
 
-    /// Returns the dialect of the range, and which pre-releases count.
+    /// Returns the meaning of the range: its dialect, and which pre-releases count.
     ///
     /// ```
     /// use semver_parser::{Dialect, PreReleases, VersionRange};
@@ -96,7 +98,7 @@ impl VersionRange {
         self.meaning
     }
 
-    /// Returns the versions that the range contains.
+    /// Returns the set of the versions that the range contains.
     ///
     /// ```
     /// use semver_parser::{Dialect, VersionRange};
@@ -111,12 +113,12 @@ impl VersionRange {
         &self.versions
     }
 
-    /// Returns whether the range contains a version, which is read in its dialect. Build metadata
-    /// is ignored. It does not allocate.
+    /// Returns whether the range contains a version, which is read in the range's dialect. Build
+    /// metadata is ignored. It does not allocate.
     ///
     /// # Errors
     ///
-    /// `InvalidVersion` if the version isn't one in the dialect.
+    /// `InvalidVersion` if the version is invalid in the dialect.
     ///
     /// ```
     /// use semver_parser::{Dialect, SatisfiesError, VersionRange};
@@ -134,8 +136,8 @@ impl VersionRange {
         }
     }
 
-    /// Returns whether the range contains the version of an outline. Its identifiers of digits
-    /// alone are read by the range's dialect. It does not allocate.
+    /// Returns whether the range contains a borrowed version. Its numeric identifiers are read as
+    /// in the range's dialect. It does not allocate.
     ///
     /// ```
     /// use semver_parser::{version, Dialect, VersionRange};
@@ -151,9 +153,9 @@ impl VersionRange {
         self.versions.contains_outline(version)
     }
 
-    /// Returns whether the range contains a version. Build metadata is ignored. An identifier of
-    /// digits alone from 2^64 on, which a `Version` keeps as a text, is a number to Cargo and npm.
-    /// It does not allocate.
+    /// Returns whether the range contains a version. Build metadata is ignored. A `Version` keeps a
+    /// numeric identifier above 2^64 - 1 as a string; in Cargo's and npm's dialects it is compared
+    /// as a number. It does not allocate.
     ///
     /// ```
     /// use semver_parser::{version, Dialect, VersionRange};
@@ -184,10 +186,10 @@ impl VersionRange {
 }
 
 impl fmt::Display for VersionRange {
-    /// Writes the releases that the range contains as a range in npm's syntax, `<0.0.0-0` if it has
-    /// none, and if it has pre-releases, these after `, pre-releases `, to be compared by
-    /// precedence. Of pre-releases alone the first comma is missing. It does not allocate, and its
-    /// only error is the writer's.
+    /// Writes the range in npm's syntax. First come the releases that it contains, or `<0.0.0-0` if
+    /// it contains no version. If it contains pre-releases, they follow after `, pre-releases `, as
+    /// a range that is to be compared by precedence. If it contains only pre-releases, the first
+    /// comma is missing. It does not allocate, and its only error is the writer's.
     ///
     /// ```
     /// use semver_parser::{Dialect, VersionRange};

@@ -1,20 +1,20 @@
 // Made by tools/erase.py from crates/version_sets/src/batch.rt; not edited by hand.
-//! Which of many versions are in a set.
+//! Checks many versions against a set at once.
 
 use crate::rattle_std::prelude::*;
 use crate::proved::version_sets::release::Release;
 use crate::proved::version_sets::version_set::VersionSet;
 use crate::proved::semver_versions::version::Version;
 
-/// Whether each version is in the set.
+/// Sets each answer to whether its version is in the set.
 pub(crate) fn contains(set: &VersionSet, versions: &[Version], answers: &mut [bool]) {
     for at in 0..versions.len() {
         answers[at] = set.contains(&versions[at]);
     }
 }
 
-/// Whether each version is a release that isn't below one, and that is below another, where there
-/// is another. No answer depends on a branch.
+/// Sets each answer to whether its version is a release that isn't below `from`, and that is below
+/// `to`, if there is such a bound. No answer depends on a branch.
 pub(crate) fn is_release_between(
     from: Release,
     to: Option<Release>,

@@ -1,5 +1,5 @@
 // Made by tools/erase.py from crates/version_sets/src/boundaries.rt; not edited by hand.
-//! Lists of boundaries: whether one has a place, and whether two are the same.
+//! Lists of boundaries: whether a version is inside, and whether two lists are equal.
 
 use crate::rattle_std::prelude::*;
 use crate::proved::version_sets::boundary::Boundary;
@@ -8,14 +8,15 @@ use crate::proved::semver_texts::grammar::Digits;
 use crate::proved::semver_versions::read_version::ReadVersion;
 use crate::proved::semver_versions::version::{Outline, Version};
 
-/// Whether an odd number of the boundaries are at or below a place. It takes time in the logarithm
-/// of their number, and does not allocate.
+/// Returns whether an odd number of the boundaries are at or below a boundary's version. It takes
+/// time logarithmic in their number, and does not allocate.
 pub(crate) fn contains<T: Boundary>(boundaries: &[T], place: &T) -> bool {
     is_odd(boundaries.partition_point(|boundary| boundary.compare(place).is_le()))
 }
 
-/// Whether an odd number of the boundaries are at or below a version, whose identifiers of digits
-/// alone are read so. It takes time in the logarithm of their number, and does not allocate.
+/// Returns whether an odd number of the boundaries are at or below a version, whose numeric
+/// identifiers are read as `digits` says. It takes time logarithmic in their number, and does not
+/// allocate.
 pub(crate) fn contains_version(
     boundaries: &[ReadVersion],
     version: &Version,
@@ -24,12 +25,12 @@ pub(crate) fn contains_version(
     is_odd(boundaries.partition_point(|boundary| boundary.compare_version(version, digits).is_le()))
 }
 
-/// So many boundaries of releases are compared one by one, which is quicker than a search among
-/// them.
+/// Up to this number, boundaries of releases are compared one by one, which is faster than a binary
+/// search.
 const FEW: usize = 8;
 
-/// Whether an odd number of the boundaries are at or below a release. It takes time in the
-/// logarithm of their number, and does not allocate.
+/// Returns whether an odd number of the boundaries are at or below a release. It takes time
+/// logarithmic in their number, and does not allocate.
 #[inline(always)]
 pub(crate) fn contains_release(boundaries: &[Release], release: &Release) -> bool {
     if boundaries.len() > FEW {
@@ -42,8 +43,8 @@ pub(crate) fn contains_release(boundaries: &[Release], release: &Release) -> boo
     is_in
 }
 
-/// Whether an odd number of the boundaries are at or below the version of an outline, whose
-/// identifiers of digits alone are read so. It takes time in the logarithm of their number, and
+/// Returns whether an odd number of the boundaries are at or below a borrowed version, whose
+/// numeric identifiers are read as `digits` says. It takes time logarithmic in their number, and
 /// does not allocate.
 #[inline(always)]
 pub(crate) fn contains_outline(
@@ -64,12 +65,12 @@ pub(crate) fn contains_outline(
     is_odd(low)
 }
 
-/// Whether a number is odd.
+/// Returns whether a number is odd.
 fn is_odd(number: usize) -> bool {
     number % 2 == 1
 }
 
-/// Whether two lists of boundaries have the same places. It does not allocate.
+/// Returns whether two lists have the same boundaries. It does not allocate.
 pub(crate) fn are_same<T: Boundary>(boundaries: &[T], others: &[T]) -> bool {
     boundaries.len() == others.len()
         && boundaries

@@ -1,17 +1,18 @@
 // Made by tools/erase.py from crates/version_sets/src/boundary.rt; not edited by hand.
-//! What both kinds of boundaries have: a place in the order of precedence.
+//! The trait of both kinds of boundaries: they have a position in the order of precedence.
 
 use crate::rattle_std::prelude::*;
 use crate::proved::version_sets::release::Release;
 use crate::rattle_std::AllocError;
 use crate::rattle_std::cmp::Ordering;
 
-/// A boundary of a set: from its place on, versions of its kind are in the set, or are no longer.
+/// A boundary of a set: from its position on, versions of its kind are in the set, or no longer
+/// are.
 pub(crate) trait Boundary: Sized {
-    /// How two boundaries compare by precedence.
+    /// Compares two boundaries by precedence.
     fn compare(&self, other: &Self) -> Ordering;
 
-    /// A boundary at the same place. `Err` is out of memory.
+    /// Returns a boundary at the same position. `Err` means out of memory.
     fn at_same_place(&self) -> Result<Self, AllocError>;
 }
 
@@ -20,7 +21,7 @@ impl Boundary for Release {
         self.cmp(other)
     }
 
-    /// It does not allocate.
+    /// Copies the numbers. It does not allocate.
     fn at_same_place(&self) -> Result<Release, AllocError> {
         Ok(*self)
     }

@@ -12,8 +12,7 @@ use crate::proved::semver_versions::version::Outline;
 use crate::rattle_std::cmp::Ordering;
 
 impl Cut<'_> {
-    /// Returns whether the cut is below a version. `digits` says how identifiers of digits alone
-    /// are read.
+    /// Returns whether the cut is below a version. `digits` says how numeric identifiers are read.
     #[inline(always)]
     pub fn is_below(&self, version: &Outline<'_>, digits: Digits) -> bool {
         match self.side {
@@ -40,7 +39,7 @@ impl Cut<'_> {
             .then(minor.then(patch))
     }
 
-    /// Compares a version with that of the cut by precedence.
+    /// Compares a version with the version of the cut by precedence.
     #[inline(always)]
     fn against(&self, version: &Outline<'_>, digits: Digits) -> Ordering {
         compare(
@@ -53,8 +52,8 @@ impl Cut<'_> {
 }
 
 impl Interval<'_> {
-    /// Returns whether the interval contains a version. `digits` says how identifiers of digits
-    /// alone are read.
+    /// Returns whether the interval contains a version. `digits` says how numeric identifiers are
+    /// read.
     #[inline(always)]
     pub fn contains(&self, version: &Outline<'_>, digits: Digits) -> bool {
         let is_above = match &self.lower {

@@ -1,5 +1,5 @@
 // Made by tools/erase.py from crates/version_sets/src/endpoint.rt; not edited by hand.
-//! Where spans of versions begin and end, and those of releases.
+//! Endpoints of spans of versions, and those of releases.
 
 use crate::rattle_std::prelude::*;
 use crate::proved::version_sets::boundary::Boundary;
@@ -7,15 +7,15 @@ use crate::proved::version_sets::release::Release;
 use crate::rattle_std::AllocError;
 use crate::rattle_std::cmp::Ordering;
 
-/// Where a span of one kind of versions begins or ends. It owns no memory.
+/// The beginning or the end of a span of one kind of versions. It owns no memory.
 pub(crate) trait Endpoint: Copy {
-    /// What a set keeps of it.
+    /// The boundary that a set keeps of the endpoint.
     type Boundary: Boundary;
 
-    /// How two endpoints compare by precedence.
+    /// Compares two endpoints by precedence.
     fn compare(&self, other: &Self) -> Ordering;
 
-    /// The boundary at the same place. `Err` is out of memory.
+    /// Returns the boundary at the same position. `Err` means out of memory.
     fn boundary(&self) -> Result<Self::Boundary, AllocError>;
 }
 
@@ -26,7 +26,7 @@ impl Endpoint for Release {
         self.cmp(other)
     }
 
-    /// It does not allocate.
+    /// Copies the numbers. It does not allocate.
     fn boundary(&self) -> Result<Release, AllocError> {
         let (major, minor, patch) = (self.major, self.minor, self.patch);
         Ok(Release {

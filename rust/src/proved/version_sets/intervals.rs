@@ -22,7 +22,7 @@ pub(crate) struct Shown<'a> {
 }
 
 impl Shown<'_> {
-    /// The comparator with identifiers of its own. `Err` is out of memory.
+    /// Returns the comparator with identifiers that it owns. `Err` means out of memory.
     fn comparator(self) -> Result<Comparator, AllocError> {
         Ok(Comparator {
             op: self.op,
@@ -36,17 +36,17 @@ impl Shown<'_> {
 
 /// A boundary as a bound of an interval.
 pub(crate) trait Bound: Boundary {
-    /// Whether it is at the lowest version of its kind.
+    /// Returns whether the boundary is at the lowest version of its kind.
     fn is_lowest(&self) -> bool;
 
-    /// Whether it is the only version of its kind from itself on and below another, if there is
-    /// one.
+    /// Returns whether the boundary's version is the only one of its kind that is at or above it
+    /// and below `to`, if `to` is given.
     fn is_alone(&self, to: Option<&Self>) -> bool;
 
-    /// The comparator of an operator and its version.
+    /// Returns the comparator with an operator and the boundary's version.
     fn shown<'a>(&'a self, op: Op) -> Shown<'a>;
 
-    /// The comparator that is below the end of an interval from itself on and below another.
+    /// Returns the upper comparator of the interval from this boundary up to another.
     fn shown_end<'a>(&self, to: &'a Self) -> Shown<'a>;
 }
 
@@ -120,7 +120,7 @@ impl Bound for ReadVersion {
     }
 }
 
-/// Whether a boundary is at the lowest pre-release of the numbers right above those of another.
+/// Returns whether a boundary is at the lowest pre-release of the numbers right above another's.
 fn begins_next_numbers(boundary: &ReadVersion, below: &ReadVersion) -> bool {
     match next_numbers(Release::from_version(&below.version)) {
         Some(next) => {
@@ -134,13 +134,13 @@ fn begins_next_numbers(boundary: &ReadVersion, below: &ReadVersion) -> bool {
     }
 }
 
-/// Whether identifiers that are read so are none, or the lowest, `0`.
+/// Returns whether identifiers, read as `digits` says, are none, or only the lowest, `0`.
 fn has_lowest_pre(identifiers: &[version::Identifier], digits: Digits) -> bool {
     let _digits = digits;
     is_lowest_pre(identifiers)
 }
 
-/// Whether the identifiers of a boundary are those of another with the number 0 after them.
+/// Returns whether the identifiers of a boundary are another's followed by the number 0.
 fn are_right_above(boundary: &ReadVersion, below: &ReadVersion) -> bool {
     let above = Successor {
         identifiers: below.pre(),
@@ -149,7 +149,8 @@ fn are_right_above(boundary: &ReadVersion, below: &ReadVersion) -> bool {
     compare_pre_releases(boundary.pre(), above).is_eq()
 }
 
-/// Identifiers of a version that are read so, as those of a range.
+/// Copies identifiers of a version, read as `digits` says, as identifiers of a range. `Err` means
+/// out of memory.
 fn copied(
     identifiers: &[version::Identifier],
     digits: Digits,
@@ -161,7 +162,8 @@ fn copied(
     Ok(copies)
 }
 
-/// An identifier of a version that is read so, as one of a range.
+/// Copies an identifier of a version, read as `digits` says, as one of a range. `Err` means out of
+/// memory.
 fn copy_of(identifier: &version::Identifier, digits: Digits) -> Result<Identifier, AllocError> {
     let _digits = digits;
     match identifier {
@@ -170,14 +172,14 @@ fn copy_of(identifier: &version::Identifier, digits: Digits) -> Result<Identifie
     }
 }
 
-/// The comparators of an interval: one, or two.
+/// The one or two comparators of an interval.
 pub(crate) struct ShownInterval<'a> {
     pub(crate) first: Shown<'a>,
     pub(crate) second: Option<Shown<'a>>,
 }
 
-/// The comparators of the versions from one on and below another, if there is one. None is below
-/// the lowest.
+/// Returns the comparators of the versions that are at or above one boundary, and below another if
+/// it is given. No version is below the lowest.
 fn interval_of<'a, T: Bound>(from: &'a T, to: Option<&'a T>) -> ShownInterval<'a> {
     if from.is_alone(to) {
         return ShownInterval {
@@ -201,7 +203,8 @@ fn interval_of<'a, T: Bound>(from: &'a T, to: Option<&'a T>) -> ShownInterval<'a
     }
 }
 
-/// The first interval of boundaries, and the boundaries that are left; `None` if there is none.
+/// Returns the first interval of boundaries, and the boundaries that follow it, or `None` if there
+/// is no boundary.
 pub(crate) fn first_interval<'a, T: Bound>(
     boundaries: &'a [T],
 ) -> Option<(ShownInterval<'a>, &'a [T])> {
@@ -213,7 +216,7 @@ pub(crate) fn first_interval<'a, T: Bound>(
 }
 
 impl ShownInterval<'_> {
-    /// The interval as a range of comparators. `Err` is out of memory.
+    /// Returns the interval as a range of comparators. `Err` means out of memory.
     fn range(self) -> Result<Range, AllocError> {
         let first = self.first.comparator()?;
         let comparator_set = match self.second {
@@ -227,8 +230,8 @@ impl ShownInterval<'_> {
     }
 }
 
-/// The ranges of increasing boundaries in npm mode, one for each interval. It allocates only if
-/// there is a boundary. `Err` is out of memory.
+/// Returns the ranges of increasing boundaries in npm mode, one for each interval. It allocates
+/// only if there is a boundary. `Err` means out of memory.
 pub(crate) fn ranges_of<T: Bound>(boundaries: &[T]) -> Result<Vec<Range>, AllocError> {
     let mut ranges = Vec::new();
     let mut left = boundaries;

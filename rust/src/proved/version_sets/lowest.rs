@@ -10,10 +10,10 @@ use crate::proved::semver_versions::version::Version;
 use crate::rattle_std::AllocError;
 
 impl VersionSet {
-    /// The lowest version in the set by precedence, without a build; `None` exactly where the set
-    /// is empty.
+    /// Returns the lowest version in the set by precedence, without build metadata, or `None` if
+    /// and only if the set is empty.
     ///
-    /// It allocates only if a pre-release is answered. `Err` is out of memory.
+    /// It allocates only if the result is a pre-release. `Err` means out of memory.
     ///
     /// ```
     /// use semver_parser::{sets, Dialect};
@@ -26,8 +26,8 @@ impl VersionSet {
         lower_one(self.releases.first(), self.pre_releases.first())
     }
 
-    /// The lowest release in the set by precedence; `None` exactly where it has no release. It does
-    /// not allocate.
+    /// Returns the lowest release in the set by precedence, or `None` if and only if the set
+    /// contains no release. It does not allocate.
     ///
     /// ```
     /// use semver_parser::sets::{self, Release};
@@ -42,8 +42,8 @@ impl VersionSet {
     }
 }
 
-/// The lower one of a release and a pre-release, or the one that there is, without a build. `Err`
-/// is out of memory, which is allocated only for a pre-release.
+/// Returns the lower of a release and a pre-release, or the only one that is given, without build
+/// metadata. It allocates only if the result is the pre-release. `Err` means out of memory.
 pub(crate) fn lower_one(
     release: Option<&Release>,
     pre_release: Option<&ReadVersion>,
@@ -57,7 +57,7 @@ pub(crate) fn lower_one(
     Ok(Some(kept_version(pre_release)?))
 }
 
-/// The release as a version, if there is one.
+/// Returns a release as a version, if one is given.
 fn as_version(release: Option<&Release>) -> Option<Version> {
     match release {
         Some(release) => Some(release.version()),
@@ -65,8 +65,8 @@ fn as_version(release: Option<&Release>) -> Option<Version> {
     }
 }
 
-/// Whether there is a release, and it is below a version by precedence: its numbers are, since no
-/// version of the same numbers is above it.
+/// Returns whether a release is given and is below a version by precedence. It is enough to compare
+/// the numbers, since no version is above the release with the same numbers.
 fn is_below(release: Option<&Release>, version: &ReadVersion) -> bool {
     match release {
         Some(release) => release

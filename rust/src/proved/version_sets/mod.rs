@@ -1,6 +1,6 @@
 // Made by tools/erase.py from crates/version_sets/src/lib.rt; not edited by hand.
-//! Sets of versions, in one normal form: which versions are in one, those that a range text means,
-//! what two have in common or one alone, the lowest version, and whether two sets are the same.
+//! Sets of versions in a normal form: membership, the set of a range, the union, intersection and
+//! difference of two sets, the lowest version, and equality.
 
 use crate::rattle_std::prelude::*;
 mod batch;

@@ -9,19 +9,19 @@ use crate::proved::semver_versions::version::{Identifier, Version};
 use crate::rattle_std::AllocError;
 use crate::rattle_std::cmp::Ordering;
 
-/// A boundary of pre-releases is a version, and how its identifiers of digits alone are read.
+/// A boundary of pre-releases: a version, and how its numeric identifiers are read.
 impl Boundary for ReadVersion {
     fn compare(&self, other: &ReadVersion) -> Ordering {
         self.compare(other)
     }
 
-    /// The build is left out.
+    /// Copies the version without its build metadata.
     fn at_same_place(&self) -> Result<ReadVersion, AllocError> {
         self.without_build()
     }
 }
 
-/// The version as it is kept, without a build. `Err` is out of memory.
+/// Returns the version as a `Version` keeps it, without build metadata. `Err` means out of memory.
 pub(crate) fn kept_version(read: &ReadVersion) -> Result<Version, AllocError> {
     Ok(Version {
         major: read.version.major,
@@ -32,7 +32,7 @@ pub(crate) fn kept_version(read: &ReadVersion) -> Result<Version, AllocError> {
     })
 }
 
-/// Identifiers that are read so, as they are kept.
+/// Copies identifiers, read as `digits` says, as a `Version` keeps them. `Err` means out of memory.
 fn kept(
     identifiers: &[Identifier],
     digits: Digits,
@@ -44,7 +44,7 @@ fn kept(
     Ok(copies)
 }
 
-/// An identifier that is read so, as it is kept.
+/// Copies an identifier, read as `digits` says, as a `Version` keeps it. `Err` means out of memory.
 fn kept_copy(identifier: &Identifier, digits: Digits) -> Result<Identifier, AllocError> {
     let _digits = digits;
     match identifier {

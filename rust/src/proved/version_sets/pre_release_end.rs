@@ -1,5 +1,5 @@
 // Made by tools/erase.py from crates/version_sets/src/pre_release_end.rt; not edited by hand.
-//! Where the releases and the pre-releases above a cut begin.
+//! The lowest release and the lowest pre-release above a cut.
 
 use crate::rattle_std::prelude::*;
 use crate::proved::version_sets::cut::{Cut, Side};
@@ -19,8 +19,8 @@ use crate::proved::semver_versions::version::{Identifier, Version};
 use crate::rattle_std::AllocError;
 use crate::rattle_std::cmp::Ordering;
 
-/// Returns the lowest release above a cut, if there is one. Above a pre-release it has the same
-/// numbers.
+/// Returns the lowest release above a cut, if there is one. If the cut is at a pre-release, that
+/// release has the same numbers.
 pub(crate) fn first_release(cut: &Cut<'_>) -> Option<Release> {
     match cut.side {
         Side::Below | Side::At => Some(cut.numbers),
@@ -30,7 +30,7 @@ pub(crate) fn first_release(cut: &Cut<'_>) -> Option<Release> {
     }
 }
 
-/// Returns the highest numbers that are equal to these up to a place.
+/// Returns the highest numbers that are equal to the given ones up to a place.
 fn highest_numbers(numbers: Release, place: Place) -> Release {
     let (major, minor, patch) = (numbers.major, numbers.minor, numbers.patch);
     match place {
@@ -53,7 +53,7 @@ fn highest_numbers(numbers: Release, place: Place) -> Release {
 }
 
 impl<'text> PreReleaseEnd<'text> {
-    /// Returns where the pre-releases of some numbers begin.
+    /// Returns the beginning of the pre-releases with some numbers.
     pub(crate) fn lowest(numbers: Release) -> PreReleaseEnd<'text> {
         PreReleaseEnd {
             numbers,
@@ -63,14 +63,14 @@ impl<'text> PreReleaseEnd<'text> {
         }
     }
 
-    /// Returns where the pre-releases of the next numbers begin.
+    /// Returns the beginning of the pre-releases of the next numbers, if there are any.
     pub(crate) fn above_numbers(numbers: Release) -> Option<PreReleaseEnd<'text>> {
         Some(PreReleaseEnd::lowest(next_numbers(numbers)?))
     }
 
-    /// Returns where the pre-releases above a cut begin, if there are any. Above a release they
-    /// begin with the next numbers, since none of the same numbers is above it. Directly above a
-    /// pre-release comes the one that has the number 0 as one more identifier.
+    /// Returns the beginning of the pre-releases above a cut, if there are any. Above a release
+    /// they begin with the next numbers, since no pre-release with the same numbers is above it.
+    /// Directly above a pre-release comes the one that has the number 0 as one more identifier.
     pub(crate) fn first(cut: &Cut<'text>, digits: Digits) -> Option<PreReleaseEnd<'text>> {
         match cut.side {
             Side::Below => Some(PreReleaseEnd::lowest(cut.numbers)),
@@ -128,7 +128,7 @@ impl<'text> Endpoint for PreReleaseEnd<'text> {
 }
 
 impl PreReleaseEnd<'_> {
-    /// Returns the identifiers as a version keeps them. `Err` is out of memory.
+    /// Returns the identifiers as a version keeps them. `Err` means out of memory.
     fn kept_pre(&self) -> Result<Vec<Identifier>, AllocError> {
         let mut pre = kept_parts(self.pre)?;
         if self.successor || self.pre.is_empty() {
@@ -138,12 +138,12 @@ impl PreReleaseEnd<'_> {
     }
 }
 
-/// Returns the parts of a pre-release as ranges keep them. `Err` is out of memory.
+/// Returns the parts of a pre-release as ranges keep them. `Err` means out of memory.
 fn kept_parts(pre: &[u8]) -> Result<Vec<Identifier>, AllocError> {
     of_parts(text_of_parts(pre), |part| kept(part))
 }
 
-/// Returns a part of a pre-release as ranges keep it.
+/// Returns a part of a pre-release as ranges keep it. `Err` means out of memory.
 fn kept(part: &str) -> Result<Identifier, AllocError> {
     match number_of_digits(part.as_bytes()) {
         Some(number) => Ok(Identifier::Numeric(number)),

@@ -1,5 +1,5 @@
 // Made by tools/erase.py from crates/version_sets/src/printing.rt; not edited by hand.
-//! The text of a set, written from its boundaries.
+//! Writes a set as a string, directly from its boundaries.
 
 use crate::rattle_std::prelude::*;
 use crate::proved::version_sets::intervals::{Bound, Shown, ShownInterval, first_interval};
@@ -8,7 +8,7 @@ use crate::proved::semver_texts::printing::write_part;
 use crate::rattle_std::fmt;
 
 impl fmt::Display for Shown<'_> {
-    /// Writes the comparator as a `Comparator` of the same parts.
+    /// Writes the comparator as the `Comparator` of the same parts is written.
     fn fmt(&self, f: &mut fmt::Formatter<'_>) -> fmt::Result {
         let (op, numbers) = (&self.op, self.numbers);
         let (major, minor, patch) = (numbers.major, numbers.minor, numbers.patch);
@@ -29,10 +29,10 @@ impl fmt::Display for ShownInterval<'_> {
 }
 
 impl fmt::Display for VersionSet {
-    /// Writes the releases of the set as a range in npm's syntax, `<0.0.0-0` if it has none, and if
-    /// it has pre-releases, these after `, pre-releases `, to be compared by precedence. Of
-    /// pre-releases alone the first comma is missing. It does not allocate, and its only error is
-    /// the writer's.
+    /// Writes the set in npm's syntax. First come its releases as a range, or `<0.0.0-0` if the set
+    /// is empty. If it contains pre-releases, they follow after `, pre-releases `, as a range that
+    /// is to be compared by precedence. If it contains only pre-releases, the first comma is
+    /// missing. It does not allocate, and its only error is the writer's.
     ///
     /// ```
     /// use semver_parser::{sets, Dialect};
@@ -55,8 +55,8 @@ impl fmt::Display for VersionSet {
     }
 }
 
-/// Writes the intervals of increasing boundaries as a range text of npm mode, separated by ` || `:
-/// `*` for all of a kind, and `<0.0.0-0` for none.
+/// Writes the intervals of increasing boundaries as a range in npm mode, separated by ` || `: `*`
+/// if they contain all versions of the kind, and `<0.0.0-0` if they contain none.
 fn write_ranges<T: Bound>(f: &mut fmt::Formatter<'_>, boundaries: &[T]) -> fmt::Result {
     if is_whole(boundaries) {
         return f.write_str("*");
@@ -68,7 +68,7 @@ fn write_ranges<T: Bound>(f: &mut fmt::Formatter<'_>, boundaries: &[T]) -> fmt::
     write_others(f, others)
 }
 
-/// Writes these intervals after others.
+/// Writes intervals, each after ` || `.
 fn write_others<T: Bound>(f: &mut fmt::Formatter<'_>, boundaries: &[T]) -> fmt::Result {
     let mut left = boundaries;
     while let Some((next, others)) = first_interval(left) {
@@ -78,8 +78,8 @@ fn write_others<T: Bound>(f: &mut fmt::Formatter<'_>, boundaries: &[T]) -> fmt::
     Ok(())
 }
 
-/// Whether all versions of a kind are in the intervals. The last release, which has no end either,
-/// is alone in its interval.
+/// Returns whether the intervals contain all versions of a kind. The last release of all has no
+/// upper bound either, but it is written as a single version.
 fn is_whole<T: Bound>(boundaries: &[T]) -> bool {
     match boundaries {
         [only, others @ ..] if others.is_empty() => {

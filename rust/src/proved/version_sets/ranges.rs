@@ -14,7 +14,7 @@ use crate::proved::semver_texts::grammar::Digits;
 use crate::rattle_std::AllocError;
 
 impl<'text> Conjunction<'text> {
-    /// Returns the intersection of no interval, which is all versions.
+    /// Returns the intersection of no intervals, which contains all versions.
     pub fn new() -> Conjunction<'text> {
         Conjunction {
             releases: Bounds {
@@ -28,8 +28,8 @@ impl<'text> Conjunction<'text> {
         }
     }
 
-    /// Returns the intersection with one more term. A term has an interval for releases and one for
-    /// pre-releases. `digits` says how identifiers of digits alone are read.
+    /// Returns the intersection with one more term, which has an interval for releases and one for
+    /// pre-releases. `digits` says how numeric identifiers are read.
     pub fn and(
         self,
         releases: &Interval<'text>,
@@ -70,7 +70,7 @@ fn pre_released<'text>(interval: &Interval<'text>, digits: Digits) -> Bounds<Pre
 }
 
 impl<'text> Ranges<'text> {
-    /// Returns no range. It does not allocate.
+    /// Returns a list of no ranges, which contains no version. It does not allocate.
     pub fn new() -> Ranges<'text> {
         Ranges {
             releases: Vec::new(),
@@ -78,17 +78,18 @@ impl<'text> Ranges<'text> {
         }
     }
 
-    /// Adds the releases of a range. `Err` is out of memory.
+    /// Adds the releases of a range. `Err` means out of memory.
     pub fn push_releases(&mut self, range: &Conjunction<'text>) -> Result<(), AllocError> {
         range.releases.push_to(&mut self.releases)
     }
 
-    /// Adds the pre-releases of a range. `Err` is out of memory.
+    /// Adds the pre-releases of a range. `Err` means out of memory.
     pub fn push_pre_releases(&mut self, range: &Conjunction<'text>) -> Result<(), AllocError> {
         range.pre_releases.push_to(&mut self.pre_releases)
     }
 
-    /// Adds the pre-releases of a range that have these numbers. `Err` is out of memory.
+    /// Adds the pre-releases of a range that have one of the given triples of numbers. `Err` means
+    /// out of memory.
     pub fn push_stated(
         &mut self,
         range: &Conjunction<'text>,
@@ -104,8 +105,8 @@ impl<'text> Ranges<'text> {
             .push_to(&mut self.pre_releases)
     }
 
-    /// Returns the set of the versions in these ranges and of the releases in a last one. `Err` is
-    /// out of memory.
+    /// Returns the set of the versions in these ranges, and of the releases in one last range.
+    /// `Err` means out of memory.
     pub fn into_set(
         self,
         last: &Conjunction<'text>,
@@ -118,8 +119,8 @@ impl<'text> Ranges<'text> {
     }
 }
 
-/// Returns the boundaries of releases, together with those of a last range. For speed nothing is
-/// sorted if there is only the last range, since most texts have one range.
+/// Returns the boundaries of the releases, together with those of a last range. Nothing is sorted
+/// if there is only the last range, for speed, since most range strings have one range.
 fn all_releases(
     spans: Vec<Span<Release>>,
     last: &Bounds<Release>,

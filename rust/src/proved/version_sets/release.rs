@@ -1,10 +1,10 @@
 // Made by tools/erase.py from crates/version_sets/src/release.rt; not edited by hand.
-//! Releases: versions without a pre-release and without a build.
+//! Releases: versions without a pre-release and build metadata.
 
 use crate::rattle_std::prelude::*;
 use crate::proved::semver_versions::version::Version;
 
-/// A release: the three numbers of a version. Its derived order is that of precedence.
+/// A release: the three numbers of a version. Its derived order is precedence.
 ///
 /// ```
 /// use semver_parser::sets::Release;
@@ -23,7 +23,7 @@ pub struct Release {
 }
 
 impl Release {
-    /// The numbers of a version, without its pre-release and its build.
+    /// Returns the numbers of a version, without its pre-release and build metadata.
     ///
     /// ```
     /// use semver_parser::sets::Release;
@@ -41,7 +41,8 @@ impl Release {
         }
     }
 
-    /// The release as a version, without a pre-release and without a build. It does not allocate.
+    /// Returns the release as a version, without a pre-release and build metadata. It does not
+    /// allocate.
     ///
     /// ```
     /// use semver_parser::sets::Release;
@@ -59,15 +60,16 @@ impl Release {
         }
     }
 
-    /// Whether a release is below another by precedence: by each number, so that the answer takes
-    /// no branch.
+    /// Returns whether a release is below another by precedence. The numbers are compared without
+    /// branches, for speed.
     #[inline(always)]
     pub(crate) fn is_below(&self, other: &Release) -> bool {
         (self.major < other.major)
             | ((self.major == other.major) & (self.after_major() < other.after_major()))
     }
 
-    /// The second and the third number as one, which two words compare as it.
+    /// Returns the second and the third number combined in one integer, which can be compared in
+    /// one step.
     #[inline(always)]
     fn after_major(&self) -> u128 {
         u128::from(self.minor) * 0x1_0000_0000_0000_0000 + u128::from(self.patch)
@@ -81,7 +83,7 @@ pub(crate) const LOWEST: Release = Release {
     patch: 0,
 };
 
-/// The numbers right after these. There are none after the last.
+/// Returns the numbers right after the given ones, or `None` after the highest.
 pub(crate) fn next_numbers(numbers: Release) -> Option<Release> {
     let (major, minor) = (numbers.major, numbers.minor);
     if let Some(patch) = numbers.patch.checked_add(1) {

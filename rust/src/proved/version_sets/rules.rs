@@ -1,9 +1,9 @@
 // Made by tools/erase.py from crates/version_sets/src/rules.rt; not edited by hand.
-//! The three rules by which pre-releases count, with their numbers and names.
+//! The three rules for pre-releases, with their numbers and names.
 
 use crate::rattle_std::prelude::*;
-/// Which pre-releases satisfy a range (page `docs::ranges`, "Pre-releases"). Releases count by each
-/// rule.
+/// Which pre-releases satisfy a range (page `docs::ranges`, "Pre-releases"). The rules are the same
+/// for releases.
 ///
 /// ```
 /// use semver_parser::{satisfies, Dialect, Meaning, PreReleases};
@@ -17,19 +17,18 @@ use crate::rattle_std::prelude::*;
 /// ```
 #[derive(Clone, Copy, PartialEq, Eq, Hash, Debug)]
 pub enum PreReleases {
-    /// None.
+    /// No pre-release.
     Excluded,
-    /// The rule that npm and Cargo's `semver` have for pre-releases: one that satisfies a range by
-    /// precedence, and of which a term of that range states the three numbers and a pre-release.
-    /// 1.2.3-rc is meant by `^1.2.3-beta`, and neither by `>=1.2.0` nor by
-    /// `^1.2.0 || =1.2.3-beta`.
+    /// The default rule of npm and of Cargo's `semver`: a pre-release that satisfies a range by
+    /// precedence, if a term of the same range names its three numbers and a pre-release. 1.2.3-rc
+    /// satisfies `^1.2.3-beta`, but neither `>=1.2.0` nor `^1.2.0 || =1.2.3-beta`.
     Default,
-    /// Each that satisfies a range by precedence: 1.3.0-rc is meant by `^1.2.0`.
+    /// Every pre-release that satisfies a range by precedence: 1.3.0-rc satisfies `^1.2.0`.
     Included,
 }
 
 impl PreReleases {
-    /// Returns its number in C, Python and JavaScript.
+    /// Returns the number of the rule in C, Python and JavaScript.
     ///
     /// ```
     /// use semver_parser::PreReleases;
@@ -45,7 +44,7 @@ impl PreReleases {
         }
     }
 
-    /// Returns the rule of a number, or `None` if none has it.
+    /// Returns the rule with a number, or `None` if no rule has it.
     ///
     /// ```
     /// use semver_parser::PreReleases;
@@ -63,7 +62,7 @@ impl PreReleases {
         }
     }
 
-    /// Returns its name for programs.
+    /// Returns the name of the rule for programs.
     ///
     /// ```
     /// use semver_parser::PreReleases;

@@ -1,6 +1,6 @@
 // Made by tools/erase.py from crates/version_sets/src/set_difference.rt; not edited by hand.
-//! How two sets differ: what is lost, gained and shared, and whether one is a subset of the other,
-//! disjoint from it, or the same.
+//! Compares two sets: what is lost, gained and shared, and whether one is a subset of the other,
+//! disjoint from it, or equal to it.
 
 use crate::rattle_std::prelude::*;
 use crate::proved::version_sets::boundaries::are_same;
@@ -10,8 +10,8 @@ use crate::proved::version_sets::version_set::VersionSet;
 use crate::proved::semver_versions::version::Version;
 use crate::rattle_std::AllocError;
 
-/// How two sets differ, and what they share, each by the lowest version by precedence. None of
-/// these has a build.
+/// The difference of an old and a new set, and their intersection, each represented by its lowest
+/// version by precedence. None of these has build metadata.
 ///
 /// ```
 /// use semver_parser::{sets, Dialect};
@@ -24,28 +24,28 @@ use crate::rattle_std::AllocError;
 /// ```
 #[derive(Debug, PartialEq, Eq)]
 pub struct Comparison {
-    /// The lowest version that is in the old set and not in the new one; `None` where there is
+    /// The lowest version that is in the old set and not in the new one, or `None` if there is
     /// none.
     pub lost: Option<Version>,
-    /// The lowest version that is in the new set and not in the old one; `None` where there is
+    /// The lowest version that is in the new set and not in the old one, or `None` if there is
     /// none.
     pub gained: Option<Version>,
-    /// The lowest version that is in both; `None` where there is none.
+    /// The lowest version that is in both sets, or `None` if there is none.
     pub shared: Option<Version>,
 }
 
 impl VersionSet {
-    /// Compares the set with a new one that is to take its place. It takes time in the number of
+    /// Compares the set with a new one that is to replace it. It takes time linear in the number of
     /// their boundaries.
     ///
-    /// Both sets have the same versions exactly where nothing is lost or gained.
+    /// Both sets contain the same versions if and only if nothing is lost or gained.
     ///
-    /// It allocates only for the identifiers of a pre-release that is answered.
+    /// It allocates only for the identifiers of pre-releases that it returns.
     ///
     /// # Errors
     ///
-    /// `DifferentDigits` if the sets read identifiers of digits alone differently, and
-    /// `OutOfMemory` if an allocation failed.
+    /// `DifferentDigits` if the sets read numeric identifiers differently, and `OutOfMemory` if an
+    /// allocation failed.
     ///
     /// ```
     /// use semver_parser::{sets, Dialect};
@@ -67,7 +67,8 @@ impl VersionSet {
         }
     }
 
-    /// Compares the set with a new one that reads digits in the same way.
+    /// Compares the set with a new one that reads numeric identifiers in the same way. `Err` means
+    /// out of memory.
     fn compared(&self, new: &VersionSet) -> Result<Comparison, AllocError> {
         Ok(Comparison {
             lost: self.lowest_combined(Combination::Difference, new)?,
@@ -76,7 +77,7 @@ impl VersionSet {
         })
     }
 
-    /// The lowest version of a combination.
+    /// Returns the lowest version of a combination. `Err` means out of memory.
     fn lowest_combined(
         &self,
         how: Combination,
@@ -89,7 +90,7 @@ impl VersionSet {
 }
 
 impl VersionSet {
-    /// Whether no version is in the set. It does not allocate.
+    /// Returns whether the set contains no version. It does not allocate.
     ///
     /// ```
     /// use semver_parser::{sets, Dialect};
@@ -102,12 +103,12 @@ impl VersionSet {
         self.releases.is_empty() && self.pre_releases.is_empty()
     }
 
-    /// Whether each version that is in the set is in the other, too. It takes time in the number of
-    /// their boundaries, and does not allocate.
+    /// Returns whether every version in this set is in the other, too. It takes time linear in the
+    /// number of their boundaries, and does not allocate.
     ///
     /// # Errors
     ///
-    /// `DifferentDigits` if the sets read identifiers of digits alone differently, and no other.
+    /// Only `DifferentDigits`, if the sets read numeric identifiers differently.
     ///
     /// ```
     /// use semver_parser::{sets, Dialect};
@@ -124,12 +125,12 @@ impl VersionSet {
         Ok(!self.keeps_some(Combination::Difference, other))
     }
 
-    /// Whether no version is in both sets. It takes time in the number of their boundaries, and
-    /// does not allocate.
+    /// Returns whether no version is in both sets. It takes time linear in the number of their
+    /// boundaries, and does not allocate.
     ///
     /// # Errors
     ///
-    /// `DifferentDigits` if the sets read identifiers of digits alone differently, and no other.
+    /// Only `DifferentDigits`, if the sets read numeric identifiers differently.
     ///
     /// ```
     /// use semver_parser::{sets, Dialect};
@@ -148,7 +149,7 @@ impl VersionSet {
         Ok(!self.keeps_some(Combination::Intersection, other))
     }
 
-    /// Whether some version is in a combination of two sets.
+    /// Returns whether a combination of two sets contains a version.
     fn keeps_some(&self, how: Combination, other: &VersionSet) -> bool {
         how.keeps_some(&self.releases, &other.releases)
             || how.keeps_some(&self.pre_releases, &other.pre_releases)
@@ -156,10 +157,10 @@ impl VersionSet {
 }
 
 impl PartialEq for VersionSet {
-    /// Whether both sets read identifiers of digits alone in the same way, and have the same
-    /// versions. It takes time in the number of their boundaries, and does not allocate.
+    /// Returns whether both sets read numeric identifiers in the same way, and contain the same
+    /// versions. It takes time linear in the number of their boundaries, and does not allocate.
     ///
-    /// Those of `>=1.0.0 <2.0.0 || >=2.0.0 <3.0.0` and of `>=1.0.0 <3.0.0` are equal.
+    /// The sets of `>=1.0.0 <2.0.0 || >=2.0.0 <3.0.0` and of `>=1.0.0 <3.0.0` are equal.
     fn eq(&self, other: &VersionSet) -> bool {
         if self.digits != other.digits {
             return false;

@@ -1,5 +1,5 @@
 // Made by tools/erase.py from crates/version_sets/src/set_operations.rt; not edited by hand.
-//! What is in one set or another, in both, or in the first alone.
+//! Union, intersection and difference of sets.
 
 use crate::rattle_std::prelude::*;
 use crate::proved::version_sets::boundary::Boundary;
@@ -7,7 +7,7 @@ use crate::proved::version_sets::sweep::Sweep;
 use crate::proved::version_sets::version_set::VersionSet;
 use crate::rattle_std::AllocError;
 
-/// Why two sets can't be combined or compared.
+/// The error of an operation on two sets.
 ///
 /// ```
 /// use semver_parser::sets::{self, SetError};
@@ -20,8 +20,8 @@ use crate::rattle_std::AllocError;
 /// ```
 #[derive(Clone, Copy, PartialEq, Eq, Debug)]
 pub enum SetError {
-    /// The sets read identifiers of digits alone from 2^64 on differently: one as texts, and the
-    /// other as numbers.
+    /// The sets read numeric identifiers above 2^64 - 1 differently: one as strings, and the other
+    /// as numbers.
     DifferentDigits,
     /// An allocation failed.
     OutOfMemory,
@@ -45,19 +45,19 @@ impl From<AllocError> for SetError {
     }
 }
 
-/// What of two sets is in their combination.
+/// How two sets are combined.
 #[derive(Clone, Copy)]
 pub(crate) enum Combination {
-    /// What is in one or the other.
+    /// The versions in either set.
     Union,
-    /// What is in both.
+    /// The versions in both sets.
     Intersection,
-    /// What is in the first alone.
+    /// The versions only in the first set.
     Difference,
 }
 
 impl Combination {
-    /// Whether what is in the first or in the second is in the combination.
+    /// Returns whether a version is in the combination, given whether it is in each set.
     fn keeps(self, in_first: bool, in_second: bool) -> bool {
         match self {
             Combination::Union => in_first || in_second,
@@ -66,13 +66,13 @@ impl Combination {
         }
     }
 
-    /// Whether some piece of two sets is in the combination. It does not allocate.
+    /// Returns whether some piece of two sets is in the combination. It does not allocate.
     pub(crate) fn keeps_some<T: Boundary>(self, first: &[T], second: &[T]) -> bool {
         Sweep::over(first, second).any(|piece| self.keeps(piece.in_first, piece.in_second))
     }
 
-    /// The first boundary of the combination, where the first piece begins that is in it. It does
-    /// not allocate.
+    /// Returns the first boundary of the combination: the beginning of the first piece in it. It
+    /// does not allocate.
     pub(crate) fn first<'a, T: Boundary>(self, first: &'a [T], second: &'a [T]) -> Option<&'a T> {
         for piece in Sweep::over(first, second) {
             if self.keeps(piece.in_first, piece.in_second) {
@@ -82,8 +82,9 @@ impl Combination {
         None
     }
 
-    /// The boundaries of the combination, which are those where being in it changes. `Err` is out
-    /// of memory; nothing is allocated if there are none.
+    /// Returns the boundaries of the combination. These are the boundaries at which a version
+    /// begins or ceases to be in it. Nothing is allocated if there are none. `Err` means out of
+    /// memory.
     pub(crate) fn of<T: Boundary>(
         self,
         first: &[T],
@@ -102,14 +103,15 @@ impl Combination {
 }
 
 impl VersionSet {
-    /// The versions of one set or the other. It takes time in the number of their boundaries.
+    /// Returns the versions that are in either set. It takes time linear in the number of their
+    /// boundaries.
     ///
     /// The result is allocated as it grows, and not at all if it is empty.
     ///
     /// # Errors
     ///
-    /// `DifferentDigits` if the sets read identifiers of digits alone differently, and
-    /// `OutOfMemory` if an allocation failed.
+    /// `DifferentDigits` if the sets read numeric identifiers differently, and `OutOfMemory` if an
+    /// allocation failed.
     ///
     /// ```
     /// use semver_parser::{sets, Dialect};
@@ -123,14 +125,15 @@ impl VersionSet {
         self.checked(Combination::Union, other)
     }
 
-    /// The versions of both sets. It takes time in the number of their boundaries.
+    /// Returns the versions that are in both sets. It takes time linear in the number of their
+    /// boundaries.
     ///
     /// The result is allocated as it grows, and not at all if it is empty.
     ///
     /// # Errors
     ///
-    /// `DifferentDigits` if the sets read identifiers of digits alone differently, and
-    /// `OutOfMemory` if an allocation failed.
+    /// `DifferentDigits` if the sets read numeric identifiers differently, and `OutOfMemory` if an
+    /// allocation failed.
     ///
     /// ```
     /// use semver_parser::{sets, Dialect};
@@ -144,15 +147,15 @@ impl VersionSet {
         self.checked(Combination::Intersection, other)
     }
 
-    /// The versions of the first set that the other doesn't have. It takes time in the number of
-    /// their boundaries.
+    /// Returns the versions that are in this set, but not in the other. It takes time linear in the
+    /// number of their boundaries.
     ///
     /// The result is allocated as it grows, and not at all if it is empty.
     ///
     /// # Errors
     ///
-    /// `DifferentDigits` if the sets read identifiers of digits alone differently, and
-    /// `OutOfMemory` if an allocation failed.
+    /// `DifferentDigits` if the sets read numeric identifiers differently, and `OutOfMemory` if an
+    /// allocation failed.
     ///
     /// ```
     /// use semver_parser::{sets, Dialect};
@@ -166,7 +169,8 @@ impl VersionSet {
         self.checked(Combination::Difference, other)
     }
 
-    /// The versions of a combination of sets that read digits in the same way.
+    /// Returns the combination of two sets, or `DifferentDigits` if they read numeric identifiers
+    /// differently.
     fn checked(
         &self,
         how: Combination,
@@ -181,7 +185,8 @@ impl VersionSet {
         }
     }
 
-    /// The versions of a combination.
+    /// Returns the combination of two sets that read numeric identifiers in the same way. `Err`
+    /// means out of memory.
     fn combined(
         &self,
         how: Combination,

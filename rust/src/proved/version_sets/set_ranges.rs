@@ -1,5 +1,5 @@
 // Made by tools/erase.py from crates/version_sets/src/set_ranges.rt; not edited by hand.
-//! A set as ranges of plain comparators, and their text.
+//! A set as ranges of plain comparators, and as a string.
 
 use crate::rattle_std::prelude::*;
 use crate::proved::version_sets::intervals::ranges_of;
@@ -13,7 +13,7 @@ use crate::rattle_std::fmt;
 /// The releases or the pre-releases of a set as ranges of plain comparators: one range for each
 /// interval, in ascending order.
 ///
-/// `Display` writes a range text of npm mode: `*` if all are in the set, and `<0.0.0-0`, which no
+/// `Display` writes a range in npm mode: `*` if all are in the set, and `<0.0.0-0`, which no
 /// version satisfies, if none is.
 ///
 /// ```
@@ -33,17 +33,17 @@ pub struct SetRanges {
 }
 
 impl VersionSet {
-    /// The releases of the set as ranges of plain comparators.
+    /// Returns the releases of the set as ranges of plain comparators.
     ///
     /// The ranges are:
     ///
-    /// - `=1.2.0` if 1.2.0 is alone in its interval, else `>=1.9.0 <2.0.0`;
+    /// - `=1.2.0` if 1.2.0 is the only release in its interval, otherwise `>=1.9.0 <2.0.0`;
     /// - `>=1.9.0` if the interval has no end, and `<2.0.0` if it begins with 0.0.0;
-    /// - `>=0.0.0` if all releases are in the set, which `Display` writes as `*`;
-    /// - no range if the set has no release.
+    /// - only `>=0.0.0` if all releases are in the set, which `Display` writes as `*`;
+    /// - no range if the set contains no release.
     ///
-    /// It takes time in the number of boundaries, and allocates only if the set has a release.
-    /// `Err` is out of memory.
+    /// It takes time linear in the number of boundaries, and allocates only if the set contains a
+    /// release. `Err` means out of memory.
     ///
     /// ```
     /// use semver_parser::{sets, Dialect};
@@ -58,16 +58,16 @@ impl VersionSet {
         Ok(in_npm_mode(ranges))
     }
 
-    /// The pre-releases of the set as ranges of plain comparators, as
-    /// [`VersionSet::release_ranges`] returns the releases. A pre-release satisfies them by
-    /// precedence.
+    /// Returns the pre-releases of the set as ranges of plain comparators, like
+    /// [`VersionSet::release_ranges`] for the releases. A pre-release satisfies them by precedence.
     ///
-    /// Each lower bound has a pre-release, and an upper one is a release if all pre-releases below
-    /// it are in the set, as in `>=1.2.3-b <1.2.3`. The version right above 1.2.3-a is 1.2.3-a.0,
-    /// so 1.2.3-a alone is `=1.2.3-a`. The lowest is 0.0.0-0, and all pre-releases are `>=0.0.0-0`.
+    /// Each lower bound has a pre-release. An upper bound is a release if all pre-releases right
+    /// below it are in the set, as in `>=1.2.3-b <1.2.3`. The version right above 1.2.3-a is
+    /// 1.2.3-a.0, so if only 1.2.3-a is in the interval, it is written as `=1.2.3-a`. The lowest
+    /// pre-release is 0.0.0-0, and all pre-releases are `>=0.0.0-0`.
     ///
-    /// It takes time in the number of boundaries, and allocates only if the set has a pre-release.
-    /// `Err` is out of memory.
+    /// It takes time linear in the number of boundaries, and allocates only if the set contains a
+    /// pre-release. `Err` means out of memory.
     ///
     /// ```
     /// use semver_parser::{sets, Dialect, Meaning, PreReleases};
@@ -83,7 +83,7 @@ impl VersionSet {
     }
 }
 
-/// Ranges as a set in npm mode.
+/// Returns ranges as a set in npm mode.
 fn in_npm_mode(ranges: Vec<Range>) -> SetRanges {
     SetRanges {
         range_set: RangeSet {
@@ -94,7 +94,7 @@ fn in_npm_mode(ranges: Vec<Range>) -> SetRanges {
 }
 
 impl fmt::Display for SetRanges {
-    /// Writes the ranges as a range text of npm mode, separated by ` || `: `*` for `>=0.0.0` and
+    /// Writes the ranges as a range in npm mode, separated by ` || `: `*` for `>=0.0.0` and
     /// `>=0.0.0-0`, and `<0.0.0-0` for no range. It does not allocate, and its only error is the
     /// writer's.
     fn fmt(&self, f: &mut fmt::Formatter<'_>) -> fmt::Result {
@@ -107,7 +107,7 @@ impl fmt::Display for SetRanges {
     }
 }
 
-/// Whether the comparators are `>=0.0.0` alone, or `>=0.0.0-0`.
+/// Returns whether the comparators are only `>=0.0.0` or only `>=0.0.0-0`.
 fn is_from_lowest(comparators: &[Comparator]) -> bool {
     match comparators {
         [only] => {
@@ -118,7 +118,7 @@ fn is_from_lowest(comparators: &[Comparator]) -> bool {
     }
 }
 
-/// Whether there is no pre-release, or the lowest, `0`.
+/// Returns whether there is no pre-release, or only the lowest, `0`.
 pub(crate) fn is_lowest_pre<T: AsIdentifier>(identifiers: &[T]) -> bool {
     match identifiers {
         [] => true,

@@ -1,29 +1,31 @@
 // Made by tools/erase.py from crates/version_sets/src/spans.rt; not edited by hand.
-//! Spans of one kind of versions, and the boundaries of what is in some of them.
+//! Spans of one kind of versions, and the boundaries of their union.
 
 use crate::rattle_std::prelude::*;
 use crate::proved::version_sets::endpoint::Endpoint;
 use crate::rattle_std::AllocError;
 
-/// The versions at or above one endpoint and below another. `None` is above all versions.
+/// The versions at or above one endpoint and below another. `None` is an endpoint above all
+/// versions.
 #[derive(Clone, Copy)]
 pub(crate) struct Bounds<L> {
-    /// Where they begin.
+    /// The beginning.
     pub from: Option<L>,
-    /// Where they end.
+    /// The end.
     pub to: Option<L>,
 }
 
-/// The versions from a endpoint on and below another, if there is one, which is above the first.
+/// The versions at or above one endpoint, and below another if there is one. The second is above
+/// the first.
 #[derive(Clone, Copy)]
 pub(crate) struct Span<L> {
-    /// Where they begin.
+    /// The beginning.
     pub from: L,
-    /// Where they end.
+    /// The end.
     pub to: Option<L>,
 }
 
-/// The endpoint that fewer versions reach.
+/// Returns the higher of two endpoints. `None` is above all versions.
 fn later<L: Endpoint>(first: Option<L>, second: Option<L>) -> Option<L> {
     let (first, second) = (first?, second?);
     Some(if first.compare(&second).is_ge() {
@@ -33,7 +35,7 @@ fn later<L: Endpoint>(first: Option<L>, second: Option<L>) -> Option<L> {
     })
 }
 
-/// The endpoint that more versions reach.
+/// Returns the lower of two endpoints. `None` is above all versions.
 fn earlier<L: Endpoint>(first: Option<L>, second: Option<L>) -> Option<L> {
     let Some(first) = first else {
         return second;
@@ -49,7 +51,7 @@ fn earlier<L: Endpoint>(first: Option<L>, second: Option<L>) -> Option<L> {
 }
 
 impl<L: Endpoint> Bounds<L> {
-    /// The versions that are within other bounds, too.
+    /// Returns the versions that are within other bounds, too.
     pub(crate) fn and(self, other: Bounds<L>) -> Bounds<L> {
         Bounds {
             from: later(self.from, other.from),
@@ -57,7 +59,7 @@ impl<L: Endpoint> Bounds<L> {
         }
     }
 
-    /// The span of the versions, if there is any between the endpoints.
+    /// Returns the span of the versions, if there is anything between the endpoints.
     fn span(self) -> Option<Span<L>> {
         let from = self.from?;
         if let Some(to) = self.to {
@@ -68,7 +70,8 @@ impl<L: Endpoint> Bounds<L> {
         Some(Span { from, to: self.to })
     }
 
-    /// Adds the span of the versions to others, if there is any. `Err` is out of memory.
+    /// Adds the span of the versions to others, if there is anything between the endpoints. `Err`
+    /// means out of memory.
     pub(crate) fn push_to(self, spans: &mut Vec<Span<L>>) -> Result<(), AllocError> {
         if let Some(span) = self.span() {
             spans.fallible_push(span)?;
@@ -76,7 +79,7 @@ impl<L: Endpoint> Bounds<L> {
         Ok(())
     }
 
-    /// The boundaries of the versions. `Err` is out of memory.
+    /// Returns the boundaries of the versions. `Err` means out of memory.
     pub(crate) fn boundaries(self) -> Result<Vec<L::Boundary>, AllocError> {
         let Some(span) = self.span() else {
             return Ok(Vec::new());
@@ -87,7 +90,7 @@ impl<L: Endpoint> Bounds<L> {
     }
 }
 
-/// The boundaries of what is in some of the spans. `Err` is out of memory.
+/// Returns the boundaries of the union of the spans. `Err` means out of memory.
 pub(crate) fn boundaries_of<L: Endpoint>(
     spans: &mut [Span<L>],
 ) -> Result<Vec<L::Boundary>, AllocError> {
@@ -95,7 +98,7 @@ pub(crate) fn boundaries_of<L: Endpoint>(
     joined(spans)
 }
 
-/// The boundaries of ascending spans. `Err` is out of memory.
+/// Returns the boundaries of ascending spans. `Err` means out of memory.
 fn joined<L: Endpoint>(spans: &[Span<L>]) -> Result<Vec<L::Boundary>, AllocError> {
     let [first, others @ ..] = spans else {
         return Ok(Vec::new());
@@ -114,7 +117,7 @@ fn joined<L: Endpoint>(spans: &[Span<L>]) -> Result<Vec<L::Boundary>, AllocError
     Ok(boundaries)
 }
 
-/// Whether there is an end below a endpoint.
+/// Returns whether there is an end, and it is below an endpoint.
 fn is_apart<L: Endpoint>(end: Option<L>, endpoint: &L) -> bool {
     match end {
         Some(end) => end.compare(endpoint).is_lt(),
@@ -122,7 +125,7 @@ fn is_apart<L: Endpoint>(end: Option<L>, endpoint: &L) -> bool {
     }
 }
 
-/// Adds the boundaries of a span. `Err` is out of memory.
+/// Adds the boundaries of a span. `Err` means out of memory.
 fn push_boundaries<L: Endpoint>(
     span: &Span<L>,
     boundaries: &mut Vec<L::Boundary>,

@@ -8,13 +8,14 @@ use crate::proved::semver_texts::grammar::Digits;
 use crate::proved::semver_versions::read_version::ReadVersion;
 use crate::proved::semver_versions::version::{Outline, Version};
 
-/// A set of versions, in one normal form: for releases and for pre-releases a list of boundaries,
-/// each below the next by precedence (SemVer 2.0.0, section 11). A version is in the set exactly if
-/// an odd number of its kind's boundaries are at or below it; its build doesn't count.
+/// A set of versions in a normal form: one list of boundaries for releases and one for
+/// pre-releases, each in ascending order of precedence (SemVer 2.0.0, section 11). A version is in
+/// the set if and only if an odd number of the boundaries of its kind are at or below it. Its build
+/// metadata is ignored.
 ///
-/// A set also says what an identifier of digits alone is from 2^64 on: a number, as in the dialects
-/// of Cargo and npm, or a text, as in those of the crate. Sets that differ in this can't be
-/// combined or compared.
+/// A set also knows what a numeric identifier above 2^64 - 1 is: a number, as in the dialects of
+/// Cargo and npm, or a string, as in those of the crate `semver-parser`. Sets that differ in this
+/// can't be combined or compared.
 ///
 /// The releases of `>=1.2.0 <2.0.0 || 3.1.4` have the boundaries 1.2.0, 2.0.0, 3.1.4 and 3.1.5.
 ///
@@ -32,12 +33,13 @@ pub struct VersionSet {
     pub(crate) releases: Vec<Release>,
     /// The boundaries of the pre-releases. Each has a pre-release.
     pub(crate) pre_releases: Vec<ReadVersion>,
-    /// How identifiers of digits alone are read.
+    /// How numeric identifiers are read.
     pub(crate) digits: Digits,
 }
 
 impl VersionSet {
-    /// The set without versions, which reads identifiers of digits alone so. It does not allocate.
+    /// Returns the empty set, for versions whose numeric identifiers are read as `digits` says. It
+    /// does not allocate.
     ///
     /// ```
     /// use semver_parser::sets::VersionSet;
@@ -50,7 +52,7 @@ impl VersionSet {
         VersionSet::of_boundaries(digits, Vec::new(), Vec::new())
     }
 
-    /// The set with these boundaries, which are in the normal form. It does not allocate.
+    /// Returns the set with these boundaries, which are in the normal form. It does not allocate.
     pub(crate) fn of_boundaries(
         digits: Digits,
         releases: Vec<Release>,
@@ -63,7 +65,7 @@ impl VersionSet {
         }
     }
 
-    /// What an identifier of digits alone is from 2^64 on, in the versions of the set.
+    /// Returns how a numeric identifier above 2^64 - 1 is read, in the versions of the set.
     ///
     /// ```
     /// use semver_parser::{sets, Dialect, Digits};
@@ -77,7 +79,7 @@ impl VersionSet {
         self.digits
     }
 
-    /// The releases of the set. It does not allocate.
+    /// Returns the releases of the set. It does not allocate.
     ///
     /// ```
     /// use semver_parser::{sets, version, Dialect, Meaning, PreReleases};
@@ -93,7 +95,7 @@ impl VersionSet {
         VersionSet::of_boundaries(self.digits, self.releases, Vec::new())
     }
 
-    /// The pre-releases of the set. It does not allocate.
+    /// Returns the pre-releases of the set. It does not allocate.
     ///
     /// ```
     /// use semver_parser::{sets, version, Dialect};
@@ -108,11 +110,11 @@ impl VersionSet {
         VersionSet::of_boundaries(self.digits, Vec::new(), self.pre_releases)
     }
 
-    /// Whether a version is in the set; its build doesn't count. It takes time in the logarithm of
-    /// the number of boundaries, and does not allocate.
+    /// Returns whether a version is in the set. Its build metadata is ignored. It takes time
+    /// logarithmic in the number of boundaries, and does not allocate.
     ///
-    /// An identifier of digits alone from 2^64 on, which a `Version` keeps as a text, is read as
-    /// the set says.
+    /// A `Version` keeps a numeric identifier above 2^64 - 1 as a string; here it is read as the
+    /// set reads such identifiers.
     ///
     /// ```
     /// use semver_parser::{sets, version, Dialect};
@@ -131,7 +133,7 @@ impl VersionSet {
         let release = Release::from_version(version);
         let is_release = version.pre.is_empty();
         if self.pre_releases.is_empty() {
-            // Evaluates both, so that the answer depends on no branch.
+            // Evaluates both sides, so the result doesn't depend on a branch.
             return is_release & self.contains_release(release);
         }
         if is_release {
@@ -140,12 +142,13 @@ impl VersionSet {
         boundaries::contains_version(&self.pre_releases, version, self.digits)
     }
 
-    /// Whether each of some versions is in the set, as [`VersionSet::contains`] says of one. Of
-    /// many versions it is quicker so: where the set has no pre-release and at most two boundaries
-    /// of releases, as that of `^1.2.0` has, no answer depends on a branch. It does not allocate.
+    /// Writes to `answers`, for each version, whether it is in the set, like
+    /// [`VersionSet::contains`]. It is faster for many versions: if the set contains no pre-release
+    /// and has at most two boundaries of releases, such as the set of `^1.2.0`, no answer depends
+    /// on a branch. It does not allocate.
     ///
-    /// `answers` has to have as many places as there are versions. Of 1.1.0, 1.9.0 and 2.0.0 the
-    /// set of `^1.2.0` answers `false`, `true` and `false`.
+    /// `answers` must have the same length as `versions`. For 1.1.0, 1.9.0 and 2.0.0 and the set of
+    /// `^1.2.0`, the answers are `false`, `true` and `false`.
     pub(crate) fn contains_each(&self, versions: &[Version], answers: &mut [bool]) {
         match self.releases.as_slice() {
             [from] if self.pre_releases.is_empty() => batch::is_release_between(
@@ -161,7 +164,7 @@ impl VersionSet {
         }
     }
 
-    /// Whether a release is in the set, as [`VersionSet::contains`] says of a version.
+    /// Returns whether a release is in the set, like [`VersionSet::contains`] for a version.
     ///
     /// ```
     /// use semver_parser::sets::{self, Release};
@@ -177,9 +180,10 @@ impl VersionSet {
         boundaries::contains_release(&self.releases, &release)
     }
 
-    /// Whether the version of an outline is in the set, as [`VersionSet::contains`] says of a
-    /// version. Its identifiers are compared as they are in the text, and those of digits alone are
-    /// read as the set says, whatever the dialect of the outline. It does not allocate.
+    /// Returns whether a borrowed version is in the set, like [`VersionSet::contains`] for a
+    /// version. Its identifiers are compared as they are in the string, and the numeric ones are
+    /// read as the set reads them, whatever the dialect of the borrowed version. It does not
+    /// allocate.
     ///
     /// ```
     /// use semver_parser::{sets, version, Dialect};

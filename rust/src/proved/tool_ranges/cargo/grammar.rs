@@ -1,5 +1,5 @@
 // Made by tools/erase.py from crates/tool_ranges/src/cargo/grammar.rt; not edited by hand.
-//! What is at the front of a requirement: a comparator.
+//! Reads the comparator at the beginning of a requirement.
 //!
 //! Nothing here allocates, and a call looks at each byte a fixed number of times. What can't be
 //! read is `None`.
@@ -10,8 +10,8 @@ use crate::proved::semver_ranges::partial::{Component, Components, Partial};
 use crate::proved::semver_texts::dotted::have_no_leading_zeros;
 use crate::proved::semver_texts::grammar::Grammar;
 
-/// The comparator at the front of a text, up to a comma or the end, and what follows the comma. One
-/// without operator is answered as `^`, or with a wildcard as `=`.
+/// Returns the comparator at the beginning of a string, up to a comma or the end, and what follows
+/// the comma. One without an operator is returned as `^`, or as `=` if it has a wildcard.
 #[inline(always)]
 pub(crate) fn read_comparator(text: &[u8]) -> Option<(Simple<'_>, Option<&[u8]>)> {
     let text = after_blanks(text, Grammar::Cargo);
@@ -34,13 +34,13 @@ pub(crate) fn read_comparator(text: &[u8]) -> Option<(Simple<'_>, Option<&[u8]>)
     }
 }
 
-/// Whether a text begins with `~>`, which Cargo doesn't know.
+/// Returns whether a string begins with `~>`, which Cargo doesn't have.
 #[inline(always)]
 fn begins_with_tilde_greater(text: &[u8]) -> bool {
     matches!(text, [b'~', b'>', ..])
 }
 
-/// No operator is `^`, and `=` where there is a wildcard.
+/// Returns the operator, where none means `^`, or `=` with a wildcard.
 #[inline(always)]
 fn named(form: Form, has_wildcard: bool) -> Form {
     match form {
@@ -50,7 +50,7 @@ fn named(form: Form, has_wildcard: bool) -> Form {
     }
 }
 
-/// Whether some component is a wildcard.
+/// Returns whether some component is a wildcard.
 #[inline(always)]
 fn has_wildcard(written: &Components<'_>) -> bool {
     match (written.major, written.minor, written.patch) {
@@ -61,9 +61,12 @@ fn has_wildcard(written: &Components<'_>) -> bool {
     }
 }
 
-/// Whether Cargo reads such a comparator: a wildcard alone matches every release, and else the
-/// first number is stated, nothing but wildcards is after a wildcard, a pre-release or a build
-/// after three numbers alone, and no number in the pre-release has a leading zero.
+/// Returns whether Cargo accepts a comparator. A single wildcard is accepted; it matches every
+/// release. All others need all of these:
+/// - The first component is a number.
+/// - Only wildcards follow a wildcard.
+/// - Only three numbers are followed by a pre-release or build metadata.
+/// - No number in the pre-release has a leading zero.
 #[inline(always)]
 fn is_read(form: Form, written: &Components<'_>) -> bool {
     match (written.major, written.minor, written.patch) {
