@@ -1,5 +1,5 @@
-//! Laws over the definitions: each is the contract of a function that does nothing. Most are of the
-//! crates below; here are those of tokens and versions together, and examples.
+//! Laws over the definitions: each is the contract of a function that does nothing. Most laws are
+//! in the crates below; here are those about tokens and versions together, and examples.
 ghost use Rattle.std.specs.Prelude.{◌≡◌, [], ◌∷◌, true, false, codes, Result};
 ghost use Rattle.semver_ranges.specs.declared.range.Compat.{Compat};
 ghost use Rattle.semver_ranges.specs.declared.range.Compat.TheVariants.{Cargo, Npm};
@@ -18,16 +18,16 @@ pub use semver_texts::laws::precedence_is_total;
 pub use semver_tokens::laws::one_token_list;
 pub use semver_versions::laws::{one_outlined_version, one_version, one_version_in};
 
-/// Reading a text as a version has one outcome.
+/// Reading a string as a version has only one outcome.
 pub fn one_outcome()
     ensures same_outcome { (text : Text) (x y : Result VersionValue ErrorValue) → IsOutcomeOf text x
         → IsOutcomeOf text y → x ≡ y }
 {}
 
-/// What some versions satisfy: first the text, and then its comparators.
+/// Which versions satisfy some ranges: first the string, and then its comparators.
 pub fn row_facts()
-    // A version keeps `01` as a text, and a range as a number: the version read from `1.2.3-01`
-    // doesn't satisfy `=1.2.3-01`.
+    // A version keeps `01` as a string, and a range as a number, so the version `1.2.3-01` doesn't
+    // satisfy `=1.2.3-01`.
     ensures leading_zero { IsVersionText (codes "1.2.3-01") × ((mode : Compat) (v : VersionValue)
         → SpellsVersion v (codes "1.2.3-01")
         → IsMet (codes "=1.2.3-01") mode v.plain false false) }
@@ -57,7 +57,8 @@ pub fn row_facts()
         true }
 {}
 
-/// What some pre-releases satisfy: first the text by itself, and then as stated.
+/// Which pre-releases satisfy some ranges: first without a rule for pre-releases, and then by the
+/// default rule.
 pub fn stated_row_facts()
     ensures stated { (mode : Compat)
         → IsMetAsStated (codes "^1.2.3-beta.4") mode
@@ -65,22 +66,22 @@ pub fn stated_row_facts()
     ensures other_numbers { (mode : Compat)
         → IsMetAsStated (codes "^1.2.3-beta.4") mode
         (version 1 3 0 (alphanumeric (codes "rc") ∷ [])) true false }
-    // Any term of the range may state it.
+    // Any term of the range may name the pre-release's numbers.
     ensures another_term { (mode : Compat)
         → IsMetAsStated (codes ">=1.2.3 <1.2.4-rc") mode
         (version 1 2 4 (alphanumeric (codes "a") ∷ [])) true true }
-    // A term of another range doesn't.
+    // A term of another range doesn't count.
     ensures another_range { (mode : Compat)
         → IsMetAsStated (codes "=2.0.1-a || >=2.0.0") mode
         (version 2 0 1 (alphanumeric (codes "b") ∷ [])) true false }
     ensures side { (mode : Compat)
         → IsMetAsStated (codes "1.2.3-a - 2") mode
         (version 1 2 3 (alphanumeric (codes "b") ∷ [])) true true }
-    // The right side is `<=2`, which states no pre-release.
+    // The right side is `<=2`, which names no pre-release.
     ensures other_side { (mode : Compat)
         → IsMetAsStated (codes "1.2.3-a - 2") mode
         (version 2 0 0 (alphanumeric (codes "b") ∷ [])) true false }
-    // Two numbers are stated, so the pre-release doesn't count.
+    // The term names only two numbers, so the pre-release doesn't count.
     ensures wildcard { (mode : Compat)
         → IsMetAsStated (codes "~1.2.*-a") mode
         (version 1 2 1 (alphanumeric (codes "b") ∷ [])) true false }

@@ -1,17 +1,17 @@
-//! The port of the Rust crate `semver-parser`: version texts and range texts as plain data, under
-//! its names and in its modules. [`version::parse`] reads a version, and [`RangeSet::parse`] a
-//! range set.
+//! A port of the Rust crate `semver-parser` with its names and modules: it reads version and range
+//! strings into plain data. [`version::parse`] reads a version, and [`RangeSet::parse`] a range
+//! set.
 //!
-//! | module | what it has |
+//! | module | content |
 //! |---|---|
-//! | `lexer`, `parser` | the tokens of a version text, and a parser over them |
+//! | `lexer`, `parser` | the tokens of a version string, and a parser over them |
 //! | `version` | versions, read and printed |
 //! | `range`, `range_set` | ranges of comparators, read and printed |
-//! | `laws` | what the definitions say of each other |
-//! | `report` | what the program writes |
+//! | `laws` | laws about the definitions |
+//! | `report` | the output of the program |
 //!
-//! Most pass on what a crate below has. Those crates use none of each other, so they are proved
-//! side by side; what needs two of them is here.
+//! Most modules re-export a crate below. Those crates don't use each other, so they are proved
+//! independently; what needs two of them is here.
 #![tactic(auto)]
 
 pub mod laws;

@@ -1,3 +1,4 @@
-//! A range as plain data, and its printed text: comparators, which a version has to satisfy all.
+//! A range as plain data, and how it is printed: comparators, all of which a version has to
+//! satisfy.
 
 pub use semver_ranges::{Comparator, Compat, Identifier, Op, Range};

@@ -1,5 +1,5 @@
-//! What the program `semver-parser` writes of a text, as a version and as a range in each mode, and
-//! its exit status.
+//! The output of the program `semver-parser` for a string, read as a version and as a range in each
+//! mode, and its exit status.
 ghost use Rattle.std.specs.Prelude.{◌≡◌, true, false, ◌||◌, IfOk, codes};
 ghost use Rattle.semver_texts.specs.Writing.{WritesOrBegins};
 ghost use Rattle.semver_parser.specs.ReportLines.{VersionLine, RangeLine, version_error_word};
@@ -29,17 +29,19 @@ enum Shown {
 }
 
 // Answer: free, the writer's own errors: must-fail/report_forgets_the_npm_line.edit.
-/// Writes the three lines of a text, each with a printed value or an error word, and a line feed:
-/// `version: ` with the version, `cargo: ` and `npm: ` with the range set in Cargo and in npm mode.
-/// It answers true where at least one line holds no error word.
+/// Writes three lines for a string: `version: ` with the version, and `cargo: ` and `npm: ` with
+/// the range set in Cargo and in npm mode. Each line has a printed value or an error word. Returns
+/// whether at least one line has no error word.
 ///
-/// Of `1.2.3` it writes `version: 1.2.3`, `cargo: >=1.2.3 <2.0.0` and `npm: =1.2.3`; of `1.2` the
+/// For `1.2.3` it writes `version: 1.2.3`, `cargo: >=1.2.3 <2.0.0` and `npm: =1.2.3`; for `1.2` the
 /// first line is `version: unexpected-end`. The error words are `unexpected-end`,
 /// `unexpected-token`, `unexpected-char` and `more-input` for versions, `not-a-range` and
-/// `number-too-large` for ranges, and `out-of-memory` for each.
+/// `number-too-large` for ranges, and `out-of-memory` for both.
 ///
-/// `Err` only where a write failed, was interrupted, or took no byte; then nothing more is written,
-/// and `out` got a beginning of the lines.
+/// # Errors
+///
+/// Only if a write failed, was interrupted, or took no byte. Then nothing more is written, and
+/// `out` got a prefix of the lines.
 pub fn run<W: Write>(alloc: Global, text: &str, out: &mut W) -> Result<bool, io::Error>
     ensures lines { WritesLines text.now (W.contents out.old) (W.contents out.new) result }
 {
@@ -49,7 +51,7 @@ pub fn run<W: Write>(alloc: Global, text: &str, out: &mut W) -> Result<bool, io:
     write_lines(out, &version, &cargo, &npm)
 }
 
-/// Writes the lines, and returns whether some line holds no error word.
+/// Writes the lines, and returns whether at least one has no error word.
 fn write_lines<W: Write>(
     out: &mut W,
     version: &Shown,
@@ -68,10 +70,10 @@ fn write_lines<W: Write>(
 }
 
 // Answer: equation.
-/// The exit status of a run: 0 where some line holds no error word, 1 where each holds one, 2 after
-/// a failed write.
+/// Returns the exit status of a run: 0 if at least one line has no error word, 1 if each has one,
+/// and 2 after a failed write.
 ///
-/// Of `Ok(false)` it is 1.
+/// For `Ok(false)` it is 1.
 pub fn status(ran: &Result<bool, io::Error>) -> u8
     ensures code { result ≡ status_of ran.now }
 {
@@ -82,7 +84,7 @@ pub fn status(ran: &Result<bool, io::Error>) -> u8
     }
 }
 
-/// What the line of the version shows.
+/// Returns what the line of the version shows.
 fn version_shown(alloc: Global, text: &str) -> Shown
     ensures { VersionLine text.now (is_value_of result) (shown_text result) }
 {
@@ -92,7 +94,7 @@ fn version_shown(alloc: Global, text: &str) -> Shown
     }
 }
 
-/// The printed version, or the word for out of memory.
+/// Returns the printed version, or the word for out of memory.
 fn printed_version(alloc: Global, version: &Version) -> Shown
     ensures value { is_value_of result ≡ true → shown_text result
         ≡ version_text (version_value version.now) }
@@ -104,7 +106,7 @@ fn printed_version(alloc: Global, version: &Version) -> Shown
     }
 }
 
-/// What the line of a range set in a mode shows.
+/// Returns what the line of a range set in a mode shows.
 fn range_shown(alloc: Global, text: &str, compat: Compat) -> Shown
     ensures { RangeLine compat text.now (is_value_of result) (shown_text result) }
 {
@@ -114,7 +116,7 @@ fn range_shown(alloc: Global, text: &str, compat: Compat) -> Shown
     }
 }
 
-/// The word for an error of a range text.
+/// Returns the word for an error of a range string.
 fn range_error_word(error: &RangeError) -> &'static str
     ensures { result.now ≡ range_error_word error.now }
 {
@@ -125,7 +127,7 @@ fn range_error_word(error: &RangeError) -> &'static str
     }
 }
 
-/// The printed set, or the word for out of memory.
+/// Returns the printed set, or the word for out of memory.
 fn printed_set(alloc: Global, set: &RangeSet) -> Shown
     ensures value { is_value_of result ≡ true → shown_text result ≡ set_text (set_of set.now) }
     ensures error { is_value_of result ≡ false → shown_text result ≡ codes "out-of-memory" }
@@ -136,7 +138,7 @@ fn printed_set(alloc: Global, set: &RangeSet) -> Shown
     }
 }
 
-/// The word for an error of a version text.
+/// Returns the word for an error of a version string.
 fn version_error_word(error: &parser::Error<'_>) -> &'static str
     ensures { result.now ≡ version_error_word (error_value error.now) }
 {
@@ -152,14 +154,14 @@ fn version_error_word(error: &parser::Error<'_>) -> &'static str
 }
 
 impl Shown {
-    /// Whether it is a printed value.
+    /// Returns whether it is a printed value.
     fn is_value(&self) -> bool
         ensures { result ≡ is_value_of self.now }
     {
         matches!(self, Shown::Value(_))
     }
 
-    /// Its text.
+    /// Returns its string.
     fn as_str(&self) -> &str
         ensures { result.now ≡ shown_text self.now }
     {
@@ -180,7 +182,7 @@ fn write_line<W: Write>(out: &mut W, label: &str, shown: &Shown) -> io::Result<(
     write_text(out, "\n")
 }
 
-/// Writes all of a text.
+/// Writes all of a string.
 fn write_text<W: Write>(out: &mut W, text: &str) -> io::Result<()>
     ensures { WritesOrBegins (W.contents out.old) (W.contents out.new) result text.now }
 {

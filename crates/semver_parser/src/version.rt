@@ -1,5 +1,5 @@
-//! Version texts as plain data, and back: read from bytes, and by [`parse`], which also says what
-//! is wrong with an invalid version.
+//! Reads version strings into plain data, and prints versions. [`parse`] also says what is wrong
+//! with an invalid version.
 ghost use Rattle.std.specs.Prelude.{◌≡◌, ◌↔◌, [], Ok, IfOk};
 ghost use Rattle.semver_texts.specs.Versions.{VersionValue};
 ghost use Rattle.semver_texts.specs.PrintedText.{version_text};
@@ -17,24 +17,27 @@ pub use semver_versions::version::{
 use std::alloc::Global;
 
 // Answer: law answer_laws::versions::one_version_parse.
-/// The version that the text spells. It prints as the text without the white space round it, and a
-/// text that was printed from such a version gives that version.
+/// Reads a version string. Printed, the version is the string without the white space around it,
+/// and reading what was printed gives the same version. It is the version that [`read`] returns,
+/// except that an invalid string gives an error.
 ///
-/// Any other text is refused, with what comes first from the left:
+/// # Errors
 ///
-/// - `UnexpectedEnd`: the text ends where a version can't, as the empty text does.
-/// - `UnexpectedToken`: a token comes that can't come there, as the second hyphen of `1.2.3--1`, or
+/// The first of these from the left:
+///
+/// - `UnexpectedEnd`: the string ends before the version is complete. The empty string is an
+///   example.
+/// - `UnexpectedToken`: a token isn't allowed there, such as the second hyphen of `1.2.3--1`, or
 ///   `AlphaNumeric("01")` in `01.0.0`.
-/// - `MoreInput`: a version is followed by something else. It holds all tokens after the version
-///   and its white space: `1.2.3 a.b` gives `AlphaNumeric("a")`, `Dot`, `AlphaNumeric("b")`.
-/// - `Lexer`: a character begins no token. Since a token is read ahead, it is found before an error
-///   of the token before it: `a/` gives `Lexer(UnexpectedChar('/'))`. After a whole version it is
-///   found before `MoreInput`.
-/// - `OutOfMemory`: an allocation failed. Each identifier that isn't a number allocates, and so do
-///   the lists of identifiers and the tokens of `MoreInput`; a text that spells a version without
-///   pre-release and build never runs out of memory.
-///
-/// Returns the version that [`read`] finds. If there is none, the tokens show the error.
+/// - `MoreInput`: a version is followed by something else. The error holds all tokens after the
+///   version and its white space: `1.2.3 a.b` gives `AlphaNumeric("a")`, `Dot`,
+///   `AlphaNumeric("b")`.
+/// - `Lexer`: a character begins no token. Since one token is read ahead, this error comes before
+///   an error at the preceding token: `a/` gives `Lexer(UnexpectedChar('/'))`. After a complete
+///   version it comes before `MoreInput`.
+/// - `OutOfMemory`: an allocation failed. The lists of identifiers, each identifier that isn't a
+///   number, and the tokens of `MoreInput` are allocated. A version without a pre-release and build
+///   metadata never gives this error.
 ///
 /// ```
 /// use semver_parser::parser::Error;
@@ -49,26 +52,26 @@ use std::alloc::Global;
 /// ```
 #[inline(always)]
 pub fn parse(alloc: Global, input: &str) -> Result<Version, parser::Error<'_>>
-    // Unless memory ran out, the answer is a version exactly where the text spells it.
+    // Unless memory ran out, the result is a version if and only if the string spells it.
     ensures exact { (v : VersionValue) →
         UnlessOutOfMemory result ((answer_of version_value result ≡ Ok v)
         ↔ SpellsVersion v input.now) }
-    // A version without pre-release and build does not allocate.
+    // A version without a pre-release and build metadata is read without allocating.
     ensures plain { (v : VersionValue) → SpellsVersion v input.now → v.plain.pre ≡ []
         → v.build ≡ [] →
         answer_of version_value result ≡ Ok v }
-    // A version that is answered prints as the text without the white space at its ends.
+    // A version, printed, is the string without the white space at its ends.
     ensures trimmed { IfOk result (λ v. IsTrimmed input.now (version_text (version_value v))) }
-    // The printed text of a version reads back to it, unless memory ran out, exactly where it is
-    // printable.
+    // Unless memory ran out, a version, printed and read, gives that version again if and only if
+    // it is printable.
     ensures printable { IfOk result (λ v. IsPrintableVersion (version_value v)) }
     ensures read_back { (v : VersionValue) → IsPrintableVersion v → input.now ≡ version_text v →
         UnlessOutOfMemory result (answer_of version_value result ≡ Ok v) }
-    // Unless memory ran out, the answer is the outcome of the text.
+    // Unless memory ran out, the result is the outcome of the string.
     ensures outcome { UnlessOutOfMemory result
         (IsOutcomeOf input.now (answer_of version_value result)) }
-    // Memory runs out only in place of `MoreInput`, or where the longest front of the tokens that
-    // begins a version holds a run of an identifier.
+    // Memory runs out only if the error would be `MoreInput`, or if the longest prefix of the
+    // tokens that begins a version contains an alphanumeric part of an identifier.
     ensures out_of_memory { IfOutOfMemory result (TextMayRunOut input.now) }
 {
     match read(alloc, input) {
@@ -79,8 +82,8 @@ pub fn parse(alloc: Global, input: &str) -> Result<Version, parser::Error<'_>>
 }
 
 // Answer: law answer_laws::versions::one_parse_by_tokens.
-/// Returns what [`parse`] does, with its errors, from the tokens alone. Of a text that spells no
-/// version, as [`outline`] may have shown, it takes less time.
+/// Returns the result or the error of [`parse`], using only the tokens. It takes less time for an
+/// invalid version, if [`outline`] has shown that it is one.
 ///
 /// ```
 /// use semver_parser::parser::Error;
@@ -91,10 +94,10 @@ pub fn parse(alloc: Global, input: &str) -> Result<Version, parser::Error<'_>>
 /// ```
 #[inline(never)]
 pub fn parse_by_tokens(alloc: Global, input: &str) -> Result<Version, parser::Error<'_>>
-    // Unless memory ran out, the answer is the outcome of the text.
+    // Unless memory ran out, the result is the outcome of the string.
     ensures outcome { UnlessOutOfMemory result
         (IsOutcomeOf input.now (answer_of version_value result)) }
-    // Memory runs out only where it may as the text is parsed.
+    // Memory runs out only if parsing the tokens of the string may run out of memory.
     ensures out_of_memory { IfOutOfMemory result (TextMayRunOut input.now) }
 {
     let mut parser = Parser::new(input)?;

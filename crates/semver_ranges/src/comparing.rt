@@ -1,4 +1,4 @@
-//! How the identifiers that a range states are compared, kept or still a text.
+//! Compares the identifiers of a range, whether they are kept or still a string.
 
 ghost use Rattle.semver_ranges.specs.Partials.{kept};
 ghost use Rattle.semver_ranges.specs.RangeViews.{identifier_of};
@@ -20,7 +20,7 @@ impl AsIdentifier for Identifier {
     }
 }
 
-/// How ranges are read: digits that begin with a zero are a number.
+/// The identifiers of ranges: digits that begin with a zero are a number.
 #[derive(Clone, Copy)]
 pub struct InRanges;
 

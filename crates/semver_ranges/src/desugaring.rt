@@ -1,8 +1,8 @@
-//! How simples are rewritten to comparators: which operator compares with which version, and which
-//! number is raised for the bound above.
+//! Rewrites terms to comparators: which operator compares with which version, and which number is
+//! raised for the upper bound.
 //!
-//! The rewriting does not allocate or raise: only building does both, once all is
-//! known to fit.
+//! The table itself doesn't allocate or raise a number: only building the comparators does both,
+//! once everything is known to fit.
 
 ghost use Rattle.std.specs.Prelude.{◌≡◌, ◌≤◌, ◌++◌, ◌∷◌, [], length, map, true, IfOk};
 ghost use Rattle.semver_ranges.specs.declared.partial.Partial.{Partial as PartialView};
@@ -21,20 +21,19 @@ use crate::partial::{Partial, PartialKind, Place, RaisedBounds};
 use crate::range::{Comparator, Compat, Op};
 use std::alloc::{AllocError, Global};
 
-/// The cell of the table that has the one or two comparators of a simple.
+/// A desugared term: the cell of the table, with the one or two comparators of a term.
 #[derive(Drop)]
 pub(crate) enum Desugared {
     /// A comparison with the partial.
     Against(Op),
-    /// Below the bound that is raised at a place.
+    /// Everything below the bound that is raised at a place.
     Below(Place),
-    /// From the partial on, and below the bound that is raised at a place.
+    /// Everything from the partial on, and below the bound that is raised at a place.
     Between(Place),
 }
 
 impl Desugared {
-    /// Whether the numbers that the partial states, and the bound that is raised, are at most
-    /// 2^64 - 1.
+    /// Returns whether the numbers of the partial, and the raised bound, are at most 2^64 - 1.
     #[inline(always)]
     pub(crate) fn fits(&self, partial: &Partial<'_>) -> bool
         requires { IsPlaced self.now partial.now }
@@ -47,7 +46,7 @@ impl Desugared {
             }
     }
 
-    /// How many comparators. Vectors are made at this size.
+    /// Returns the number of comparators. Vectors are allocated with this capacity.
     #[inline(always)]
     pub(crate) fn count(&self) -> usize
         ensures { (raised : RaisedView) (partial : PartialView)
@@ -59,8 +58,8 @@ impl Desugared {
         }
     }
 
-    /// The operator that the partial is compared by, and the place of the raised bound, each where
-    /// there is one.
+    /// Returns the operator with which versions are compared with the partial, and the place of the
+    /// raised bound, each if there is one.
     #[inline(always)]
     fn split(self) -> (Option<Op>, Option<Place>)
         ensures op { result.0 ≡ op_of self }
@@ -73,7 +72,8 @@ impl Desugared {
         }
     }
 
-    /// The comparators by themselves. For speed none is pushed where there might be no capacity.
+    /// Returns the comparators in a vector of their own. They aren't added to a vector that might
+    /// lack capacity, for speed. `Err` means out of memory.
     #[inline(always)]
     pub(crate) fn to_vec(
         self,
@@ -98,7 +98,7 @@ impl Desugared {
         }
     }
 
-    /// Adds the comparators.
+    /// Adds the comparators. `Err` means out of memory.
     #[inline(always)]
     pub(crate) fn push(
         self,
@@ -123,7 +123,7 @@ impl Desugared {
     }
 }
 
-/// A vector of one comparator.
+/// Returns a vector of one comparator. `Err` means out of memory.
 #[inline(always)]
 fn singleton(alloc: Global, comparator: Comparator) -> Result<Vec<Comparator>, AllocError>
     ensures { IfOk result (λ comparators. comparators.items ≡ comparator ∷ []) }
@@ -133,7 +133,8 @@ fn singleton(alloc: Global, comparator: Comparator) -> Result<Vec<Comparator>, A
     Ok(comparators)
 }
 
-/// The comparators of a simple, by the table: its form, how many numbers it states, and the mode.
+/// Returns the comparators of a term according to the table, which depends on its operator, the
+/// number of its numbers, and the mode.
 #[inline(always)]
 pub(crate) fn rewritten(simple: &Simple<'_>, compat: Compat) -> Desugared
     ensures { (s : SimpleTree) → IsSimpleOf s simple.now
@@ -148,7 +149,7 @@ pub(crate) fn rewritten(simple: &Simple<'_>, compat: Compat) -> Desugared
     }
 }
 
-/// The column where no number is stated: the partial is 0.0.0 then.
+/// Returns the column of the table for terms without a number. The partial is 0.0.0 then.
 #[inline(always)]
 fn with_nothing_stated(form: Form) -> Desugared
     ensures cell { cell_of result ≡ with_version (nothing_stated (form_of form)) }
@@ -161,7 +162,7 @@ fn with_nothing_stated(form: Form) -> Desugared
     }
 }
 
-/// The column where one or two numbers are stated, the last of them at a place.
+/// Returns the column of the table for terms of one or two numbers, the last of them at a place.
 #[inline(always)]
 fn with_some_stated(form: Form, partial: &Partial<'_>, last: Place) -> Desugared
     requires some { 1 ≤ length (stated_of partial.now) }
@@ -179,8 +180,8 @@ fn with_some_stated(form: Form, partial: &Partial<'_>, last: Place) -> Desugared
     }
 }
 
-/// The column where three numbers are stated: the mode decides what a bare version is, and nothing
-/// else.
+/// Returns the column of the table for terms of three numbers. The mode decides only how a bare
+/// version is read.
 #[inline(always)]
 fn with_three_stated(form: Form, partial: &Partial<'_>, compat: Compat) -> Desugared
     requires { length (stated_of partial.now) ≡ 3 }

@@ -1,4 +1,4 @@
-//! The events of a range text, from the left to the right.
+//! The events of a range string, from left to right.
 //!
 //! Nothing here allocates, and a call looks at each byte a fixed number of times.
 
@@ -20,17 +20,17 @@ use crate::range_set::RangeError;
 use semver_texts::dotted::strip_mark;
 use semver_texts::grammar::Grammar;
 
-/// What is next in a range text.
+/// The next part of a range string.
 #[derive(Clone, Copy)]
 pub enum Event<'input> {
-    /// A simple of the range. An empty range is a bare wildcard, and a hyphen range `>=` of its
-    /// left side and `<=` of its right.
+    /// A term of the range. An empty range gives a bare wildcard, and a hyphen range gives `>=` its
+    /// left side and `<=` its right side.
     Simple(Simple<'input>),
-    /// Two bars: the next range.
+    /// Two bars, after which the next range begins.
     NextRange,
 }
 
-/// A cursor over a range text that yields its events.
+/// A cursor over a range string that returns its events.
 #[derive(Clone, Copy)]
 pub struct Events<'input> {
     rest: &'input [u8],
@@ -41,8 +41,8 @@ pub struct Events<'input> {
 
 impl<'input> Events<'input> {
     // Answer: equation.
-    /// The events of a text by a dialect. `lower` says how the left side of a hyphen range is
-    /// written.
+    /// Returns the events of a string in a dialect. `lower` says how the left side of a hyphen
+    /// range is written.
     #[inline(always)]
     pub fn new(text: &'input [u8], grammar: Grammar, lower: LowerBounds) -> Events<'input>
         ensures all { HasLeft grammar result (events grammar lower text.now) }
@@ -57,8 +57,8 @@ impl<'input> Events<'input> {
     }
 
     // Answer: equation.
-    /// The next event by a dialect, or that the text isn't in its grammar from there on. None at
-    /// the end, and after an error.
+    /// Returns the next event in a dialect, or an error if the string isn't in the grammar from
+    /// there on. It returns `None` at the end, and after an error.
     #[inline(always)]
     pub fn next_in(&mut self, grammar: Grammar) -> Option<Result<Event<'input>, RangeError>>
         ensures gives { NextGives grammar self.old result self.new }
@@ -82,7 +82,8 @@ impl<'input> Events<'input> {
         }
     }
 
-    /// Goes on after the event at the front of the text; none where the text isn't in the grammar.
+    /// Returns the event at the beginning of the rest, and moves after it. It returns `None` if the
+    /// rest isn't in the grammar.
     #[inline(always)]
     fn read_event(&mut self, grammar: Grammar) -> Option<Event<'input>>
         requires alone { self.old.upper ≡ None }
@@ -101,7 +102,7 @@ impl<'input> Events<'input> {
         Some(Event::Simple(Simple::wildcard()))
     }
 
-    /// Goes on after two bars.
+    /// Returns the event of two bars, and moves after them.
     #[inline(always)]
     fn read_bars(&mut self, grammar: Grammar) -> Option<Event<'input>>
         requires alone { self.old.upper ≡ None }
@@ -115,8 +116,8 @@ impl<'input> Events<'input> {
         Some(Event::NextRange)
     }
 
-    /// Goes on after a simple, or after a hyphen range, which begins its range and is yielded in
-    /// two.
+    /// Returns the event of a term, and moves after it. At the beginning of a range this may be a
+    /// hyphen range, whose two sides are separate events.
     #[inline(always)]
     fn read_in_range(&mut self, begins_range: bool, grammar: Grammar) -> Option<Event<'input>>
         requires alone { self.old.upper ≡ None }
@@ -135,7 +136,7 @@ impl<'input> Events<'input> {
         }
     }
 
-    /// Goes on after a hyphen range, whose left side and hyphen were read.
+    /// Moves after a hyphen range, whose left side and hyphen were read.
     #[inline(always)]
     fn read_sides(
         &mut self,
@@ -157,7 +158,7 @@ impl<'input> Events<'input> {
     }
 }
 
-/// The simples of a hyphen range, of which the left side has to be bare, and what follows it.
+/// Returns the two terms of a hyphen range, whose left side has to be bare, and what follows it.
 fn read_hyphen_range<'input>(
     left: Simple<'input>,
     after: &'input [u8],
@@ -175,8 +176,8 @@ fn read_hyphen_range<'input>(
     Some((lower, upper, rest))
 }
 
-/// The simples of the sides of a hyphen range: one that states nothing is left out, but for the
-/// left where neither states a number.
+/// Returns the terms of the two sides of a hyphen range. A side without a number is left out,
+/// except for the left one if neither side has a number.
 #[inline(always)]
 fn sides<'input>(
     left: Partial<'input>,

@@ -1,5 +1,5 @@
-//! Which words are too long to npm. None of up to `MAX_SAFE_BUILD_LENGTH` bytes is, so little of
-//! this runs.
+//! Decides which words are too long for npm. No word of up to `MAX_SAFE_BUILD_LENGTH` bytes is, so
+//! little of this is run.
 
 ghost use Rattle.std.specs.Prelude.{◌≡◌, length};
 ghost use Rattle.std.specs.List.{list_all};
@@ -20,19 +20,19 @@ use semver_texts::dotted::{marked_len, split_at_dot};
 use semver_texts::grammar::Grammar;
 use semver_texts::npm_limits::{MAX_LENGTH, MAX_SAFE_BUILD_LENGTH};
 
-/// Of which kind the parts between dots are.
+/// The kind of the parts between dots.
 #[derive(Clone, Copy)]
 enum Kind {
     /// The numbers, or wildcards.
     Number,
     /// The identifiers of the pre-release.
     PreRelease,
-    /// Those of the build.
+    /// The identifiers of the build metadata.
     Build,
 }
 
-/// Whether a word isn't too long to npm. For speed it is read anew: so nothing else is kept of it
-/// where no word is long.
+/// Returns whether a word isn't too long for npm. It is read again, so that nothing has to be kept
+/// for words that aren't long, for speed.
 #[inline(never)]
 pub(crate) fn is_short_word(word: &[u8], role: Role) -> bool
     requires { (p : PartialTree) × SpellsPartial p (after_v grammar.Npm word.now) }
@@ -46,7 +46,8 @@ pub(crate) fn is_short_word(word: &[u8], role: Role) -> bool
     }
 }
 
-/// Whether a word of so many bytes, which ends with this partial, isn't too long.
+/// Returns whether a word with a length of `len` bytes, which ends with this partial, isn't too
+/// long.
 fn is_short_partial(len: usize, partial: &[u8], written: &Components<'_>, role: Role) -> bool
     requires { (p : PartialTree) × SpellsPartial p partial.now × AreWritten p written.now }
     ensures { (p : PartialTree) → SpellsPartial p partial.now → AreWritten p written.now
@@ -60,7 +61,7 @@ fn is_short_partial(len: usize, partial: &[u8], written: &Components<'_>, role: 
     is_short_version(len, version, written, role)
 }
 
-/// Whether none of its numbers and identifiers is too long.
+/// Returns whether none of the numbers and identifiers is too long.
 fn has_short_parts(numbers: &[u8], written: &Components<'_>) -> bool
     ensures { result ≡ are_short_parts numbers.now written.now.pre.now written.now.build.now }
 {
@@ -69,8 +70,9 @@ fn has_short_parts(numbers: &[u8], written: &Components<'_>) -> bool
         && are_short(written.build, Kind::Build)
 }
 
-/// Whether the version of its comparator isn't too long, where three numbers are stated. It is the
-/// word, or the numbers and the pre-release alone, which have so many bytes.
+/// Returns whether the version of a comparator isn't too long, if it has three numbers. For
+/// node-semver it is either the whole word, or only the numbers and the pre-release; `word` and
+/// `version` are their lengths.
 fn is_short_version(word: usize, version: usize, written: &Components<'_>, role: Role) -> bool
     ensures { (p : PartialTree) → AreWritten p written.now → version ≡ length (numbers_and_pre p)
         → result ≡ has_short_version (role_of role) p word }
@@ -84,7 +86,7 @@ fn is_short_version(word: usize, version: usize, written: &Components<'_>, role:
     version <= MAX_LENGTH
 }
 
-/// Whether node-semver takes a word of three stated numbers over with its `v` and its build.
+/// Returns whether node-semver keeps a word of three numbers with its `v` and its build metadata.
 fn is_taken_whole(written: &Components<'_>, role: Role) -> bool
     ensures { (p : PartialTree) → AreWritten p written.now
         → result ≡ is_taken_whole (role_of role) p }
@@ -95,7 +97,7 @@ fn is_taken_whole(written: &Components<'_>, role: Role) -> bool
     }
 }
 
-/// Whether three numbers are stated.
+/// Returns whether the partial has three numbers.
 fn states_three(written: &Components<'_>) -> bool
     ensures { (p : PartialTree) → AreWritten p written.now → result ≡ states_three p }
 {
@@ -109,7 +111,7 @@ fn states_three(written: &Components<'_>) -> bool
     )
 }
 
-/// Whether none of the parts between dots is too long.
+/// Returns whether none of the parts between dots is too long.
 fn are_short(parts: &[u8], kind: Kind) -> bool
     ensures { result ≡ list_all (is_short_as kind) (cut_at_dots parts.now) }
 {
@@ -127,7 +129,7 @@ fn are_short(parts: &[u8], kind: Kind) -> bool
     true
 }
 
-/// Whether a part isn't too long.
+/// Returns whether a part isn't too long.
 fn is_short(part: &[u8], kind: Kind) -> bool
     ensures { result ≡ is_short_as kind part.now }
 {
@@ -138,7 +140,8 @@ fn is_short(part: &[u8], kind: Kind) -> bool
     }
 }
 
-/// Whether an identifier of a pre-release isn't too long: digits alone are a number.
+/// Returns whether an identifier of a pre-release isn't too long. If it consists of only digits, it
+/// is a number.
 fn is_short_pre(part: &[u8]) -> bool
     ensures { result ≡ is_short_as Kind.PreRelease part.now }
 {
@@ -149,7 +152,7 @@ fn is_short_pre(part: &[u8]) -> bool
     digits <= MAX_LENGTH && part.len() <= digits + 1 + MAX_SAFE_BUILD_LENGTH
 }
 
-/// How many digits a text begins with.
+/// Returns the number of digits at the beginning of a string.
 fn leading_digits(text: &[u8]) -> usize
     ensures { result ≡ leading_digits text.now }
 {

@@ -1,4 +1,4 @@
-//! Partials: the numbers that one states, and its pre-release as a slice of the text.
+//! Partials: the numbers of a term, and its pre-release as a slice of the string.
 
 ghost use Rattle.std.specs.Prelude.{◌≡◌, ◌+◌, ◌-◌, ◌<◌, ◌≤◌, Some, true, [], map};
 ghost use Rattle.std.specs.Prelude.{length, IfErr, IfOk, ◌&&◌, ◌==◌, nat_le, not, false};
@@ -22,14 +22,14 @@ use semver_texts::decimals::number_of_digits;
 use semver_texts::dotted::{of_parts, text_of_parts};
 use std::alloc::{AllocError, Global};
 
-/// A component: a wildcard, or a number, whose value is none above 2^64 - 1.
+/// A component: a wildcard, or a number. The value of a number above 2^64 - 1 is `None`.
 #[derive(Clone, Copy)]
 pub enum Component {
     Wildcard,
     Number(Option<u64>),
 }
 
-/// The components of a partial as they are written: those that aren't there are wildcards.
+/// The components of a partial as they are written. Missing ones are wildcards.
 #[derive(Clone, Copy)]
 pub struct Components<'input> {
     /// The first.
@@ -38,17 +38,17 @@ pub struct Components<'input> {
     pub minor: Component,
     /// The third.
     pub patch: Component,
-    /// How many are written.
+    /// The number of components that are written.
     pub count: usize,
-    /// The parts of the pre-release after three, joined by dots.
+    /// The parts of the pre-release after three components, joined by dots.
     pub pre: &'input [u8],
-    /// Those of the build.
+    /// The parts of the build metadata after three components, joined by dots.
     pub build: &'input [u8],
-    /// Whether a pre-release or a build is written after three.
+    /// Whether a pre-release or build metadata is written after three components.
     pub is_qualified: bool,
 }
 
-/// How many numbers a partial states.
+/// The number of numbers in a partial.
 #[derive(Clone, Copy, PartialEq, Eq)]
 pub enum PartialKind {
     /// None: it begins with a wildcard.
@@ -61,7 +61,7 @@ pub enum PartialKind {
     MajorMinorPatch,
 }
 
-/// One of the three numbers.
+/// One of the three numbers of a version.
 #[derive(Clone, Copy, PartialEq, Eq)]
 pub enum Place {
     Major,
@@ -69,26 +69,26 @@ pub enum Place {
     Patch,
 }
 
-/// How a bound that is raised is written.
+/// How a raised bound is written.
 #[derive(Clone, Copy)]
 pub enum RaisedBounds {
-    /// Without pre-release, as `<2.0.0`.
+    /// Without a pre-release, such as `<2.0.0`.
     Plain,
-    /// With the lowest pre-release, as `<2.0.0-0`.
+    /// With the lowest pre-release, such as `<2.0.0-0`.
     Exact,
 }
 
-/// How a bound that begins with a partial is written.
+/// How a lower bound that begins with a partial is written.
 #[derive(Clone, Copy)]
 pub enum LowerBounds {
-    /// As stated, as `>=1.2.0`.
+    /// As it is in the string, such as `>=1.2.0`.
     Stated,
-    /// With the lowest pre-release where it states none, as `>=1.2.0-0`.
+    /// With the lowest pre-release if the partial names none, such as `>=1.2.0-0`.
     Lowest,
 }
 
-/// The numbers that a partial states, with zeros for the others, and its pre-release after three,
-/// as a slice of the text.
+/// The numbers of a partial, with zeros for the missing ones, and its pre-release after three
+/// numbers, as a slice of the string.
 #[derive(Clone, Copy)]
 pub struct Partial<'input> {
     major: u64,
@@ -101,8 +101,8 @@ pub struct Partial<'input> {
 
 impl<'input> Partial<'input> {
     // Answer: free, what is kept beside a number above 2^64 - 1: ../replayed_cases/stdin.
-    /// The partial of three components, of which those that aren't there are wildcards, and of the
-    /// parts of a pre-release, which count after three numbers alone.
+    /// Returns the partial of three components, where missing ones are wildcards, and of the parts
+    /// of a pre-release, which count only after three numbers.
     #[inline(always)]
     pub fn new(
         major: Component,
@@ -153,7 +153,7 @@ impl<'input> Partial<'input> {
     }
 
     // Answer: equation.
-    /// How many numbers are stated.
+    /// Returns how many numbers the partial has.
     #[inline(always)]
     pub fn kind(&self) -> PartialKind
         ensures { result ≡ self.now.kind }
@@ -162,7 +162,7 @@ impl<'input> Partial<'input> {
     }
 
     // Answer: equation.
-    /// Whether no number is stated.
+    /// Returns whether the partial has no number.
     #[inline(always)]
     pub fn states_nothing(&self) -> bool
         ensures { result ≡ states_none self.now.kind }
@@ -170,7 +170,7 @@ impl<'input> Partial<'input> {
         matches!(self.kind, PartialKind::XRangeOnly)
     }
 
-    /// Whether the numbers that are stated are at most 2^64 - 1.
+    /// Returns whether all numbers of the partial are at most 2^64 - 1.
     #[inline(always)]
     pub(crate) fn fits(&self) -> bool
         ensures { result ≡ self.now.fits }
@@ -179,7 +179,7 @@ impl<'input> Partial<'input> {
     }
 
     // Answer: equation.
-    /// The place of the first number that isn't 0, or of the last that is stated.
+    /// Returns the place of the first number that isn't 0, or that of the last number if all are 0.
     #[inline(always)]
     pub fn leading_place(&self) -> Place
         requires { 1 ≤ length (stated_of self.now) }
@@ -196,7 +196,7 @@ impl<'input> Partial<'input> {
         }
     }
 
-    /// The same numbers with the lowest pre-release: `0`.
+    /// Returns the same numbers with the lowest pre-release, which is `0`.
     #[inline(always)]
     pub(crate) fn lowest(self) -> Partial<'input>
         ensures stated { stated_of result ≡ stated_of self.entry }
@@ -208,7 +208,7 @@ impl<'input> Partial<'input> {
         Partial { pre: b"0", ..self }
     }
 
-    /// The same as a bound that begins with it is written.
+    /// Returns the partial as the beginning of a lower bound.
     #[inline(always)]
     pub(crate) fn begun(self, lower: LowerBounds) -> Partial<'input>
         ensures { (t : PartialTree) → IsPartialOf t self.entry
@@ -224,7 +224,7 @@ impl<'input> Partial<'input> {
     }
 
     // Answer: equation.
-    /// Whether three numbers are stated.
+    /// Returns whether the partial has three numbers.
     #[inline(always)]
     pub fn states_three(&self) -> bool
         ensures { result ≡ (length (stated_of self.now) == 3) }
@@ -233,7 +233,7 @@ impl<'input> Partial<'input> {
     }
 
     // Answer: equation.
-    /// The first number, or 0 where none is stated.
+    /// Returns the first number, or 0 if it is missing.
     #[inline(always)]
     pub fn major(&self) -> u64
         ensures { result ≡ self.now.major }
@@ -242,7 +242,7 @@ impl<'input> Partial<'input> {
     }
 
     // Answer: equation.
-    /// The second number, or 0 where none is stated.
+    /// Returns the second number, or 0 if it is missing.
     #[inline(always)]
     pub fn minor(&self) -> u64
         ensures { result ≡ self.now.minor }
@@ -251,7 +251,7 @@ impl<'input> Partial<'input> {
     }
 
     // Answer: equation.
-    /// The third number, or 0 where none is stated.
+    /// Returns the third number, or 0 if it is missing.
     #[inline(always)]
     pub fn patch(&self) -> u64
         ensures { result ≡ self.now.patch }
@@ -260,7 +260,7 @@ impl<'input> Partial<'input> {
     }
 
     // Answer: equation.
-    /// The parts of the pre-release that is stated after three numbers, joined by dots.
+    /// Returns the parts of the pre-release after three numbers, joined by dots.
     #[inline(always)]
     pub fn pre(&self) -> &'input [u8]
         ensures bytes { result.now ≡ self.now.pre.now }
@@ -270,7 +270,7 @@ impl<'input> Partial<'input> {
     }
 
     // Answer: equation.
-    /// Whether a pre-release is stated after three numbers.
+    /// Returns whether the partial has three numbers and a pre-release.
     #[inline(always)]
     pub fn has_pre_release(&self) -> bool
         ensures { result ≡ not (is_empty (version_of self.now).pre) }
@@ -279,7 +279,7 @@ impl<'input> Partial<'input> {
     }
 
     // Answer: equation.
-    /// Whether the numbers that are stated are at most this one.
+    /// Returns whether all numbers of the partial are at most `most`.
     #[inline(always)]
     pub fn states_at_most(&self, most: u64) -> bool
         ensures { result ≡ (self.now.fits && list_all (λ n. nat_le n most) (stated_of self.now)) }
@@ -296,7 +296,7 @@ impl<'input> Partial<'input> {
     }
 
     // Answer: equation.
-    /// The number at a place.
+    /// Returns the number at a place.
     #[inline(always)]
     pub fn number(&self, place: Place) -> u64
         ensures { result ≡ number_at place self.now }
@@ -308,7 +308,7 @@ impl<'input> Partial<'input> {
         }
     }
 
-    /// Whether the number at a place is below 2^64 - 1.
+    /// Returns whether the number at a place is below 2^64 - 1.
     #[inline(always)]
     pub(crate) fn may_rise(&self, place: Place) -> bool
         requires { place_number place ≤ length (stated_of self.now) }
@@ -323,7 +323,8 @@ impl<'input> Partial<'input> {
     }
 
     // Answer: equation.
-    /// The comparator of an operator and this partial, with zeros for what isn't stated.
+    /// Returns the comparator of an operator and this partial, with zeros for missing numbers.
+    /// `Err` means out of memory.
     #[inline(always)]
     pub fn as_comparator(&self, alloc: Global, op: Op) -> Result<Comparator, AllocError>
         requires { PartsPass self.now }
@@ -345,8 +346,9 @@ impl<'input> Partial<'input> {
         })
     }
 
-    /// Below the bound above all versions with these numbers up to a place: that number is raised
-    /// by one, and those after it are 0.
+    /// Returns the comparator for everything below the bound above all versions with these numbers
+    /// up to a place: that number is raised by one, and the numbers after it are 0. `Err` means out
+    /// of memory.
     #[inline(always)]
     pub(crate) fn raised(
         &self,
@@ -377,7 +379,7 @@ impl<'input> Partial<'input> {
     }
 }
 
-/// The pre-release of a bound that is raised: none, or the lowest.
+/// Returns the pre-release of a raised bound: none, or the lowest. `Err` means out of memory.
 #[inline(always)]
 fn raised_pre(alloc: Global, raised: RaisedBounds) -> Result<Vec<Identifier>, AllocError>
     ensures value { IfOk result (λ pre. map identifier_of pre.items ≡ pre_of raised) }
@@ -390,7 +392,7 @@ fn raised_pre(alloc: Global, raised: RaisedBounds) -> Result<Vec<Identifier>, Al
 }
 
 // Answer: equation.
-/// The lowest pre-release: `0`.
+/// Returns the lowest pre-release, which is `0`. `Err` means out of memory.
 #[inline(always)]
 pub fn lowest_pre_release(alloc: Global) -> Result<Vec<Identifier>, AllocError>
     ensures { IfOk result (λ pre. map identifier_of pre.items ≡ lowest_pre_release) }
@@ -400,8 +402,8 @@ pub fn lowest_pre_release(alloc: Global) -> Result<Vec<Identifier>, AllocError>
     Ok(pre)
 }
 
-/// The parts of a pre-release as they are kept. For speed it is a function of its own: most
-/// partials have none, and then nothing is called.
+/// Returns the parts of a pre-release as they are kept. It is a separate function for speed: most
+/// partials have no pre-release, and then nothing is called. `Err` means out of memory.
 #[inline(never)]
 fn kept_parts(alloc: Global, pre: &[u8]) -> Result<Vec<Identifier>, AllocError>
     requires { list_all is_part (cut_at_dots pre.now) ≡ true }
@@ -415,7 +417,7 @@ fn kept_parts(alloc: Global, pre: &[u8]) -> Result<Vec<Identifier>, AllocError>
     )
 }
 
-/// A part as it is kept.
+/// Returns a part as it is kept. `Err` means out of memory.
 fn read_identifier(alloc: Global, part: &str) -> Result<Identifier, AllocError>
     ensures { IfOk result (λ i. identifier_of i ≡ kept part.now) }
 {

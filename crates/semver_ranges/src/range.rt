@@ -1,4 +1,4 @@
-//! Ranges as plain data: comparators, and their printed text.
+//! Ranges as plain data: comparators, and how they are printed.
 
 ghost use Rattle.std.specs.Prelude.{Some};
 ghost use Rattle.semver_ranges.specs.RangeViews.{identifier_of, comparator_of, range_of};
@@ -6,7 +6,7 @@ ghost use Rattle.semver_ranges.specs.RangeViews.{identifier_of, comparator_of, r
 use semver_texts::printing::{write_joined, write_part};
 use std::fmt;
 
-/// A range: comparators that a version satisfies all together.
+/// A range: comparators, all of which a version has to satisfy.
 ///
 /// ```
 /// use semver_parser::{Compat, RangeSet};
@@ -18,13 +18,13 @@ use std::fmt;
 /// ```
 #[derive(Clone, PartialEq, Eq, PartialOrd, Ord, Hash, Debug, Drop)]
 pub struct Range {
-    /// The comparators, in the order of the text.
+    /// The comparators, in the order of the string.
     pub comparator_set: Vec<Comparator>,
-    /// The mode in which the text was read.
+    /// The mode in which the string was read.
     pub compat: Compat,
 }
 
-/// A comparator: an operator and the version that it compares with.
+/// A comparator: an operator and the version to compare with.
 ///
 /// ```
 /// use semver_parser::{Compat, Op, RangeSet};
@@ -37,7 +37,7 @@ pub struct Range {
 /// ```
 #[derive(Clone, PartialEq, Eq, PartialOrd, Ord, Hash, Debug, Drop)]
 pub struct Comparator {
-    /// How a version compares that satisfies it.
+    /// The comparison that a version has to pass.
     pub op: Op,
     /// The first number.
     pub major: u64,
@@ -49,7 +49,7 @@ pub struct Comparator {
     pub pre: Vec<Identifier>,
 }
 
-/// How a comparator compares.
+/// The operator of a comparator.
 ///
 /// ```
 /// use semver_parser::Op;
@@ -66,12 +66,12 @@ pub enum Op {
     Gt,
     /// `>=`: not below.
     Gte,
-    /// `=`: equal in precedence.
+    /// `=`: equal by precedence.
     Eq,
 }
 
-/// An identifier of a comparator's pre-release. It is another type than that of versions, as in the
-/// Rust crate.
+/// An identifier of a comparator's pre-release. Its type differs from that of a version's
+/// identifiers, as in the Rust crate.
 ///
 /// ```
 /// use semver_parser::{Compat, Identifier, RangeSet};
@@ -83,9 +83,9 @@ pub enum Op {
 /// ```
 #[derive(Clone, PartialEq, Eq, PartialOrd, Ord, Hash, Debug, Drop)]
 pub enum Identifier {
-    /// A part made only of digits, of a value up to 2^64 - 1. Leading zeros aren't kept.
+    /// A part that consists of only digits, with a value up to 2^64 - 1. Leading zeros aren't kept.
     Numeric(u64),
-    /// The text of any other part.
+    /// Any other part, as a string.
     AlphaNumeric(String),
 }
 
@@ -100,9 +100,9 @@ pub enum Identifier {
 /// ```
 #[derive(Clone, Copy, PartialEq, Eq, PartialOrd, Ord, Hash, Debug)]
 pub enum Compat {
-    /// As with a caret: `1.2.3` is `>=1.2.3 <2.0.0`.
+    /// Like a caret: `1.2.3` is `>=1.2.3 <2.0.0`.
     Cargo,
-    /// As this version alone: `1.2.3` is `=1.2.3`.
+    /// As exactly this version: `1.2.3` is `=1.2.3`.
     Npm,
 }
 
@@ -112,7 +112,7 @@ impl fmt::Display for Op {
 
     ghost output = { λ op. Some (op_text op) };
 
-    /// Writes the operator as it is in a range text: `Op::Gte` as `>=`. It does not allocate, and
+    /// Writes the operator as it is in a range string: `Op::Gte` as `>=`. It does not allocate, and
     /// its only error is the writer's.
     fn fmt<W: fmt::Write>(&self, f: &mut fmt::Formatter<W>) -> fmt::Result {
         f.write_str(match self {
@@ -131,8 +131,8 @@ impl fmt::Display for Identifier {
 
     ghost output = { λ i. Some (identifier_text (identifier_of i)) };
 
-    /// Writes the decimal, or the text itself: `Numeric(4)` as `4`, `AlphaNumeric("beta")` as
-    /// `beta`. It does not allocate, and its only error is the writer's.
+    /// Writes the decimal number, or the string itself: `Numeric(4)` as `4`, `AlphaNumeric("beta")`
+    /// as `beta`. It does not allocate, and its only error is the writer's.
     #[tactic(auto, using(semver_texts::proofs::LargeNumbers::small_numeral))]
     fn fmt<W: fmt::Write>(&self, f: &mut fmt::Formatter<W>) -> fmt::Result {
         match self {
@@ -151,9 +151,9 @@ impl fmt::Display for Comparator {
 
     ghost output = { λ c. Some (comparator_text (comparator_of c)) };
 
-    /// Writes the operator and all three numbers, separated by dots; then, where there is a
-    /// pre-release, `-` and its identifiers joined by dots: `>=1.2.3-beta.4`. It does not allocate,
-    /// and its only error is the writer's.
+    /// Writes the operator and all three numbers, separated by dots. If there is a pre-release, `-`
+    /// and its identifiers, joined by dots, follow: `>=1.2.3-beta.4`. It does not allocate, and its
+    /// only error is the writer's.
     fn fmt<W: fmt::Write>(&self, f: &mut fmt::Formatter<W>) -> fmt::Result {
         let (op, major, minor, patch) = (&self.op, self.major, self.minor, self.patch);
         write!(f, "{op}{major}.{minor}.{patch}")?;
@@ -167,8 +167,8 @@ impl fmt::Display for Range {
 
     ghost output = { λ r. Some (range_text (range_of r)) };
 
-    /// Writes the comparators with a space between each two: `>=1.2.3 <2.0.0`. A range without
-    /// comparators is written as the empty text. It does not allocate, and its only error is the
+    /// Writes the comparators, separated by single spaces: `>=1.2.3 <2.0.0`. A range without
+    /// comparators is written as the empty string. It does not allocate, and its only error is the
     /// writer's.
     fn fmt<W: fmt::Write>(&self, f: &mut fmt::Formatter<W>) -> fmt::Result {
         write_joined(f, " ", &self.comparator_set)

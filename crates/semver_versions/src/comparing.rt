@@ -1,4 +1,4 @@
-//! How the identifiers of a version are compared while they are still a text.
+//! Compares the identifiers of a version while they are still a string.
 
 ghost use Rattle.semver_versions.specs.Outlines.{identifier_of};
 
@@ -6,7 +6,7 @@ use semver_texts::decimals::number_of_digits;
 use semver_texts::identifiers::Reading;
 use semver_texts::precedence::IdentifierRef;
 
-/// How versions are read: digits that begin with a zero are a text.
+/// The identifiers of versions: digits that begin with a zero are an alphanumeric identifier.
 #[derive(Clone, Copy)]
 pub struct InVersions;
 

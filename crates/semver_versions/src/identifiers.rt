@@ -1,4 +1,4 @@
-//! Identifiers, cut from their text at its dots.
+//! Identifiers, cut from their string at its dots.
 
 ghost use Rattle.std.specs.Prelude.{◌≡◌, ◌<◌, length, map, true, IfOk, IfErr};
 ghost use Rattle.std.specs.List.{list_all};
@@ -13,7 +13,7 @@ use semver_texts::precedence::IdentifierRef;
 use semver_texts::version::Identifier;
 use std::alloc::{AllocError, Global};
 
-/// The identifier that the text is kept as.
+/// Returns the identifier that a `Version` keeps of a string. `Err` means out of memory.
 #[inline(always)]
 fn identifier(alloc: Global, text: &str) -> Result<Identifier, AllocError>
     ensures { IfOk result (λ id. identifier_value id ≡ identifier_of text.now) }
@@ -25,8 +25,8 @@ fn identifier(alloc: Global, text: &str) -> Result<Identifier, AllocError>
 }
 
 // Answer: equation.
-/// The identifiers that the texts between the dots are kept as; none if there are no bytes, which
-/// does not allocate.
+/// Returns the identifiers that a `Version` keeps of the strings between the dots. If there are no
+/// bytes, there are no identifiers, and nothing is allocated. `Err` means out of memory.
 #[inline(always)]
 pub fn identifiers(alloc: Global, bytes: &[u8]) -> Result<Vec<Identifier>, AllocError>
     requires { list_all is_part (cut_at_dots bytes.now) ≡ true }
@@ -41,7 +41,7 @@ pub fn identifiers(alloc: Global, bytes: &[u8]) -> Result<Vec<Identifier>, Alloc
 }
 
 // Answer: equation.
-/// What `identifiers` returns, of a text.
+/// Returns the result of [`identifiers`] for a string.
 #[inline(always)]
 pub fn identifiers_of_text(alloc: Global, text: &str) -> Result<Vec<Identifier>, AllocError>
     ensures kept { IfOk result (λ ids.

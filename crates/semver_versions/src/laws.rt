@@ -11,28 +11,28 @@ ghost use Rattle.semver_versions.specs.Outlines.{version_of};
 
 use crate::outlines::Outline;
 
-/// No text spells two versions.
+/// A string spells at most one version in the crate's grammar.
 pub fn one_version()
     ensures same_version { (v w : VersionValue) (text : Text) → SpellsVersion v text
         → SpellsVersion w text → v ≡ w }
 {}
 
-/// No text spells two versions in a dialect.
+/// A string spells at most one version in a dialect.
 pub fn one_version_in()
     ensures same_version { (grammar : Grammar) (v w : VersionValue) (text : Text)
         → SpellsIn grammar v text → SpellsIn grammar w text → v ≡ w }
 {}
 
-/// The outline of a text is of the version that the text spells.
+/// The borrowed version of a string is that of the version that the string spells.
 pub fn one_outlined_version()
     ensures same_version { (grammar : Grammar) (o : OutlineValue) (v : VersionValue) (text : Text)
         → IsOutlineIn grammar text o → SpellsIn grammar v text → v ≡ version_of o }
-    // In the crate's dialect an outline is that of the crate's grammar.
+    // In the crate's dialect, a borrowed version is that of the crate's grammar.
     ensures same_outline { (o : OutlineValue) (text : Text)
         → IsOutlineIn Crate text o ↔ IsOutlineOf text o }
 {}
 
-/// The numbers of an outline fit 64 bits. It does nothing.
+/// The numbers of a borrowed version fit 64 bits. It does nothing.
 pub fn numbers_of_outlines_fit(version: &Outline<'_>)
     ensures major { version.now.major < 2 ^ 64 }
     ensures minor { version.now.minor < 2 ^ 64 }

@@ -1,5 +1,5 @@
-//! Version texts read from their bytes in three dialects, as an outline without allocating, or as a
-//! `Version`.
+//! Reads version strings in three dialects, either as a borrowed version, without allocating, or as
+//! a `Version`.
 #![tactic(auto)]
 
 pub mod comparing;

@@ -1,4 +1,4 @@
-//! Versions in outline.
+//! Borrowed versions.
 
 ghost use Rattle.std.specs.Prelude.{◌≡◌, ◌⊎◌, ◌<◌, ◌+◌, ◌^◌, ℕ, [], ◌∷◌, codes, length, map, not};
 ghost use Rattle.std.specs.Prelude.{IfOk, IfErr};
@@ -23,8 +23,8 @@ use std::alloc::{AllocError, Global};
 use std::cmp::Ordering;
 use std::marker::Model;
 
-/// A version text in outline: the three numbers, and the texts of the pre-release and of the build
-/// with where they are. `version::outline` answers it, and the version can be made of it.
+/// A borrowed version: the three numbers, and slices of the pre-release and of the build metadata
+/// with their offsets. `version::outline` returns it, and it can be converted to a [`Version`].
 ///
 /// ```
 /// use semver_parser::version;
@@ -67,7 +67,7 @@ impl<'t> Model for Outline<'t> {
 
 impl<'t> Outline<'t> {
     // Answer: equation.
-    /// The outline of 0.0.0.
+    /// Returns the borrowed version 0.0.0.
     ///
     /// ```
     /// use semver_parser::version::{self, Outline};
@@ -101,7 +101,7 @@ impl<'t> Outline<'t> {
     }
 
     // Answer: equation.
-    /// The first number.
+    /// Returns the first number.
     ///
     /// ```
     /// use semver_parser::version;
@@ -117,7 +117,7 @@ impl<'t> Outline<'t> {
     }
 
     // Answer: equation.
-    /// The second number.
+    /// Returns the second number.
     ///
     /// ```
     /// use semver_parser::version;
@@ -133,7 +133,7 @@ impl<'t> Outline<'t> {
     }
 
     // Answer: equation.
-    /// The third number.
+    /// Returns the third number.
     ///
     /// ```
     /// use semver_parser::version;
@@ -149,8 +149,8 @@ impl<'t> Outline<'t> {
     }
 
     // Answer: equation.
-    /// The identifiers of the pre-release joined by dots, without the `-` before them; empty where
-    /// there is no pre-release.
+    /// Returns the identifiers of the pre-release joined by dots, without the `-` before them. The
+    /// string is empty if there is no pre-release.
     ///
     /// ```
     /// use semver_parser::version;
@@ -167,7 +167,7 @@ impl<'t> Outline<'t> {
     }
 
     // Answer: equation.
-    /// The bytes of [`Outline::pre`]. For speed, they are not made a text.
+    /// Returns the bytes of [`Outline::pre`]. They aren't converted to a `str`, for speed.
     #[must_use]
     #[inline(always)]
     pub fn pre_bytes(&self) -> &'t [u8]
@@ -177,8 +177,8 @@ impl<'t> Outline<'t> {
     }
 
     // Answer: equation.
-    /// The identifiers of the build joined by dots, without the `+` before them; empty where there
-    /// is no build.
+    /// Returns the identifiers of the build metadata joined by dots, without the `+` before them.
+    /// The string is empty if there is no build metadata.
     ///
     /// ```
     /// use semver_parser::version;
@@ -195,7 +195,7 @@ impl<'t> Outline<'t> {
     }
 
     // Answer: equation.
-    /// Whether it has a pre-release.
+    /// Returns whether the version has a pre-release.
     ///
     /// ```
     /// use semver_parser::version;
@@ -206,18 +206,18 @@ impl<'t> Outline<'t> {
     #[must_use]
     #[inline(always)]
     pub fn is_pre_release(&self) -> bool
-        // It is so of the version of each text that has this outline.
+        // The result is that for the version of each string that has this borrowed version.
         ensures pre_release { (text : Text) (v : VersionValue) → IsOutlineOf text self.now
             → SpellsVersion v text → result ≡ not (is_empty v.plain.pre) }
-        // So of the version that the outline is of.
+        // It is also that for the version that the borrowed version stands for.
         ensures of_version { result ≡ not (is_empty (version_of self.now).plain.pre) }
     {
         !self.pre.is_empty()
     }
 
     // Answer: equation.
-    /// How many bytes of the text that was read are before the identifiers of the pre-release. It
-    /// is 0 where there is no pre-release.
+    /// Returns the byte offset of the pre-release's identifiers in the string that was read, or 0
+    /// if there is no pre-release.
     ///
     /// ```
     /// use semver_parser::version;
@@ -234,8 +234,8 @@ impl<'t> Outline<'t> {
     }
 
     // Answer: equation.
-    /// How many bytes of the text that was read are before the identifiers of the build. It is 0
-    /// where there is no build.
+    /// Returns the byte offset of the build metadata's identifiers in the string that was read, or
+    /// 0 if there is no build metadata.
     ///
     /// ```
     /// use semver_parser::version;
@@ -252,8 +252,8 @@ impl<'t> Outline<'t> {
     }
 
     // Answer: equation.
-    /// What an identifier of digits alone is from 2^64 on, by the dialect that the text was read
-    /// by: a text as `semver-parser` keeps it, or a number.
+    /// Returns how a numeric identifier above 2^64 - 1 is read, in the dialect in which the string
+    /// was read: as a string, which is what `semver-parser` does, or as a number.
     ///
     /// ```
     /// use semver_parser::version::{self, Grammar};
@@ -270,8 +270,8 @@ impl<'t> Outline<'t> {
     }
 
     // Answer: equation.
-    /// The identifiers of the pre-release, as they are compared: they are read while they are
-    /// taken. It does not allocate.
+    /// Returns the identifiers of the pre-release for comparing. They are read one by one, as they
+    /// are needed. It does not allocate.
     #[must_use]
     #[inline(always)]
     pub fn compared_pre(&self) -> ByDigits<Joined<'t, InVersions>>
@@ -281,8 +281,8 @@ impl<'t> Outline<'t> {
         self.pre_by(self.digits)
     }
 
-    /// The identifiers of the pre-release, as they are compared if those of digits alone are read
-    /// so.
+    /// Returns the identifiers of the pre-release for comparing, where numeric ones are read as
+    /// `digits` says.
     #[inline(always)]
     pub(crate) fn pre_by(&self, digits: Digits) -> ByDigits<Joined<'t, InVersions>>
         ensures { ⟦<ByDigits<Joined<'t, InVersions>> as Identifiers<'t>>⟧.left result
@@ -292,10 +292,11 @@ impl<'t> Outline<'t> {
     }
 
     // Answer: equation.
-    /// The identifiers of the pre-release. Digits from 2^64 on are kept as a text.
+    /// Returns the identifiers of the pre-release. Numeric identifiers above 2^64 - 1 are kept as
+    /// strings.
     ///
-    /// It allocates if there are some: for their list, and for each that isn't a number.
-    /// `Err` is out of memory.
+    /// If there are identifiers, it allocates their list, and each identifier that isn't a number.
+    /// `Err` means out of memory.
     ///
     /// ```
     /// use semver_parser::version::{self, Identifier};
@@ -307,11 +308,11 @@ impl<'t> Outline<'t> {
     /// ```
     #[inline(always)]
     pub fn pre_identifiers(&self, alloc: Global) -> Result<Vec<Identifier>, AllocError>
-        // They are those of each version text that has this outline.
+        // They are those of each version string that has this borrowed version.
         ensures identifiers { (text : Text) (v : VersionValue) → IsOutlineOf text self.now
             → SpellsVersion v text
             → IfOk result (λ ids. map identifier_value ids.items ≡ v.plain.pre) }
-        // So of the version that the outline is of.
+        // They are also those of the version that the borrowed version stands for.
         ensures kept { IfOk result (λ ids.
             map identifier_value ids.items ≡ (kept_version_of self.now).plain.pre) }
         ensures of_version { IfOk result (λ ids.
@@ -323,7 +324,8 @@ impl<'t> Outline<'t> {
     }
 
     // Answer: equation.
-    /// The identifiers of the build. It allocates as [`Outline::pre_identifiers`].
+    /// Returns the identifiers of the build metadata. It allocates like
+    /// [`Outline::pre_identifiers`].
     ///
     /// ```
     /// use semver_parser::version::{self, Identifier};
@@ -334,11 +336,11 @@ impl<'t> Outline<'t> {
     /// ```
     #[inline(always)]
     pub fn build_identifiers(&self, alloc: Global) -> Result<Vec<Identifier>, AllocError>
-        // They are those of each version text that has this outline.
+        // They are those of each version string that has this borrowed version.
         ensures identifiers { (text : Text) (v : VersionValue) → IsOutlineOf text self.now
             → SpellsVersion v text
             → IfOk result (λ ids. map identifier_value ids.items ≡ v.build) }
-        // So of the version that the outline is of.
+        // They are also those of the version that the borrowed version stands for.
         ensures kept { IfOk result (λ ids.
             map identifier_value ids.items ≡ (kept_version_of self.now).build) }
         ensures of_version { IfOk result (λ ids.
@@ -350,10 +352,10 @@ impl<'t> Outline<'t> {
     }
 
     // Answer: equation.
-    /// The version that the outline is of.
+    /// Returns the version with identifiers of its own.
     ///
-    /// It allocates if there is a pre-release or a build: for the lists of identifiers,
-    /// and for each identifier that isn't a number. `Err` is out of memory.
+    /// If there is a pre-release or build metadata, it allocates the lists of identifiers, and each
+    /// identifier that isn't a number. `Err` means out of memory.
     ///
     /// ```
     /// use semver_parser::version;
@@ -364,10 +366,10 @@ impl<'t> Outline<'t> {
     /// ```
     #[inline(always)]
     pub fn version(&self, alloc: Global) -> Result<Version, AllocError>
-        // Each text that has this outline spells the version.
+        // Each string that has this borrowed version spells the result.
         ensures version { IfOk result (λ version. (text : Text) → IsOutlineOf text self.now
             → SpellsVersion (version_value version) text) }
-        // It is the version that the outline is of.
+        // The result is the version that the borrowed version stands for.
         ensures kept { IfOk result (λ version.
             version_value version ≡ kept_version_of self.now) }
         ensures of_version { IfOk result (λ version.
@@ -384,8 +386,8 @@ impl<'t> Outline<'t> {
         })
     }
 
-    /// The version, if the outline is that of the text. For speed, the identifiers are cut from the
-    /// text, so their bytes aren't checked for UTF-8.
+    /// Returns the version, if the borrowed version is that of the string. The identifiers are cut
+    /// from the string, so their bytes needn't be checked for UTF-8, for speed.
     #[inline(always)]
     pub(crate) fn version_in(&self, alloc: Global, text: &str) -> Result<Version, AllocError>
         requires pre { StandsAt self.now.pre_offset self.now.pre text.now }
@@ -405,9 +407,9 @@ impl<'t> Outline<'t> {
     }
 
     // Answer: equation.
-    /// How the version of this outline compares with another by precedence (SemVer 2.0.0, section
-    /// 11), as `version::cmp_precedence` says of two versions. Builds don't count. Identifiers of
-    /// digits alone are read by the outline's dialect, on both sides. It does not allocate.
+    /// Compares this borrowed version with a version by precedence (SemVer 2.0.0, section 11), like
+    /// `version::cmp_precedence`. Build metadata is ignored. Numeric identifiers on both sides are
+    /// read as in the borrowed version's dialect. It does not allocate.
     ///
     /// ```
     /// use semver_parser::version;
@@ -420,11 +422,11 @@ impl<'t> Outline<'t> {
     #[must_use]
     #[inline(always)]
     pub fn cmp_precedence(&self, version: &Version) -> Ordering
-        // It is that of the version of each text that has this outline.
+        // The result is that for the version of each string that has this borrowed version.
         ensures precedence { (text : Text) (v : VersionValue) → IsOutlineOf text self.now
             → SpellsVersion v text
             → result ≡ precedence v.plain (version_value version.now).plain }
-        // So of the version that the outline is of.
+        // It is also that for the version that the borrowed version stands for.
         ensures of_version { result ≡ precedence (version_of self.now).plain
             (plain_by self.now.digits (version_value version.now).plain) }
     {
@@ -437,9 +439,8 @@ impl<'t> Outline<'t> {
     }
 
     // Answer: equation.
-    /// How the version of this outline compares with that of another by precedence (SemVer 2.0.0,
-    /// section 11). Build metadata is ignored. Identifiers of digits alone are read by the dialect
-    /// of each. It does not allocate.
+    /// Compares two borrowed versions by precedence (SemVer 2.0.0, section 11). Build metadata is
+    /// ignored. Numeric identifiers are read in the dialect of each. It does not allocate.
     ///
     /// ```
     /// use semver_parser::version;
@@ -462,7 +463,7 @@ impl<'t> Outline<'t> {
     }
 }
 
-/// The identifiers of parts that are in a text at an offset.
+/// Returns the identifiers of parts that are in a string at an offset. `Err` means out of memory.
 #[inline(always)]
 fn identifiers_at(
     alloc: Global,
@@ -482,7 +483,7 @@ fn identifiers_at(
     identifiers_of_text(alloc, &text[offset..offset + parts.len()])
 }
 
-/// Where a part begins whose mark is at the place; 0 where there is no part.
+/// Returns the offset of a part whose mark is at an offset, or 0 if there is no part.
 #[inline(always)]
 fn after_mark_at(place: usize, part: &[u8]) -> usize
     requires { place + length part.now < 2 ^ 64 }
@@ -491,8 +492,8 @@ fn after_mark_at(place: usize, part: &[u8]) -> usize
     if part.is_empty() { 0 } else { place + 1 }
 }
 
-/// The outline of these numbers, how many bytes there are up to their end, and the texts of the
-/// pre-release and of the build, which follow, each after its mark.
+/// Returns the borrowed version of these numbers, which end at an offset, and of a pre-release and
+/// build metadata, which follow, each after its mark.
 #[inline(always)]
 pub(crate) fn with_parts<'t>(
     major: u64,

@@ -1,4 +1,4 @@
-//! Versions that own their identifiers, and know how those of digits alone are read.
+//! Versions that own their identifiers, and know how the numeric ones are read.
 
 ghost use Rattle.std.specs.Prelude.{◌≡◌, IfOk};
 ghost use Rattle.semver_texts.specs.Digits.{plain_by};
@@ -16,23 +16,24 @@ use semver_texts::version::{Identifier, Version};
 use std::alloc::{AllocError, Global};
 use std::cmp::Ordering;
 
-/// A version, and how its identifiers of digits alone are read: from 2^64 on they are texts, as a
-/// `Version` keeps them, or numbers, as Cargo and npm read them.
+/// A version, and how its numeric identifiers above 2^64 - 1 are read: as strings, which is how a
+/// `Version` keeps them, or as numbers, as Cargo and npm read them.
 #[derive(Clone, Debug, Drop)]
 pub struct ReadVersion {
     /// The version.
     pub version: Version,
-    /// How its identifiers of digits alone are read.
+    /// How its numeric identifiers are read.
     pub digits: Digits,
 }
 
 impl ReadVersion {
     // Answer: equation.
-    /// Returns the version of an outline, without its build. `Err` is out of memory.
+    /// Returns a borrowed version without its build metadata. `Err` means out of memory.
     #[inline(always)]
     pub fn of(alloc: Global, outline: &Outline<'_>) -> Result<ReadVersion, AllocError>
         ensures plain { IfOk result (λ read. read_plain read ≡ (version_of outline.now).plain) }
-        // Both parts are those of the outline, but for the build.
+        // Version and digits are those of the borrowed version, except that there is no build
+        // metadata.
         ensures version { IfOk result (λ read. version_value read.version
             ≡ without_build (kept_version_of outline.now).plain) }
         ensures digits { IfOk result (λ read. read.digits ≡ outline.now.digits) }
@@ -51,10 +52,10 @@ impl ReadVersion {
     }
 
     // Answer: equation.
-    /// Returns the same version, without its build. `Err` is out of memory.
+    /// Returns the same version without its build metadata. `Err` means out of memory.
     pub fn without_build(&self, alloc: Global) -> Result<ReadVersion, AllocError>
         ensures plain { IfOk result (λ same. read_plain same ≡ read_plain self.now) }
-        // Both parts are the same, but for the build.
+        // Version and digits are the same, except that there is no build metadata.
         ensures version { IfOk result (λ same. version_value same.version
             ≡ without_build (version_value self.now.version).plain) }
         ensures digits { IfOk result (λ same. same.digits ≡ self.now.digits) }
@@ -73,7 +74,7 @@ impl ReadVersion {
     }
 
     // Answer: equation.
-    /// Returns the identifiers of the pre-release, as they are compared.
+    /// Returns the identifiers of the pre-release for comparing.
     #[inline(always)]
     pub fn pre<'a>(&'a self) -> ByDigits<&'a [Identifier]>
         ensures { ⟦<ByDigits<&'a [Identifier]> as Identifiers<'a>>⟧.left result
@@ -83,7 +84,7 @@ impl ReadVersion {
     }
 
     // Answer: equation.
-    /// Returns how it compares with another by precedence.
+    /// Compares two versions by precedence.
     pub fn compare(&self, other: &ReadVersion) -> Ordering
         ensures { result ≡ precedence (read_plain self.now) (read_plain other.now) }
     {
@@ -91,8 +92,8 @@ impl ReadVersion {
     }
 
     // Answer: equation.
-    /// Returns how it compares by precedence with a version whose identifiers of digits alone are
-    /// read so.
+    /// Compares it with a version by precedence, where the version's numeric identifiers are read
+    /// as `digits` says.
     #[inline(always)]
     pub fn compare_version(&self, version: &Version, digits: Digits) -> Ordering
         ensures { result ≡ precedence (read_plain self.now)
@@ -107,8 +108,8 @@ impl ReadVersion {
     }
 
     // Answer: equation.
-    /// Returns how the version of an outline compares with it by precedence, if the outline's
-    /// identifiers of digits alone are read so.
+    /// Compares a borrowed version with it by precedence, where the borrowed version's numeric
+    /// identifiers are read as `digits` says.
     #[inline(always)]
     pub fn compared_outline(&self, outline: &Outline<'_>, digits: Digits) -> Ordering
         ensures { result ≡ precedence (plain_by digits (kept_version_of outline.now).plain)

@@ -1,10 +1,11 @@
-//! A version text read from its bytes to its outline, by a dialect: three numbers, and the
-//! pre-release and the build as slices. Each byte that is read as a part of a version is ASCII, so
-//! the bytes need no check for UTF-8.
+//! Reads a version string from its bytes as a borrowed version, in a dialect: three numbers, and
+//! the pre-release and the build metadata as slices. Each byte that is read as a part of a version
+//! is ASCII, so the bytes need no check for UTF-8.
 //!
-//! The dialects differ in what may be before the numbers and after the version, in the hyphens and
-//! zeros of identifiers, and in npm's limits. Three numbers alone are read alike by each, so for
-//! speed they are read without a look at the dialect. What needs one is called, not inlined.
+//! The dialects differ in what is allowed before and after the version, in the hyphens and zeros of
+//! identifiers, and in npm's limits. A version of only three numbers is the same in each dialect,
+//! so it is read without looking at the dialect, for speed. Functions that depend on the dialect
+//! are called, not inlined.
 
 ghost use Rattle.std.specs.Prelude.{◌≡◌, ◌≤◌, ◌<◌, ◌+◌, ◌++◌, ◌^◌, ℕ, true, false, length};
 ghost use Rattle.std.specs.Prelude.{MatchOption, slice_index};
@@ -24,8 +25,8 @@ use semver_texts::grammar::Grammar;
 use semver_texts::npm_limits::{MAX_LENGTH, MAX_SAFE_INTEGER};
 use semver_texts::white_space::white_space_len;
 
-/// How many bytes the character at the front has, if it may be before and after a version; else 0.
-/// npm takes what JavaScript calls white space.
+/// Returns the length in bytes of the first character, if it is allowed around a version, otherwise
+/// 0. npm allows what JavaScript calls white space.
 #[inline(always)]
 fn around_len(bytes: &[u8], grammar: Grammar) -> usize
     ensures size { result ≡ around_size grammar bytes.now }
@@ -41,7 +42,7 @@ fn around_len(bytes: &[u8], grammar: Grammar) -> usize
     }
 }
 
-/// What follows the characters at the front that may be before and after a version.
+/// Returns what follows the characters at the beginning that are allowed around a version.
 #[inline(never)]
 fn after_around(bytes: &[u8], grammar: Grammar) -> &[u8]
     ensures { (spaces : Text) × AreAround grammar spaces × (bytes.now ≡ spaces ++ result.now)
@@ -57,7 +58,8 @@ fn after_around(bytes: &[u8], grammar: Grammar) -> &[u8]
     }
 }
 
-/// What follows all that is taken before the numbers, by npm one `v` too.
+/// Returns what follows everything that is allowed before the numbers, which in npm's dialect
+/// includes one `v`.
 #[inline(never)]
 fn after_front(bytes: &[u8], grammar: Grammar) -> &[u8]
     ensures { IsBefore grammar bytes.now result.now }
@@ -72,8 +74,8 @@ fn after_front(bytes: &[u8], grammar: Grammar) -> &[u8]
     }
 }
 
-/// What follows all that is taken before the numbers, if it begins with a digit. For speed, a digit
-/// at the front is seen first: nothing is before it.
+/// Returns what follows everything that is allowed before the numbers, if it begins with a digit. A
+/// digit at the very beginning is recognized first, for speed: nothing is before it.
 #[inline(always)]
 fn at_digit(bytes: &[u8], grammar: Grammar) -> Option<&[u8]>
     ensures { MatchOption result ((rest : Text) × IsBefore grammar bytes.now rest
@@ -92,7 +94,7 @@ fn at_digit(bytes: &[u8], grammar: Grammar) -> Option<&[u8]>
     }
 }
 
-/// Whether the bytes may be after a version.
+/// Returns whether the bytes are allowed after a version.
 #[inline(always)]
 fn may_end(bytes: &[u8], grammar: Grammar) -> bool
     ensures yes { result ≡ true → AreAround grammar bytes.now }
@@ -101,7 +103,7 @@ fn may_end(bytes: &[u8], grammar: Grammar) -> bool
     bytes.is_empty() || after_around(bytes, grammar).is_empty()
 }
 
-/// Whether the numbers of a version are within npm's limit.
+/// Returns whether the numbers of a version are within npm's limit.
 #[inline(always)]
 fn are_small(major: u64, minor: u64, patch: u64) -> bool
     ensures yes { result ≡ true → NumbersFit Npm major minor patch }
@@ -110,8 +112,8 @@ fn are_small(major: u64, minor: u64, patch: u64) -> bool
     major | minor | patch <= MAX_SAFE_INTEGER
 }
 
-/// Whether the numbers of a version are within the limit, which npm alone has. For speed, small
-/// numbers are seen first.
+/// Returns whether the numbers of a version are within the limit, which only npm has. Small numbers
+/// are recognized first, for speed.
 #[inline(always)]
 fn fit(major: u64, minor: u64, patch: u64, grammar: Grammar) -> bool
     ensures yes { result ≡ true → NumbersFit grammar major minor patch }
@@ -126,7 +128,8 @@ fn fit(major: u64, minor: u64, patch: u64, grammar: Grammar) -> bool
     }
 }
 
-/// Whether so many characters and those of these bytes are within the limit, which npm alone has.
+/// Returns whether a number of characters plus those of the bytes is within the limit, which only
+/// npm has.
 #[inline(always)]
 fn is_short(before: usize, bytes: &[u8], grammar: Grammar) -> bool
     requires { before + length bytes.now < 2 ^ 64 }
@@ -142,7 +145,7 @@ fn is_short(before: usize, bytes: &[u8], grammar: Grammar) -> bool
     }
 }
 
-/// How many characters the bytes are in UTF-8.
+/// Returns the number of characters of the bytes in UTF-8.
 #[inline(never)]
 fn count_characters(bytes: &[u8]) -> usize
     ensures count { result ≡ characters bytes.now }
@@ -157,7 +160,7 @@ fn count_characters(bytes: &[u8]) -> usize
     count
 }
 
-/// Whether the identifiers of a pre-release may begin with zeros so.
+/// Returns whether the dialect allows the leading zeros in the identifiers of a pre-release.
 #[inline(always)]
 fn zeros_fit(pre: &[u8], grammar: Grammar) -> bool
     ensures yes { result ≡ true → ZerosFit grammar (cut_at_dots pre.now) }
@@ -169,9 +172,9 @@ fn zeros_fit(pre: &[u8], grammar: Grammar) -> bool
     }
 }
 
-/// The identifiers of the pre-release and those of the build that the bytes are, each with its
-/// mark, and what may be after a version; nothing where there are none. For speed, it is compiled
-/// for either kind of hyphens.
+/// Returns the identifiers of the pre-release and of the build metadata, if the bytes are these,
+/// each after its mark, and what is allowed after a version. Either is empty if it is missing. It
+/// is compiled separately for each kind of hyphens, for speed.
 #[inline(never)]
 fn parts(bytes: &[u8], grammar: Grammar) -> Option<(&[u8], &[u8])>
     ensures { MatchOption result ((pre build : Text) → ¬ (AreParts grammar bytes.now pre build))
@@ -183,7 +186,7 @@ fn parts(bytes: &[u8], grammar: Grammar) -> Option<(&[u8], &[u8])>
     }
 }
 
-/// The parts of a version, whose identifiers may have such hyphens.
+/// Returns the result of `parts`, for identifiers with the given kind of hyphens.
 #[inline(always)]
 fn parts_with(bytes: &[u8], hyphens: Hyphens, grammar: Grammar) -> Option<(&[u8], &[u8])>
     requires { hyphens ≡ hyphens_of grammar }
@@ -199,8 +202,8 @@ fn parts_with(bytes: &[u8], hyphens: Hyphens, grammar: Grammar) -> Option<(&[u8]
     }
 }
 
-/// The outline of the version whose numbers are known and within the limit, how many bytes there
-/// are up to their end, and what follows them, if the text spells one.
+/// Returns the borrowed version of a string, if it spells a version. Its numbers were read and are
+/// within the limit: they end at the offset `numbers_end`, and `rest` follows them.
 #[inline(always)]
 fn with_rest(
     major: u64,
@@ -228,9 +231,10 @@ fn with_rest(
     ))
 }
 
-/// The outline of the version whose numbers are known, how many bytes there are up to their end,
-/// and what follows them, if the text spells one. For speed, numbers alone are seen first, and what
-/// follows them is read by a function of its own: so nothing is made ready for it here.
+/// Returns the borrowed version of a string, if it spells a version. Its numbers were read: they
+/// end at the offset `numbers_end`, and `rest` follows them. A version of only numbers is
+/// recognized first, for speed, and a separate function reads what follows them, so nothing is
+/// prepared for it here.
 #[inline(always)]
 fn after_numbers(
     major: u64,
@@ -254,7 +258,7 @@ fn after_numbers(
     with_rest(major, minor, patch, numbers_end, rest, grammar)
 }
 
-/// The outline of the version that the bytes spell, if they spell one.
+/// Returns the borrowed version that the bytes spell, if they spell one.
 #[inline(always)]
 pub(crate) fn outline(input: &[u8], grammar: Grammar) -> Option<Outline<'_>>
     ensures { IsOutlinedBy grammar input.now result }
@@ -265,7 +269,7 @@ pub(crate) fn outline(input: &[u8], grammar: Grammar) -> Option<Outline<'_>>
     outline_at_any_length(input, grammar)
 }
 
-/// The outline of the version that the bytes spell, if they spell one, whatever their length.
+/// Returns the borrowed version that the bytes spell, if they spell one, whatever their length.
 #[inline(always)]
 pub(crate) fn outline_at_any_length(input: &[u8], grammar: Grammar) -> Option<Outline<'_>>
     ensures { IsOutlinedFrom grammar input.now result }

@@ -1,11 +1,13 @@
-//! Version texts read straight from their bytes: as a `Version`, or as an outline without memory.
+//! Reads version strings directly from their bytes: as a `Version`, or as a borrowed version that
+//! allocates nothing.
 //!
-//! A version text is three numbers separated by dots, then optionally `-` and the identifiers of a
-//! pre-release, then optionally `+` and the identifiers of a build, each list separated by dots:
-//! `1.2.3-rc.1+5aedf`. Spaces, tabs, line feeds and carriage returns may come before and after it.
-//! A number is a canonical decimal, `0` or digits that don't begin with `0`, up to
-//! 18446744073709551615. An identifier is one or more runs of ASCII letters and digits joined by
-//! single hyphens; there is no limit on runs, identifiers or the length of a text.
+//! In the crate's grammar, a version is three numbers separated by dots, such as
+//! `1.2.3-rc.1+5aedf`. They are followed optionally by `-` and the identifiers of a pre-release,
+//! and then optionally by `+` and the identifiers of the build metadata, both separated by dots.
+//! Spaces, tabs, line feeds and carriage returns are allowed before and after it. A number is `0`,
+//! or digits that don't begin with `0`, up to 2^64 - 1. An identifier is one or more sequences of
+//! ASCII letters and digits, joined by single hyphens. The number of these sequences, the number of
+//! identifiers and the length of a string aren't limited.
 ghost use Rattle.std.specs.Prelude.{◌≡◌, ◌↔◌, ◌<◌, ◌⊎◌, ◌+◌, ◌^◌, [], length, Some, None};
 ghost use Rattle.std.specs.Prelude.{IfOk, IfErr, IfSome, IsTrue, option_map};
 ghost use Rattle.semver_texts.specs.Texts.{Text, BeginsWithNumbers};
@@ -25,13 +27,13 @@ pub use semver_texts::version::{Identifier, Version};
 use std::alloc::{AllocError, Global};
 
 // Answer: law answer_laws::versions::one_read.
-/// The version that the text spells, if it spells one. What is wrong with a text that spells none,
-/// `semver_parser::version::parse` reports.
+/// Returns the version that the string spells, or `None` if it spells none. To find out what is
+/// wrong with an invalid version, call `semver_parser::version::parse`.
 ///
-/// `Err` is out of memory, and comes only if the text spells a version with a pre-release or a
-/// build: nothing is allocated before the whole text is known to spell one. Then each identifier
-/// that isn't a number allocates, and so do the lists of identifiers. A text that spells no version
-/// allocates nothing, however long it is.
+/// `Err` means out of memory, which is possible only if the string spells a version with a
+/// pre-release or build metadata. Nothing is allocated before the whole string is known to spell a
+/// version. Then the lists of identifiers are allocated, and each identifier that isn't a number.
+/// For an invalid version nothing is allocated, however long the string is.
 ///
 /// ```
 /// use semver_parser::version;
@@ -44,12 +46,12 @@ use std::alloc::{AllocError, Global};
 /// ```
 #[inline(always)]
 pub fn read(alloc: Global, input: &str) -> Result<Option<Version>, AllocError>
-    // Unless memory ran out, a version is answered exactly where the text spells it.
+    // Unless memory ran out, the result is a version if and only if the string spells it.
     ensures exact { (v : VersionValue) → IfOk result (λ found.
         (option_map version_value found ≡ Some v) ↔ SpellsVersion v input.now) }
-    // Unless memory ran out, no version is answered exactly where the text spells none.
+    // Unless memory ran out, the result is `None` if and only if the string spells no version.
     ensures none { IfOk result (λ found. (found ≡ None) ↔ ¬ (IsVersionText input.now)) }
-    // Memory runs out only where the text spells a version with a pre-release or a build.
+    // Memory runs out only if the string spells a version with a pre-release or build metadata.
     ensures out_of_memory { IfErr result (λ _. (v : VersionValue) × SpellsVersion v input.now
         × ((0 < length v.plain.pre) ⊎ (0 < length v.build))) }
 {
@@ -60,11 +62,11 @@ pub fn read(alloc: Global, input: &str) -> Result<Option<Version>, AllocError>
 }
 
 // Answer: law answer_laws::versions::one_read_bytes.
-/// What [`read`] answers of a text, of bytes that needn't be UTF-8. Bytes that are no UTF-8 give
+/// Reads a version like [`read`], from bytes that needn't be UTF-8. Bytes that aren't UTF-8 give
 /// `None`.
 ///
 /// The bytes aren't checked for UTF-8, since each byte of a version is ASCII. So for lines of a
-/// file this is quicker than such a check and [`read`].
+/// file this is faster than such a check followed by [`read`].
 ///
 /// ```
 /// use semver_parser::version;
@@ -75,12 +77,12 @@ pub fn read(alloc: Global, input: &str) -> Result<Option<Version>, AllocError>
 /// ```
 #[inline(always)]
 pub fn read_bytes(alloc: Global, input: &[u8]) -> Result<Option<Version>, AllocError>
-    // Unless memory ran out, a version is answered exactly where the bytes spell it.
+    // Unless memory ran out, the result is a version if and only if the bytes spell it.
     ensures exact { (v : VersionValue) → IfOk result (λ found.
         (option_map version_value found ≡ Some v) ↔ SpellsVersion v input.now) }
-    // Unless memory ran out, no version is answered exactly where the bytes spell none.
+    // Unless memory ran out, the result is `None` if and only if the bytes spell no version.
     ensures none { IfOk result (λ found. (found ≡ None) ↔ ¬ (IsVersionText input.now)) }
-    // Memory runs out only where the bytes spell a version with a pre-release or a build.
+    // Memory runs out only if the bytes spell a version with a pre-release or build metadata.
     ensures out_of_memory { IfErr result (λ _. (v : VersionValue) × SpellsVersion v input.now
         × ((0 < length v.plain.pre) ⊎ (0 < length v.build))) }
 {
@@ -91,9 +93,9 @@ pub fn read_bytes(alloc: Global, input: &[u8]) -> Result<Option<Version>, AllocE
 }
 
 // Answer: law answer_laws::versions::one_outline.
-/// The version that the text spells in outline, if it spells one.
+/// Returns the version that the string spells as a borrowed version, or `None` if it spells none.
 ///
-/// It does not allocate: the texts are slices of the input.
+/// It does not allocate: its parts are slices of the input.
 ///
 /// ```
 /// use semver_parser::version;
@@ -106,18 +108,19 @@ pub fn read_bytes(alloc: Global, input: &[u8]) -> Result<Option<Version>, AllocE
 #[must_use]
 #[inline(always)]
 pub fn outline(input: &str) -> Option<Outline<'_>>
-    // An outline is answered exactly where it is that of a version that the text spells.
+    // The result is a borrowed version if and only if it is that of a version that the string
+    // spells.
     ensures outlined { (o : OutlineValue) →
         (result ≡ Some o) ↔ IsOutlineOf input.now o }
-    // None is answered exactly where the text spells no version.
+    // The result is `None` if and only if the string spells no version.
     ensures none { (result ≡ None) ↔ ¬ (IsVersionText input.now) }
-    // The text of the pre-release is empty exactly where the version has none.
+    // The pre-release is empty if and only if the version has none.
     ensures pre_release { (v : VersionValue) → SpellsVersion v input.now →
         IfSome result (λ o. (o.pre ≡ []) ↔ (v.plain.pre ≡ [])) }
-    // So with the build.
+    // The build metadata is empty if and only if the version has none.
     ensures build { (v : VersionValue) → SpellsVersion v input.now →
         IfSome result (λ o. (o.build ≡ []) ↔ (v.build ≡ [])) }
-    // Both texts are in the input at their offsets.
+    // Both slices are in the input at their offsets.
     ensures places { IfSome result (λ o. StandsAt o.pre_offset o.pre input.now
         × StandsAt o.build_offset o.build input.now) }
 {
@@ -125,8 +128,8 @@ pub fn outline(input: &str) -> Option<Outline<'_>>
 }
 
 // Answer: law answer_laws::versions::one_outline_bytes.
-/// What [`outline`] answers of a text, of bytes that needn't be UTF-8. Bytes that are no UTF-8 give
-/// `None`. They aren't checked for it. It does not allocate.
+/// Returns the result of [`outline`] for bytes that needn't be UTF-8. Bytes that aren't UTF-8 give
+/// `None`, without a separate check. It does not allocate.
 ///
 /// ```
 /// use semver_parser::version;
@@ -137,18 +140,18 @@ pub fn outline(input: &str) -> Option<Outline<'_>>
 #[must_use]
 #[inline(always)]
 pub fn outline_bytes(input: &[u8]) -> Option<Outline<'_>>
-    // An outline is answered exactly where it is that of a version that the bytes spell.
+    // The result is a borrowed version if and only if it is that of a version that the bytes spell.
     ensures outlined { (o : OutlineValue) →
         (result ≡ Some o) ↔ IsOutlineOf input.now o }
-    // None is answered exactly where the bytes spell no version.
+    // The result is `None` if and only if the bytes spell no version.
     ensures none { (result ≡ None) ↔ ¬ (IsVersionText input.now) }
-    // The text of the pre-release is empty exactly where the version has none.
+    // The pre-release is empty if and only if the version has none.
     ensures pre_release { (v : VersionValue) → SpellsVersion v input.now →
         IfSome result (λ o. (o.pre ≡ []) ↔ (v.plain.pre ≡ [])) }
-    // So with the build.
+    // The build metadata is empty if and only if the version has none.
     ensures build { (v : VersionValue) → SpellsVersion v input.now →
         IfSome result (λ o. (o.build ≡ []) ↔ (v.build ≡ [])) }
-    // Both texts are in the input at their offsets.
+    // Both slices are in the input at their offsets.
     ensures places { IfSome result (λ o. StandsAt o.pre_offset o.pre input.now
         × StandsAt o.build_offset o.build input.now) }
 {
@@ -156,9 +159,9 @@ pub fn outline_bytes(input: &[u8]) -> Option<Outline<'_>>
 }
 
 // Answer: law answer_laws::versions::one_outline_in.
-/// Returns what [`outline_bytes`] does, by a dialect.
+/// Returns the result of [`outline_bytes`] in a dialect.
 ///
-/// The bytes need not be UTF-8, and it does not allocate. The pages `docs::grammar` and
+/// The bytes needn't be UTF-8, and it does not allocate. The pages `docs::grammar` and
 /// `docs::original_crate` have the grammars.
 ///
 /// ```
@@ -174,13 +177,13 @@ pub fn outline_bytes(input: &[u8]) -> Option<Outline<'_>>
 #[must_use]
 #[inline(always)]
 pub fn outline_in(input: &[u8], grammar: Grammar) -> Option<Outline<'_>>
-    // An outline is returned exactly if it is that of a version that the bytes spell.
+    // The result is a borrowed version if and only if it is that of a version that the bytes spell.
     ensures outlined { (o : OutlineValue) → (result ≡ Some o) ↔ IsOutlineIn grammar input.now o }
-    // None is returned exactly if the bytes spell no version.
+    // The result is `None` if and only if the bytes spell no version.
     ensures none { (result ≡ None) ↔ ¬ (IsVersionTextIn grammar input.now) }
-    // The version that the outline is of is the one that the bytes spell.
+    // The borrowed version stands for the version that the bytes spell.
     ensures version { IfSome result (λ o. SpellsIn grammar (version_of o) input.now) }
-    // Both texts are in the input at their offsets.
+    // Both slices are in the input at their offsets.
     ensures places { IfSome result (λ o. StandsAt o.pre_offset o.pre input.now
         × StandsAt o.build_offset o.build input.now) }
 {
@@ -188,11 +191,11 @@ pub fn outline_in(input: &[u8], grammar: Grammar) -> Option<Outline<'_>>
 }
 
 // Answer: equation.
-/// Returns whether the bytes spell a version in a dialect, whatever their length: only npm limits
-/// it. For `1.2.3` after a thousand spaces this is true by npm's dialect, although [`outline_in`]
-/// returns `None`.
+/// Returns whether the bytes spell a version in a dialect, whatever their length, which only npm
+/// limits. For `1.2.3` after a thousand spaces this is true in npm's dialect, although
+/// [`outline_in`] returns `None`.
 ///
-/// The bytes need not be UTF-8, and it does not allocate.
+/// The bytes needn't be UTF-8, and it does not allocate.
 #[must_use]
 pub fn is_version_at_any_length(input: &[u8], grammar: Grammar) -> bool
     ensures { IsTrue result ↔ IsVersionAtAnyLength grammar input.now }

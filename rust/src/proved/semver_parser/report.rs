@@ -1,6 +1,6 @@
 // Made by tools/erase.py from crates/semver_parser/src/report.rt; not edited by hand.
-//! What the program `semver-parser` writes of a text, as a version and as a range in each mode, and
-//! its exit status.
+//! The output of the program `semver-parser` for a string, read as a version and as a range in each
+//! mode, and its exit status.
 #![cfg(feature = "std")]
 
 use crate::rattle_std::prelude::*;
@@ -18,17 +18,19 @@ enum Shown {
     Word(&'static str),
 }
 
-/// Writes the three lines of a text, each with a printed value or an error word, and a line feed:
-/// `version: ` with the version, `cargo: ` and `npm: ` with the range set in Cargo and in npm mode.
-/// It answers true where at least one line holds no error word.
+/// Writes three lines for a string: `version: ` with the version, and `cargo: ` and `npm: ` with
+/// the range set in Cargo and in npm mode. Each line has a printed value or an error word. Returns
+/// whether at least one line has no error word.
 ///
-/// Of `1.2.3` it writes `version: 1.2.3`, `cargo: >=1.2.3 <2.0.0` and `npm: =1.2.3`; of `1.2` the
+/// For `1.2.3` it writes `version: 1.2.3`, `cargo: >=1.2.3 <2.0.0` and `npm: =1.2.3`; for `1.2` the
 /// first line is `version: unexpected-end`. The error words are `unexpected-end`,
 /// `unexpected-token`, `unexpected-char` and `more-input` for versions, `not-a-range` and
-/// `number-too-large` for ranges, and `out-of-memory` for each.
+/// `number-too-large` for ranges, and `out-of-memory` for both.
 ///
-/// `Err` only where a write failed, was interrupted, or took no byte; then nothing more is written,
-/// and `out` got a beginning of the lines.
+/// # Errors
+///
+/// Only if a write failed, was interrupted, or took no byte. Then nothing more is written, and
+/// `out` got a prefix of the lines.
 pub fn run<W: Write>(text: &str, out: &mut W) -> Result<bool, io::Error> {
     let version = version_shown(text);
     let cargo = range_shown(text, Compat::Cargo);
@@ -36,7 +38,7 @@ pub fn run<W: Write>(text: &str, out: &mut W) -> Result<bool, io::Error> {
     write_lines(out, &version, &cargo, &npm)
 }
 
-/// Writes the lines, and returns whether some line holds no error word.
+/// Writes the lines, and returns whether at least one has no error word.
 fn write_lines<W: Write>(
     out: &mut W,
     version: &Shown,
@@ -49,10 +51,10 @@ fn write_lines<W: Write>(
     Ok(version.is_value() || (cargo.is_value() || npm.is_value()))
 }
 
-/// The exit status of a run: 0 where some line holds no error word, 1 where each holds one, 2 after
-/// a failed write.
+/// Returns the exit status of a run: 0 if at least one line has no error word, 1 if each has one,
+/// and 2 after a failed write.
 ///
-/// Of `Ok(false)` it is 1.
+/// For `Ok(false)` it is 1.
 pub fn status(ran: &Result<bool, io::Error>) -> u8 {
     match ran {
         Ok(true) => 0,
@@ -61,7 +63,7 @@ pub fn status(ran: &Result<bool, io::Error>) -> u8 {
     }
 }
 
-/// What the line of the version shows.
+/// Returns what the line of the version shows.
 fn version_shown(text: &str) -> Shown {
     match version::parse(text) {
         Ok(version) => printed_version(&version),
@@ -69,7 +71,7 @@ fn version_shown(text: &str) -> Shown {
     }
 }
 
-/// The printed version, or the word for out of memory.
+/// Returns the printed version, or the word for out of memory.
 fn printed_version(version: &Version) -> Shown {
     match version.fallible_to_string() {
         Ok(text) => Shown::Value(text),
@@ -77,7 +79,7 @@ fn printed_version(version: &Version) -> Shown {
     }
 }
 
-/// What the line of a range set in a mode shows.
+/// Returns what the line of a range set in a mode shows.
 fn range_shown(text: &str, compat: Compat) -> Shown {
     match RangeSet::try_parse(text, compat) {
         Ok(set) => printed_set(&set),
@@ -85,7 +87,7 @@ fn range_shown(text: &str, compat: Compat) -> Shown {
     }
 }
 
-/// The word for an error of a range text.
+/// Returns the word for an error of a range string.
 fn range_error_word(error: &RangeError) -> &'static str {
     match error {
         RangeError::NotARange => "not-a-range",
@@ -94,7 +96,7 @@ fn range_error_word(error: &RangeError) -> &'static str {
     }
 }
 
-/// The printed set, or the word for out of memory.
+/// Returns the printed set, or the word for out of memory.
 fn printed_set(set: &RangeSet) -> Shown {
     match set.fallible_to_string() {
         Ok(text) => Shown::Value(text),
@@ -102,7 +104,7 @@ fn printed_set(set: &RangeSet) -> Shown {
     }
 }
 
-/// The word for an error of a version text.
+/// Returns the word for an error of a version string.
 fn version_error_word(error: &parser::Error<'_>) -> &'static str {
     match error {
         parser::Error::UnexpectedEnd => "unexpected-end",
@@ -116,12 +118,12 @@ fn version_error_word(error: &parser::Error<'_>) -> &'static str {
 }
 
 impl Shown {
-    /// Whether it is a printed value.
+    /// Returns whether it is a printed value.
     fn is_value(&self) -> bool {
         matches!(self, Shown::Value(_))
     }
 
-    /// Its text.
+    /// Returns its string.
     fn as_str(&self) -> &str {
         match self {
             Shown::Value(text) => text.as_str(),
@@ -137,7 +139,7 @@ fn write_line<W: Write>(out: &mut W, label: &str, shown: &Shown) -> io::Result<(
     write_text(out, "\n")
 }
 
-/// Writes all of a text.
+/// Writes all of a string.
 fn write_text<W: Write>(out: &mut W, text: &str) -> io::Result<()> {
     write_whole(out, text.as_bytes())
 }

@@ -1,6 +1,6 @@
 // Made by tools/erase.py from crates/semver_parser/src/version.rt; not edited by hand.
-//! Version texts as plain data, and back: read from bytes, and by [`parse`], which also says what
-//! is wrong with an invalid version.
+//! Reads version strings into plain data, and prints versions. [`parse`] also says what is wrong
+//! with an invalid version.
 
 use crate::rattle_std::prelude::*;
 use crate::proved::semver_parser::parser::{self, Parser};
@@ -9,24 +9,27 @@ pub use crate::proved::semver_versions::version::{
     outline_in, read, read_bytes,
 };
 
-/// The version that the text spells. It prints as the text without the white space round it, and a
-/// text that was printed from such a version gives that version.
+/// Reads a version string. Printed, the version is the string without the white space around it,
+/// and reading what was printed gives the same version. It is the version that [`read`] returns,
+/// except that an invalid string gives an error.
 ///
-/// Any other text is refused, with what comes first from the left:
+/// # Errors
 ///
-/// - `UnexpectedEnd`: the text ends where a version can't, as the empty text does.
-/// - `UnexpectedToken`: a token comes that can't come there, as the second hyphen of `1.2.3--1`, or
+/// The first of these from the left:
+///
+/// - `UnexpectedEnd`: the string ends before the version is complete. The empty string is an
+///   example.
+/// - `UnexpectedToken`: a token isn't allowed there, such as the second hyphen of `1.2.3--1`, or
 ///   `AlphaNumeric("01")` in `01.0.0`.
-/// - `MoreInput`: a version is followed by something else. It holds all tokens after the version
-///   and its white space: `1.2.3 a.b` gives `AlphaNumeric("a")`, `Dot`, `AlphaNumeric("b")`.
-/// - `Lexer`: a character begins no token. Since a token is read ahead, it is found before an error
-///   of the token before it: `a/` gives `Lexer(UnexpectedChar('/'))`. After a whole version it is
-///   found before `MoreInput`.
-/// - `OutOfMemory`: an allocation failed. Each identifier that isn't a number allocates, and so do
-///   the lists of identifiers and the tokens of `MoreInput`; a text that spells a version without
-///   pre-release and build never runs out of memory.
-///
-/// Returns the version that [`read`] finds. If there is none, the tokens show the error.
+/// - `MoreInput`: a version is followed by something else. The error holds all tokens after the
+///   version and its white space: `1.2.3 a.b` gives `AlphaNumeric("a")`, `Dot`,
+///   `AlphaNumeric("b")`.
+/// - `Lexer`: a character begins no token. Since one token is read ahead, this error comes before
+///   an error at the preceding token: `a/` gives `Lexer(UnexpectedChar('/'))`. After a complete
+///   version it comes before `MoreInput`.
+/// - `OutOfMemory`: an allocation failed. The lists of identifiers, each identifier that isn't a
+///   number, and the tokens of `MoreInput` are allocated. A version without a pre-release and build
+///   metadata never gives this error.
 ///
 /// ```
 /// use semver_parser::parser::Error;
@@ -48,8 +51,8 @@ pub fn parse(input: &str) -> Result<Version, parser::Error<'_>> {
     }
 }
 
-/// Returns what [`parse`] does, with its errors, from the tokens alone. Of a text that spells no
-/// version, as [`outline`] may have shown, it takes less time.
+/// Returns the result or the error of [`parse`], using only the tokens. It takes less time for an
+/// invalid version, if [`outline`] has shown that it is one.
 ///
 /// ```
 /// use semver_parser::parser::Error;

@@ -1,5 +1,5 @@
 // Made by tools/erase.py from crates/semver_ranges/src/comparing.rt; not edited by hand.
-//! How the identifiers that a range states are compared, kept or still a text.
+//! Compares the identifiers of a range, whether they are kept or still a string.
 
 use crate::rattle_std::prelude::*;
 use crate::proved::semver_ranges::range::Identifier;
@@ -17,7 +17,7 @@ impl AsIdentifier for Identifier {
     }
 }
 
-/// How ranges are read: digits that begin with a zero are a number.
+/// The identifiers of ranges: digits that begin with a zero are a number.
 #[derive(Clone, Copy)]
 pub struct InRanges;
 

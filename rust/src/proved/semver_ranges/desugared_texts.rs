@@ -1,5 +1,5 @@
 // Made by tools/erase.py from crates/semver_ranges/src/desugared_texts.rt; not edited by hand.
-//! Range texts read by the crate's table, in two runs.
+//! Reads range strings by the crate's table, in two passes.
 
 use crate::rattle_std::prelude::*;
 use crate::proved::semver_ranges::desugaring::rewritten;
@@ -11,8 +11,8 @@ use crate::proved::semver_ranges::range_set::{RangeError, RangeSet};
 use crate::proved::semver_texts::grammar::Grammar;
 use crate::rattle_std::AllocError;
 
-/// The range set of a text, in two runs over its events: the first surveys all of it, and the
-/// second builds.
+/// Returns the range set of a string, in two passes over its events: the first surveys all of it,
+/// and the second builds the set.
 pub(crate) fn read_in_two_runs(
     text: &[u8],
     compat: Compat,
@@ -25,18 +25,18 @@ pub(crate) fn read_in_two_runs(
     }
 }
 
-/// For speed: of so many ranges the survey remembers how many comparators they have. For each
-/// further range there is capacity for two at first.
+/// The number of ranges for which the survey remembers how many comparators they have, for speed.
+/// The vector of each further range begins with capacity for two.
 const REMEMBERED: usize = 8;
 
-/// How many ranges a text has, and how many comparators the first of them have.
+/// The number of ranges of a string, and the numbers of comparators of the first ones.
 #[derive(Clone, Copy)]
 struct Sizes {
     ranges: usize,
     comparators: [usize; REMEMBERED],
 }
 
-/// The sizes of a text, or why there is no set of it.
+/// Returns the sizes of a string, or the reason why it has no set.
 fn survey(text: &[u8], compat: Compat) -> Result<Sizes, RangeError> {
     let grammar = Grammar::Crate;
     let mut events = Events::new(text, grammar, LowerBounds::Stated);
@@ -62,15 +62,15 @@ fn survey(text: &[u8], compat: Compat) -> Result<Sizes, RangeError> {
     })
 }
 
-/// Whether the numbers of a simple fit, and to how many comparators it is rewritten. Vectors are
-/// made at this size.
+/// Returns whether the numbers of a term fit, and the number of comparators to which it is
+/// rewritten. Vectors are allocated with this capacity.
 #[inline(always)]
 fn size(simple: &Simple<'_>, compat: Compat) -> (bool, usize) {
     let bounds = rewritten(simple, compat);
     (bounds.fits(&simple.partial), bounds.count())
 }
 
-/// Adds to the comparators of a range, if it is one of those that are remembered.
+/// Adds to the number of comparators of a range, if it is one that is remembered.
 #[inline(always)]
 fn remember(comparators: &mut [usize; REMEMBERED], range: usize, count: usize) {
     if let Some(sum) = comparators.get_mut(range) {
@@ -78,7 +78,7 @@ fn remember(comparators: &mut [usize; REMEMBERED], range: usize, count: usize) {
     }
 }
 
-/// The ranges of a text that was surveyed: it has no error.
+/// Returns the ranges of a string that was surveyed, so it has no error. `Err` means out of memory.
 fn build(
     text: &[u8],
     sizes: &Sizes,
@@ -115,7 +115,7 @@ fn build(
     Ok(ranges)
 }
 
-/// Adds the comparators of a simple that fits.
+/// Adds the comparators of a term that fits. `Err` means out of memory.
 #[inline(always)]
 fn push(
     simple: &Simple<'_>,

@@ -1,5 +1,5 @@
 // Made by tools/erase.py from crates/semver_ranges/src/grammar.rt; not edited by hand.
-//! What is at the front of a range text: a simple, or the right side of a hyphen range.
+//! Reads what is at the beginning of a range string: a term, or the right side of a hyphen range.
 //!
 //! Nothing here allocates, and a call looks at each byte a fixed number of times. What can't be
 //! read is `None`.
@@ -13,10 +13,10 @@ use crate::proved::semver_texts::grammar::Grammar;
 use crate::proved::semver_texts::npm_limits::MAX_SAFE_BUILD_LENGTH;
 use crate::proved::semver_texts::white_space::is_ascii_white_space;
 
-/// What is before a partial: nothing, or an operator.
+/// The operator before a partial, if there is one.
 #[derive(Clone, Copy, PartialEq, Eq)]
 pub enum Form {
-    /// Nothing.
+    /// No operator.
     Bare,
     /// `=`.
     Equal,
@@ -34,26 +34,26 @@ pub enum Form {
     Caret,
 }
 
-/// What a word is after, which is a partial and its `v`.
+/// What a word, which is a partial and its `v`, comes after.
 #[derive(Clone, Copy)]
 pub(crate) enum Role {
-    /// What is before it in a simple, or nothing at the left of a hyphen range.
+    /// The operator of a term. For the left side of a hyphen range, no operator.
     AfterForm(Form),
     /// The hyphen of a hyphen range.
     AfterHyphen,
 }
 
-/// A partial and what is before it.
+/// A partial and its operator.
 #[derive(Clone, Copy)]
 pub struct Simple<'input> {
-    /// What is before it.
+    /// The operator.
     pub form: Form,
     /// The partial.
     pub partial: Partial<'input>,
 }
 
 impl<'input> Simple<'input> {
-    /// A bare wildcard.
+    /// Returns a bare wildcard.
     #[inline(always)]
     pub(crate) fn wildcard() -> Simple<'input> {
         let none = Component::Wildcard;
@@ -64,8 +64,8 @@ impl<'input> Simple<'input> {
     }
 }
 
-/// The right side of a hyphen range after its hyphen, up to the end of the range, and what follows
-/// it.
+/// Returns the right side of a hyphen range, which follows the hyphen and ends with the range, and
+/// what follows it.
 #[inline(always)]
 pub(crate) fn read_right_side(after: &[u8], grammar: Grammar) -> Option<(Partial<'_>, &[u8])> {
     let text = after_blank(after, grammar)?;
@@ -79,8 +79,8 @@ pub(crate) fn read_right_side(after: &[u8], grammar: Grammar) -> Option<(Partial
     }
 }
 
-/// The simple at the front of a text, and what follows it and the blanks after it; none where
-/// there is none.
+/// Returns the term at the beginning of a string, and what follows it and the blanks after it. It
+/// returns `None` if there is no term.
 #[inline(always)]
 pub(crate) fn read_simple(text: &[u8], grammar: Grammar) -> Option<(Simple<'_>, &[u8])> {
     let (form, rest) = read_operator(text, grammar);
@@ -88,7 +88,7 @@ pub(crate) fn read_simple(text: &[u8], grammar: Grammar) -> Option<(Simple<'_>, 
     Some((Simple { form, partial }, after_blanks(rest, grammar)))
 }
 
-/// The operator at the front of a text, and what follows it and its blanks.
+/// Returns the operator at the beginning of a string, and what follows it and its blanks.
 #[inline(always)]
 pub fn read_operator(text: &[u8], grammar: Grammar) -> (Form, &[u8]) {
     let (form, rest) = match text {
@@ -105,7 +105,7 @@ pub fn read_operator(text: &[u8], grammar: Grammar) -> (Form, &[u8]) {
     (form, after_blanks(rest, grammar))
 }
 
-/// The partial at the front of a text, up to the end of its word, and what follows it.
+/// Returns the partial at the beginning of a string, which ends with its word, and what follows it.
 #[inline(always)]
 fn read_partial(text: &[u8], grammar: Grammar, role: Role) -> Option<(Partial<'_>, &[u8])> {
     let (written, rest) = read_components(after_v(text, grammar))?;
@@ -119,7 +119,7 @@ fn read_partial(text: &[u8], grammar: Grammar, role: Role) -> Option<(Partial<'_
     }
 }
 
-/// What follows one `v`, to npm.
+/// Returns what follows one `v`, which only npm allows.
 #[inline(always)]
 pub fn after_v(text: &[u8], grammar: Grammar) -> &[u8] {
     match (grammar, text) {
@@ -128,7 +128,7 @@ pub fn after_v(text: &[u8], grammar: Grammar) -> &[u8] {
     }
 }
 
-/// Whether the word is read that is before a rest.
+/// Returns whether the dialect accepts the word before `rest`.
 #[inline(always)]
 fn takes(text: &[u8], rest: &[u8], written: &Components<'_>, grammar: Grammar, role: Role) -> bool {
     match grammar {
@@ -137,14 +137,14 @@ fn takes(text: &[u8], rest: &[u8], written: &Components<'_>, grammar: Grammar, r
     }
 }
 
-/// Whether no part of the pre-release that is digits alone begins with `0`.
+/// Returns whether no numeric part of the pre-release has a leading zero.
 #[inline(always)]
 fn has_no_leading_zeros(written: &Components<'_>) -> bool {
     written.count < 3 || have_no_leading_zeros(written.pre)
 }
 
-/// Whether the word isn't too long to npm that is before a rest. For speed, its length is compared
-/// with the smallest limit first.
+/// Returns whether the word before `rest` isn't too long for npm. Its length is compared with the
+/// smallest limit first, for speed.
 #[inline(always)]
 fn is_short(text: &[u8], rest: &[u8], role: Role) -> bool {
     let len = text.len() - rest.len();
@@ -154,7 +154,7 @@ fn is_short(text: &[u8], rest: &[u8], role: Role) -> bool {
     is_short_word(&text[..len], role)
 }
 
-/// The components of the partial at the front of a text, whatever follows it.
+/// Returns the components of the partial at the beginning of a string, whatever follows it.
 #[inline(always)]
 pub fn read_components(text: &[u8]) -> Option<(Components<'_>, &[u8])> {
     let (major, rest) = read_component(text)?;
@@ -192,14 +192,14 @@ pub fn read_components(text: &[u8]) -> Option<(Components<'_>, &[u8])> {
     Some((three, rest))
 }
 
-/// Whether a pre-release or a build begins here.
+/// Returns whether a pre-release or build metadata begins here.
 #[inline(always)]
 fn begins_qualifier(text: &[u8]) -> bool {
     matches!(text, [b'-' | b'+', ..])
 }
 
-/// The pre-release at the front of a text and the build after it, each where it is there, and what
-/// follows them.
+/// Returns the pre-release at the beginning of a string and the build metadata after it, each of
+/// which may be missing, and what follows them.
 #[inline(always)]
 fn read_qualifier(text: &[u8]) -> Option<(&[u8], &[u8], &[u8])> {
     match text {
@@ -208,7 +208,8 @@ fn read_qualifier(text: &[u8]) -> Option<(&[u8], &[u8], &[u8])> {
     }
 }
 
-/// The same where one of them is there, which is seldom.
+/// Returns the same as `read_qualifier`, if at least one of them is there, which is seldom the
+/// case.
 #[inline(never)]
 fn read_pre(text: &[u8]) -> Option<(&[u8], &[u8], &[u8])> {
     let (pre, rest) = marked_part(text, b'-', Hyphens::Any)?;
@@ -216,7 +217,7 @@ fn read_pre(text: &[u8]) -> Option<(&[u8], &[u8], &[u8])> {
     Some((pre, build, rest))
 }
 
-/// The component at the front of a text, and what follows it.
+/// Returns the component at the beginning of a string, and what follows it.
 #[inline(always)]
 fn read_component(text: &[u8]) -> Option<(Component, &[u8])> {
     match text {
@@ -230,8 +231,8 @@ fn read_component(text: &[u8]) -> Option<(Component, &[u8])> {
     }
 }
 
-/// The value of a first digit and the digits at the front of a text, and what follows them. One
-/// digit alone is read first, for speed: so the loop runs for longer numbers only.
+/// Returns the value of a first digit and the digits at the beginning of a string, and what follows
+/// them. A single digit is read first, for speed, so the loop runs only for longer numbers.
 #[inline(always)]
 fn read_digits(first: u64, text: &[u8]) -> (Option<u64>, &[u8]) {
     if !decimals::begins_with_digit(text) {
@@ -248,13 +249,13 @@ fn read_digits(first: u64, text: &[u8]) -> (Option<u64>, &[u8]) {
     (value, &text[text.len()..])
 }
 
-/// The value of a number with one digit more.
+/// Returns the value of a number with one more digit.
 #[inline(always)]
 fn with_digit(value: Option<u64>, digit: u8) -> Option<u64> {
     decimals::with_digit(value?, digit)
 }
 
-/// What follows the blanks at the front of a text.
+/// Returns what follows the blanks at the beginning of a string.
 #[inline(always)]
 pub fn after_blanks(text: &[u8], grammar: Grammar) -> &[u8] {
     for at in 0..text.len() {
@@ -265,7 +266,7 @@ pub fn after_blanks(text: &[u8], grammar: Grammar) -> &[u8] {
     &text[text.len()..]
 }
 
-/// What follows one blank, where the text begins with it.
+/// Returns what follows one blank, if the string begins with it.
 #[inline(always)]
 fn after_blank(text: &[u8], grammar: Grammar) -> Option<&[u8]> {
     match text {
@@ -274,7 +275,7 @@ fn after_blank(text: &[u8], grammar: Grammar) -> Option<&[u8]> {
     }
 }
 
-/// What follows two bars, where the text begins with them.
+/// Returns what follows two bars, if the string begins with them.
 #[inline(always)]
 pub fn after_bars(text: &[u8]) -> Option<&[u8]> {
     match text {
@@ -283,13 +284,13 @@ pub fn after_bars(text: &[u8]) -> Option<&[u8]> {
     }
 }
 
-/// Whether a range ends here: at the end of the text, or at a bar.
+/// Returns whether a range ends here: at the end of the string, or at a bar.
 #[inline(always)]
 pub(crate) fn ends_range(text: &[u8]) -> bool {
     matches!(text, [] | [b'|', ..])
 }
 
-/// Whether a word ends here: at the end of the text, at a blank, or at a bar.
+/// Returns whether a word ends here: at the end of the string, at a blank, or at a bar.
 #[inline(always)]
 fn ends_word(text: &[u8], grammar: Grammar) -> bool {
     match text {
@@ -298,7 +299,7 @@ fn ends_word(text: &[u8], grammar: Grammar) -> bool {
     }
 }
 
-/// Whether a byte is one of a blank.
+/// Returns whether a byte is part of a blank.
 #[inline(always)]
 fn is_blank(byte: u8, grammar: Grammar) -> bool {
     match grammar {
@@ -308,8 +309,8 @@ fn is_blank(byte: u8, grammar: Grammar) -> bool {
     }
 }
 
-/// Whether a byte is one of a blank of npm. For speed it is a function of its own: the copies for
-/// the crate's dialect stay small.
+/// Returns whether a byte is part of a blank in npm's dialect. It is a separate function for speed:
+/// the copies for the crate's dialect stay small.
 #[inline(never)]
 fn is_white_space(byte: u8) -> bool {
     is_ascii_white_space(byte) || byte >= 128

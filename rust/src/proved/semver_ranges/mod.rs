@@ -1,11 +1,12 @@
 // Made by tools/erase.py from crates/semver_ranges/src/lib.rt; not edited by hand.
-//! Range texts as plain data: a `RangeSet` of plain comparators.
+//! Range strings as plain data: a `RangeSet` of plain comparators.
 //!
-//! Hints for speed: what reads a byte of most texts, and the table, is `inline(always)`, one copy a
-//! loop, so that what is read goes through registers. Without the hints of one of `grammar`,
-//! `partial`, `desugaring` and `events` range sets took 13 to 27 % more instructions, and simples
-//! up to 20 %. `inline(never)` is what few texts need, and would make those copies larger: reading
-//! pre-releases, 1 %. Other hints brought nothing, and there are none.
+//! Hints for speed: the functions that read a byte of most strings, and the table, are
+//! `inline(always)`, with one copy for each loop, so what they read stays in registers. Without the
+//! hints in one of `grammar`, `partial`, `desugaring` and `events`, range sets took 13 to 27 % more
+//! instructions, and single terms up to 20 %. Functions that few strings need are `inline(never)`,
+//! since they would make those copies larger: for reading pre-releases this was 1 %. Other hints
+//! made no difference, so there are none.
 
 use crate::rattle_std::prelude::*;
 pub mod comparing;

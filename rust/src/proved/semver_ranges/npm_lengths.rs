@@ -1,6 +1,6 @@
 // Made by tools/erase.py from crates/semver_ranges/src/npm_lengths.rt; not edited by hand.
-//! Which words are too long to npm. None of up to `MAX_SAFE_BUILD_LENGTH` bytes is, so little of
-//! this runs.
+//! Decides which words are too long for npm. No word of up to `MAX_SAFE_BUILD_LENGTH` bytes is, so
+//! little of this is run.
 
 use crate::rattle_std::prelude::*;
 use crate::proved::semver_ranges::grammar::{Form, Role, after_v, read_components};
@@ -9,19 +9,19 @@ use crate::proved::semver_texts::dotted::{marked_len, split_at_dot};
 use crate::proved::semver_texts::grammar::Grammar;
 use crate::proved::semver_texts::npm_limits::{MAX_LENGTH, MAX_SAFE_BUILD_LENGTH};
 
-/// Of which kind the parts between dots are.
+/// The kind of the parts between dots.
 #[derive(Clone, Copy)]
 enum Kind {
     /// The numbers, or wildcards.
     Number,
     /// The identifiers of the pre-release.
     PreRelease,
-    /// Those of the build.
+    /// The identifiers of the build metadata.
     Build,
 }
 
-/// Whether a word isn't too long to npm. For speed it is read anew: so nothing else is kept of it
-/// where no word is long.
+/// Returns whether a word isn't too long for npm. It is read again, so that nothing has to be kept
+/// for words that aren't long, for speed.
 #[inline(never)]
 pub(crate) fn is_short_word(word: &[u8], role: Role) -> bool {
     let partial = after_v(word, Grammar::Npm);
@@ -31,7 +31,8 @@ pub(crate) fn is_short_word(word: &[u8], role: Role) -> bool {
     }
 }
 
-/// Whether a word of so many bytes, which ends with this partial, isn't too long.
+/// Returns whether a word with a length of `len` bytes, which ends with this partial, isn't too
+/// long.
 fn is_short_partial(len: usize, partial: &[u8], written: &Components<'_>, role: Role) -> bool {
     let version = partial.len() - marked_len(written.build);
     let numbers = version - marked_len(written.pre);
@@ -41,15 +42,16 @@ fn is_short_partial(len: usize, partial: &[u8], written: &Components<'_>, role: 
     is_short_version(len, version, written, role)
 }
 
-/// Whether none of its numbers and identifiers is too long.
+/// Returns whether none of the numbers and identifiers is too long.
 fn has_short_parts(numbers: &[u8], written: &Components<'_>) -> bool {
     are_short(numbers, Kind::Number)
         && are_short(written.pre, Kind::PreRelease)
         && are_short(written.build, Kind::Build)
 }
 
-/// Whether the version of its comparator isn't too long, where three numbers are stated. It is the
-/// word, or the numbers and the pre-release alone, which have so many bytes.
+/// Returns whether the version of a comparator isn't too long, if it has three numbers. For
+/// node-semver it is either the whole word, or only the numbers and the pre-release; `word` and
+/// `version` are their lengths.
 fn is_short_version(word: usize, version: usize, written: &Components<'_>, role: Role) -> bool {
     if !states_three(written) {
         return true;
@@ -60,7 +62,7 @@ fn is_short_version(word: usize, version: usize, written: &Components<'_>, role:
     version <= MAX_LENGTH
 }
 
-/// Whether node-semver takes a word of three stated numbers over with its `v` and its build.
+/// Returns whether node-semver keeps a word of three numbers with its `v` and its build metadata.
 fn is_taken_whole(written: &Components<'_>, role: Role) -> bool {
     match role {
         Role::AfterForm(form) => !matches!(form, Form::Tilde | Form::Caret),
@@ -68,7 +70,7 @@ fn is_taken_whole(written: &Components<'_>, role: Role) -> bool {
     }
 }
 
-/// Whether three numbers are stated.
+/// Returns whether the partial has three numbers.
 fn states_three(written: &Components<'_>) -> bool {
     matches!(
         (written.major, written.minor, written.patch),
@@ -80,7 +82,7 @@ fn states_three(written: &Components<'_>) -> bool {
     )
 }
 
-/// Whether none of the parts between dots is too long.
+/// Returns whether none of the parts between dots is too long.
 fn are_short(parts: &[u8], kind: Kind) -> bool {
     if parts.is_empty() {
         return true;
@@ -96,7 +98,7 @@ fn are_short(parts: &[u8], kind: Kind) -> bool {
     true
 }
 
-/// Whether a part isn't too long.
+/// Returns whether a part isn't too long.
 fn is_short(part: &[u8], kind: Kind) -> bool {
     match kind {
         Kind::Number => part.len() <= MAX_LENGTH + 1,
@@ -105,7 +107,8 @@ fn is_short(part: &[u8], kind: Kind) -> bool {
     }
 }
 
-/// Whether an identifier of a pre-release isn't too long: digits alone are a number.
+/// Returns whether an identifier of a pre-release isn't too long. If it consists of only digits, it
+/// is a number.
 fn is_short_pre(part: &[u8]) -> bool {
     let digits = leading_digits(part);
     if digits == part.len() {
@@ -114,7 +117,7 @@ fn is_short_pre(part: &[u8]) -> bool {
     digits <= MAX_LENGTH && part.len() <= digits + 1 + MAX_SAFE_BUILD_LENGTH
 }
 
-/// How many digits a text begins with.
+/// Returns the number of digits at the beginning of a string.
 fn leading_digits(text: &[u8]) -> usize {
     text.iter().take_while(|byte| byte.is_ascii_digit()).count()
 }

@@ -1,5 +1,5 @@
 // Made by tools/erase.py from crates/semver_ranges/src/partial.rt; not edited by hand.
-//! Partials: the numbers that one states, and its pre-release as a slice of the text.
+//! Partials: the numbers of a term, and its pre-release as a slice of the string.
 
 use crate::rattle_std::prelude::*;
 use crate::proved::semver_ranges::range::{Comparator, Identifier, Op};
@@ -7,14 +7,14 @@ use crate::proved::semver_texts::decimals::number_of_digits;
 use crate::proved::semver_texts::dotted::{of_parts, text_of_parts};
 use crate::rattle_std::AllocError;
 
-/// A component: a wildcard, or a number, whose value is none above 2^64 - 1.
+/// A component: a wildcard, or a number. The value of a number above 2^64 - 1 is `None`.
 #[derive(Clone, Copy)]
 pub enum Component {
     Wildcard,
     Number(Option<u64>),
 }
 
-/// The components of a partial as they are written: those that aren't there are wildcards.
+/// The components of a partial as they are written. Missing ones are wildcards.
 #[derive(Clone, Copy)]
 pub struct Components<'input> {
     /// The first.
@@ -23,17 +23,17 @@ pub struct Components<'input> {
     pub minor: Component,
     /// The third.
     pub patch: Component,
-    /// How many are written.
+    /// The number of components that are written.
     pub count: usize,
-    /// The parts of the pre-release after three, joined by dots.
+    /// The parts of the pre-release after three components, joined by dots.
     pub pre: &'input [u8],
-    /// Those of the build.
+    /// The parts of the build metadata after three components, joined by dots.
     pub build: &'input [u8],
-    /// Whether a pre-release or a build is written after three.
+    /// Whether a pre-release or build metadata is written after three components.
     pub is_qualified: bool,
 }
 
-/// How many numbers a partial states.
+/// The number of numbers in a partial.
 #[derive(Clone, Copy, PartialEq, Eq)]
 pub enum PartialKind {
     /// None: it begins with a wildcard.
@@ -46,7 +46,7 @@ pub enum PartialKind {
     MajorMinorPatch,
 }
 
-/// One of the three numbers.
+/// One of the three numbers of a version.
 #[derive(Clone, Copy, PartialEq, Eq)]
 pub enum Place {
     Major,
@@ -54,26 +54,26 @@ pub enum Place {
     Patch,
 }
 
-/// How a bound that is raised is written.
+/// How a raised bound is written.
 #[derive(Clone, Copy)]
 pub enum RaisedBounds {
-    /// Without pre-release, as `<2.0.0`.
+    /// Without a pre-release, such as `<2.0.0`.
     Plain,
-    /// With the lowest pre-release, as `<2.0.0-0`.
+    /// With the lowest pre-release, such as `<2.0.0-0`.
     Exact,
 }
 
-/// How a bound that begins with a partial is written.
+/// How a lower bound that begins with a partial is written.
 #[derive(Clone, Copy)]
 pub enum LowerBounds {
-    /// As stated, as `>=1.2.0`.
+    /// As it is in the string, such as `>=1.2.0`.
     Stated,
-    /// With the lowest pre-release where it states none, as `>=1.2.0-0`.
+    /// With the lowest pre-release if the partial names none, such as `>=1.2.0-0`.
     Lowest,
 }
 
-/// The numbers that a partial states, with zeros for the others, and its pre-release after three,
-/// as a slice of the text.
+/// The numbers of a partial, with zeros for the missing ones, and its pre-release after three
+/// numbers, as a slice of the string.
 #[derive(Clone, Copy)]
 pub struct Partial<'input> {
     major: u64,
@@ -85,8 +85,8 @@ pub struct Partial<'input> {
 }
 
 impl<'input> Partial<'input> {
-    /// The partial of three components, of which those that aren't there are wildcards, and of the
-    /// parts of a pre-release, which count after three numbers alone.
+    /// Returns the partial of three components, where missing ones are wildcards, and of the parts
+    /// of a pre-release, which count only after three numbers.
     #[inline(always)]
     pub(crate) fn new(
         major: Component,
@@ -132,25 +132,25 @@ impl<'input> Partial<'input> {
         }
     }
 
-    /// How many numbers are stated.
+    /// Returns how many numbers the partial has.
     #[inline(always)]
     pub fn kind(&self) -> PartialKind {
         self.kind
     }
 
-    /// Whether no number is stated.
+    /// Returns whether the partial has no number.
     #[inline(always)]
     pub fn states_nothing(&self) -> bool {
         matches!(self.kind, PartialKind::XRangeOnly)
     }
 
-    /// Whether the numbers that are stated are at most 2^64 - 1.
+    /// Returns whether all numbers of the partial are at most 2^64 - 1.
     #[inline(always)]
     pub(crate) fn fits(&self) -> bool {
         self.fits
     }
 
-    /// The place of the first number that isn't 0, or of the last that is stated.
+    /// Returns the place of the first number that isn't 0, or that of the last number if all are 0.
     #[inline(always)]
     pub(crate) fn leading_place(&self) -> Place {
         match self.kind {
@@ -163,13 +163,13 @@ impl<'input> Partial<'input> {
         }
     }
 
-    /// The same numbers with the lowest pre-release: `0`.
+    /// Returns the same numbers with the lowest pre-release, which is `0`.
     #[inline(always)]
     pub(crate) fn lowest(self) -> Partial<'input> {
         Partial { pre: b"0", ..self }
     }
 
-    /// The same as a bound that begins with it is written.
+    /// Returns the partial as the beginning of a lower bound.
     #[inline(always)]
     pub(crate) fn begun(self, lower: LowerBounds) -> Partial<'input> {
         let LowerBounds::Lowest = lower else {
@@ -181,43 +181,43 @@ impl<'input> Partial<'input> {
         self
     }
 
-    /// Whether three numbers are stated.
+    /// Returns whether the partial has three numbers.
     #[inline(always)]
     pub fn states_three(&self) -> bool {
         matches!(self.kind, PartialKind::MajorMinorPatch)
     }
 
-    /// The first number, or 0 where none is stated.
+    /// Returns the first number, or 0 if it is missing.
     #[inline(always)]
     pub fn major(&self) -> u64 {
         self.major
     }
 
-    /// The second number, or 0 where none is stated.
+    /// Returns the second number, or 0 if it is missing.
     #[inline(always)]
     pub fn minor(&self) -> u64 {
         self.minor
     }
 
-    /// The third number, or 0 where none is stated.
+    /// Returns the third number, or 0 if it is missing.
     #[inline(always)]
     pub fn patch(&self) -> u64 {
         self.patch
     }
 
-    /// The parts of the pre-release that is stated after three numbers, joined by dots.
+    /// Returns the parts of the pre-release after three numbers, joined by dots.
     #[inline(always)]
     pub fn pre(&self) -> &'input [u8] {
         self.pre
     }
 
-    /// Whether a pre-release is stated after three numbers.
+    /// Returns whether the partial has three numbers and a pre-release.
     #[inline(always)]
     pub fn has_pre_release(&self) -> bool {
         !self.pre.is_empty()
     }
 
-    /// Whether the numbers that are stated are at most this one.
+    /// Returns whether all numbers of the partial are at most `most`.
     #[inline(always)]
     pub fn states_at_most(&self, most: u64) -> bool {
         self.fits
@@ -231,7 +231,7 @@ impl<'input> Partial<'input> {
             }
     }
 
-    /// The number at a place.
+    /// Returns the number at a place.
     #[inline(always)]
     pub fn number(&self, place: Place) -> u64 {
         match place {
@@ -241,7 +241,7 @@ impl<'input> Partial<'input> {
         }
     }
 
-    /// Whether the number at a place is below 2^64 - 1.
+    /// Returns whether the number at a place is below 2^64 - 1.
     #[inline(always)]
     pub(crate) fn may_rise(&self, place: Place) -> bool {
         let number = match place {
@@ -252,7 +252,8 @@ impl<'input> Partial<'input> {
         number < u64::MAX
     }
 
-    /// The comparator of an operator and this partial, with zeros for what isn't stated.
+    /// Returns the comparator of an operator and this partial, with zeros for missing numbers.
+    /// `Err` means out of memory.
     #[inline(always)]
     pub(crate) fn as_comparator(&self, op: Op) -> Result<Comparator, AllocError> {
         let pre = if self.pre.is_empty() {
@@ -269,8 +270,9 @@ impl<'input> Partial<'input> {
         })
     }
 
-    /// Below the bound above all versions with these numbers up to a place: that number is raised
-    /// by one, and those after it are 0.
+    /// Returns the comparator for everything below the bound above all versions with these numbers
+    /// up to a place: that number is raised by one, and the numbers after it are 0. `Err` means out
+    /// of memory.
     #[inline(always)]
     pub(crate) fn raised(
         &self,
@@ -292,7 +294,7 @@ impl<'input> Partial<'input> {
     }
 }
 
-/// The pre-release of a bound that is raised: none, or the lowest.
+/// Returns the pre-release of a raised bound: none, or the lowest. `Err` means out of memory.
 #[inline(always)]
 fn raised_pre(raised: RaisedBounds) -> Result<Vec<Identifier>, AllocError> {
     match raised {
@@ -301,7 +303,7 @@ fn raised_pre(raised: RaisedBounds) -> Result<Vec<Identifier>, AllocError> {
     }
 }
 
-/// The lowest pre-release: `0`.
+/// Returns the lowest pre-release, which is `0`. `Err` means out of memory.
 #[inline(always)]
 pub fn lowest_pre_release() -> Result<Vec<Identifier>, AllocError> {
     let mut pre = Vec::fallible_with_capacity(1)?;
@@ -309,8 +311,8 @@ pub fn lowest_pre_release() -> Result<Vec<Identifier>, AllocError> {
     Ok(pre)
 }
 
-/// The parts of a pre-release as they are kept. For speed it is a function of its own: most
-/// partials have none, and then nothing is called.
+/// Returns the parts of a pre-release as they are kept. It is a separate function for speed: most
+/// partials have no pre-release, and then nothing is called. `Err` means out of memory.
 #[inline(never)]
 fn kept_parts(pre: &[u8]) -> Result<Vec<Identifier>, AllocError> {
     of_parts(
@@ -319,7 +321,7 @@ fn kept_parts(pre: &[u8]) -> Result<Vec<Identifier>, AllocError> {
     )
 }
 
-/// A part as it is kept.
+/// Returns a part as it is kept. `Err` means out of memory.
 fn read_identifier(part: &str) -> Result<Identifier, AllocError> {
     match number_of_digits(part.as_bytes()) {
         Some(number) => Ok(Identifier::Numeric(number)),

@@ -1,11 +1,11 @@
 // Made by tools/erase.py from crates/semver_ranges/src/range.rt; not edited by hand.
-//! Ranges as plain data: comparators, and their printed text.
+//! Ranges as plain data: comparators, and how they are printed.
 
 use crate::rattle_std::prelude::*;
 use crate::proved::semver_texts::printing::{write_joined, write_part};
 use crate::rattle_std::fmt;
 
-/// A range: comparators that a version satisfies all together.
+/// A range: comparators, all of which a version has to satisfy.
 ///
 /// ```
 /// use semver_parser::{Compat, RangeSet};
@@ -17,9 +17,9 @@ use crate::rattle_std::fmt;
 /// ```
 #[derive(Clone, PartialEq, Eq, PartialOrd, Ord, Hash, Debug)]
 pub struct Range {
-    /// The comparators, in the order of the text.
+    /// The comparators, in the order of the string.
     pub comparator_set: Vec<Comparator>,
-    /// The mode in which the text was read.
+    /// The mode in which the string was read.
     pub compat: Compat,
 }
 
@@ -31,7 +31,7 @@ impl crate::rattle_std::FallibleClone for Range {
     }
 }
 
-/// A comparator: an operator and the version that it compares with.
+/// A comparator: an operator and the version to compare with.
 ///
 /// ```
 /// use semver_parser::{Compat, Op, RangeSet};
@@ -44,7 +44,7 @@ impl crate::rattle_std::FallibleClone for Range {
 /// ```
 #[derive(Clone, PartialEq, Eq, PartialOrd, Ord, Hash, Debug)]
 pub struct Comparator {
-    /// How a version compares that satisfies it.
+    /// The comparison that a version has to pass.
     pub op: Op,
     /// The first number.
     pub major: u64,
@@ -64,7 +64,7 @@ impl crate::rattle_std::FallibleClone for Comparator {
     }
 }
 
-/// How a comparator compares.
+/// The operator of a comparator.
 ///
 /// ```
 /// use semver_parser::Op;
@@ -81,7 +81,7 @@ pub enum Op {
     Gt,
     /// `>=`: not below.
     Gte,
-    /// `=`: equal in precedence.
+    /// `=`: equal by precedence.
     Eq,
 }
 
@@ -97,8 +97,8 @@ impl crate::rattle_std::FallibleClone for Op {
     }
 }
 
-/// An identifier of a comparator's pre-release. It is another type than that of versions, as in the
-/// Rust crate.
+/// An identifier of a comparator's pre-release. Its type differs from that of a version's
+/// identifiers, as in the Rust crate.
 ///
 /// ```
 /// use semver_parser::{Compat, Identifier, RangeSet};
@@ -110,9 +110,9 @@ impl crate::rattle_std::FallibleClone for Op {
 /// ```
 #[derive(Clone, PartialEq, Eq, PartialOrd, Ord, Hash, Debug)]
 pub enum Identifier {
-    /// A part made only of digits, of a value up to 2^64 - 1. Leading zeros aren't kept.
+    /// A part that consists of only digits, with a value up to 2^64 - 1. Leading zeros aren't kept.
     Numeric(u64),
-    /// The text of any other part.
+    /// Any other part, as a string.
     AlphaNumeric(String),
 }
 
@@ -136,14 +136,14 @@ impl crate::rattle_std::FallibleClone for Identifier {
 /// ```
 #[derive(Clone, Copy, PartialEq, Eq, PartialOrd, Ord, Hash, Debug)]
 pub enum Compat {
-    /// As with a caret: `1.2.3` is `>=1.2.3 <2.0.0`.
+    /// Like a caret: `1.2.3` is `>=1.2.3 <2.0.0`.
     Cargo,
-    /// As this version alone: `1.2.3` is `=1.2.3`.
+    /// As exactly this version: `1.2.3` is `=1.2.3`.
     Npm,
 }
 
 impl fmt::Display for Op {
-    /// Writes the operator as it is in a range text: `Op::Gte` as `>=`. It does not allocate, and
+    /// Writes the operator as it is in a range string: `Op::Gte` as `>=`. It does not allocate, and
     /// its only error is the writer's.
     fn fmt(&self, f: &mut fmt::Formatter<'_>) -> fmt::Result {
         f.write_str(match self {
@@ -157,8 +157,8 @@ impl fmt::Display for Op {
 }
 
 impl fmt::Display for Identifier {
-    /// Writes the decimal, or the text itself: `Numeric(4)` as `4`, `AlphaNumeric("beta")` as
-    /// `beta`. It does not allocate, and its only error is the writer's.
+    /// Writes the decimal number, or the string itself: `Numeric(4)` as `4`, `AlphaNumeric("beta")`
+    /// as `beta`. It does not allocate, and its only error is the writer's.
     fn fmt(&self, f: &mut fmt::Formatter<'_>) -> fmt::Result {
         match self {
             Identifier::Numeric(number) => {
@@ -171,9 +171,9 @@ impl fmt::Display for Identifier {
 }
 
 impl fmt::Display for Comparator {
-    /// Writes the operator and all three numbers, separated by dots; then, where there is a
-    /// pre-release, `-` and its identifiers joined by dots: `>=1.2.3-beta.4`. It does not allocate,
-    /// and its only error is the writer's.
+    /// Writes the operator and all three numbers, separated by dots. If there is a pre-release, `-`
+    /// and its identifiers, joined by dots, follow: `>=1.2.3-beta.4`. It does not allocate, and its
+    /// only error is the writer's.
     fn fmt(&self, f: &mut fmt::Formatter<'_>) -> fmt::Result {
         let (op, major, minor, patch) = (&self.op, self.major, self.minor, self.patch);
         write!(f, "{op}{major}.{minor}.{patch}")?;
@@ -182,8 +182,8 @@ impl fmt::Display for Comparator {
 }
 
 impl fmt::Display for Range {
-    /// Writes the comparators with a space between each two: `>=1.2.3 <2.0.0`. A range without
-    /// comparators is written as the empty text. It does not allocate, and its only error is the
+    /// Writes the comparators, separated by single spaces: `>=1.2.3 <2.0.0`. A range without
+    /// comparators is written as the empty string. It does not allocate, and its only error is the
     /// writer's.
     fn fmt(&self, f: &mut fmt::Formatter<'_>) -> fmt::Result {
         write_joined(f, " ", &self.comparator_set)

@@ -1,5 +1,5 @@
 // Made by tools/erase.py from crates/semver_ranges/src/range_set.rt; not edited by hand.
-//! Range sets: the ranges of a text in one of two modes, and their printed text.
+//! Range sets: the ranges of a string in one of two modes, and how they are printed.
 
 use crate::rattle_std::prelude::*;
 use crate::proved::semver_ranges::desugared_texts::read_in_two_runs;
@@ -12,7 +12,7 @@ use crate::proved::semver_texts::printing::write_joined;
 use crate::rattle_std::AllocError;
 use crate::rattle_std::fmt;
 
-/// A range set: ranges of which a version satisfies at least one.
+/// A range set: ranges, at least one of which a version has to satisfy.
 ///
 /// ```
 /// use semver_parser::{Compat, RangeSet};
@@ -24,9 +24,9 @@ use crate::rattle_std::fmt;
 /// ```
 #[derive(Clone, PartialEq, Eq, PartialOrd, Ord, Hash, Debug)]
 pub struct RangeSet {
-    /// The ranges, in the order of the text.
+    /// The ranges, in the order of the string.
     pub ranges: Vec<Range>,
-    /// The mode in which the text was read.
+    /// The mode in which the string was read.
     pub compat: Compat,
 }
 
@@ -38,7 +38,7 @@ impl crate::rattle_std::FallibleClone for RangeSet {
     }
 }
 
-/// Why a text gives no range set.
+/// The error of a range string.
 ///
 /// ```
 /// use semver_parser::{Compat, RangeError, RangeSet};
@@ -49,12 +49,12 @@ impl crate::rattle_std::FallibleClone for RangeSet {
 /// ```
 #[derive(Clone, Copy, PartialEq, Eq, Debug)]
 pub enum RangeError {
-    /// The text isn't in the range grammar.
+    /// The string is not a range.
     NotARange,
-    /// The text is in the range grammar, and a number that it states or a raised bound is above
-    /// 2^64 - 1, or as npm reads it, above 2^53 - 1.
+    /// The string is a range, but one of its numbers, or a raised bound, is above 2^64 - 1, or
+    /// above 2^53 - 1 in npm's dialect.
     NumberTooLarge,
-    /// The text is in the grammar and its numbers fit, but an allocation failed.
+    /// The string is a range and its numbers fit, but an allocation failed.
     OutOfMemory,
 }
 
@@ -74,33 +74,38 @@ impl crate::rattle_std::Error for RangeError {}
 impl RangeSet {
     /// Reads a range string, such as `>=1.2 <2 || 3.x`, into plain comparators.
     ///
-    /// A comma is `NotARange`. The original crate accepts one comma after a comparator: replace
+    /// A comma gives `NotARange`. The original crate accepts one comma after a comparator: replace
     /// commas by spaces to keep that meaning. `Dialect::Cargo` reads commas as Cargo does today.
     ///
-    /// The text is one or more ranges separated by `||`. A range is nothing, one or more simples
-    /// separated by blanks, or two partials round a hyphen between blanks; a simple is a partial
-    /// after `=`, `<`, `<=`, `>`, `>=`, `~`, `~>`, `^` or no operator. A blank is a space or a
-    /// tab. The page `docs::original_crate` has the whole grammar, the comparators of each term,
-    /// and what they mean.
+    /// The string is one or more ranges separated by `||`. The page `docs::original_crate` has the
+    /// whole grammar, the comparators of each term, and which versions satisfy it. A range is one
+    /// of these:
+    /// - nothing;
+    /// - one or more terms separated by blanks, where a term is a partial after `=`, `<`, `<=`,
+    ///   `>`, `>=`, `~`, `~>`, `^` or no operator;
+    /// - two partials around a hyphen, with blanks on both sides.
     ///
-    /// The answer has the ranges in the order of the text, each with its comparators in order, and
-    /// `compat` in the set and in each range. It has at least one range, and each range at least
-    /// one comparator. The mode decides how a bare version of three numbers is read, and nothing
-    /// else. Builds are dropped.
+    /// A blank is a space or a tab.
     ///
-    /// A version satisfies the comparators exactly if some range of the text has, for each term:
-    /// the version satisfies it, or is a pre-release of its raised bound. `2.0.0-alpha` is below
-    /// the `<2.0.0` of `^1.2.3`; `RangeSet::parse_exact` has no such exception.
+    /// The result has the ranges in the order of the string, each with its comparators in order,
+    /// and `compat` in the set and in each range. It has at least one range, and each range has at
+    /// least one comparator. The mode decides only how a bare version of three numbers is read.
+    /// Build metadata is dropped.
+    ///
+    /// A version satisfies the result if and only if, in at least one range of the string, it
+    /// satisfies every term or is a pre-release of that term's raised bound. For example,
+    /// `2.0.0-alpha` is below the `<2.0.0` of `^1.2.3`. `RangeSet::parse_exact` has no such
+    /// exception.
     ///
     /// # Errors
     ///
-    /// - `NotARange` exactly if the text isn't in the grammar, such as `1.2.3 -4`,
-    ///   `>=1.0.0, <2.0.0` or `v1.2.3`.
-    /// - `NumberTooLarge` exactly if it is, and a number before the first wildcard of its
+    /// - `NotARange` if the string isn't in the grammar, such as `1.2.3 -4`, `>=1.0.0, <2.0.0` or
+    ///   `v1.2.3`.
+    /// - `NumberTooLarge` if it is in the grammar, but a number before the first wildcard of its
     ///   partial, or an upper bound that is raised by one, is above 2^64 - 1, such as
     ///   `<=18446744073709551615`.
-    /// - `OutOfMemory` if an allocation failed. The first two do not allocate, so this one comes
-    ///   only in place of a set.
+    /// - `OutOfMemory` if an allocation failed. The first two errors are returned without
+    ///   allocating, so a string that has one of them never gives this one.
     ///
     /// ```
     /// use semver_parser::{Compat, RangeSet};
@@ -116,20 +121,20 @@ impl RangeSet {
         parse_with(input, compat, RaisedBounds::Plain)
     }
 
-    /// Reads a range text as `RangeSet::parse` does, but with exact bounds: each upper bound that
-    /// is raised by one has the pre-release `0`, the lowest there is. The Rust crate has no such
-    /// call; npm writes its bounds so.
+    /// Reads a range string like `RangeSet::parse`, but with exact bounds: each upper bound that is
+    /// raised by one gets the lowest pre-release, `0`. The Rust crate has no such function; npm
+    /// writes its bounds like this.
     ///
-    /// A bound that the text states stays as it is.
+    /// A bound that is written in the string stays as it is.
     ///
-    /// Nothing of 2.0.0 is below `2.0.0-0`. So a version, a pre-release too, satisfies the answer
-    /// exactly if it satisfies the text, without the exception of
-    /// `RangeSet::parse` for the pre-releases of raised bounds.
+    /// No version with the numbers 2.0.0 is below `2.0.0-0`. So a version, even a pre-release,
+    /// satisfies the result if and only if it satisfies the string: the exception of
+    /// `RangeSet::parse` for pre-releases of raised bounds doesn't exist.
     ///
     /// # Errors
     ///
-    /// Those of `RangeSet::parse`, for the same texts. `OutOfMemory` comes in place of a set
-    /// alone.
+    /// The errors of `RangeSet::parse`, for the same strings. `OutOfMemory` is returned only if the
+    /// string has a set.
     ///
     /// ```
     /// use semver_parser::{Compat, RangeSet};
@@ -145,8 +150,8 @@ impl RangeSet {
         parse_with(input, compat, RaisedBounds::Exact)
     }
 
-    /// Reads a range text in Cargo mode: what `RangeSet::parse` answers with `Compat::Cargo`, with
-    /// its errors.
+    /// Reads a range string in Cargo mode. Result and errors are those of `RangeSet::parse` with
+    /// `Compat::Cargo`.
     ///
     /// ```
     /// use semver_parser::RangeSet;
@@ -160,8 +165,8 @@ impl RangeSet {
     }
 }
 
-/// The range set of a text, or why there is none: a text that is one simple is read at once, and
-/// any other in two runs.
+/// Returns the range set of a string, or the reason why there is none. A string of one term is read
+/// at once, and any other in two passes.
 fn parse_with(
     input: &str,
     compat: Compat,
@@ -177,11 +182,12 @@ fn parse_with(
     }
 }
 
-/// For speed: texts of more bytes are seldom one simple, so the two runs have them at once.
+/// The maximum length in bytes of a string that is first tried as one term, for speed. Longer
+/// strings seldom are one term, so they are read in two passes at once.
 const LONGEST_ONLY_SIMPLE: usize = 14;
 
-/// The comparators of a text that is one simple from its first byte on, and that fits. What it
-/// doesn't find, the two runs decide.
+/// Returns the comparators of a string that is one term from its first byte on, and whose numbers
+/// fit. If it returns `None`, the two passes decide.
 fn read_only_simple(text: &[u8], compat: Compat) -> Option<(Partial<'_>, Desugared)> {
     if text.len() > LONGEST_ONLY_SIMPLE {
         return None;
@@ -198,7 +204,7 @@ fn read_only_simple(text: &[u8], compat: Compat) -> Option<(Partial<'_>, Desugar
     }
 }
 
-/// The set of one range that has these comparators.
+/// Returns the set of one range with these comparators. `Err` means out of memory.
 fn build_only_simple(
     partial: &Partial<'_>,
     bounds: Desugared,
@@ -215,8 +221,8 @@ fn build_only_simple(
 }
 
 impl fmt::Display for RangeSet {
-    /// Writes the ranges with ` || ` between each two: `>=1.2.3 <2.0.0 || =3.0.0`. The mode isn't
-    /// written. It does not allocate, and its only error is the writer's.
+    /// Writes the ranges, separated by ` || `: `>=1.2.3 <2.0.0 || =3.0.0`. The mode isn't written.
+    /// It does not allocate, and its only error is the writer's.
     fn fmt(&self, f: &mut fmt::Formatter<'_>) -> fmt::Result {
         write_joined(f, " || ", &self.ranges)
     }

@@ -1,12 +1,12 @@
 // Made by tools/erase.py from crates/semver_versions/src/comparing.rt; not edited by hand.
-//! How the identifiers of a version are compared while they are still a text.
+//! Compares the identifiers of a version while they are still a string.
 
 use crate::rattle_std::prelude::*;
 use crate::proved::semver_texts::decimals::number_of_digits;
 use crate::proved::semver_texts::identifiers::Reading;
 use crate::proved::semver_texts::precedence::IdentifierRef;
 
-/// How versions are read: digits that begin with a zero are a text.
+/// The identifiers of versions: digits that begin with a zero are an alphanumeric identifier.
 #[derive(Clone, Copy)]
 pub struct InVersions;
 

@@ -1,5 +1,5 @@
 // Made by tools/erase.py from crates/semver_versions/src/identifiers.rt; not edited by hand.
-//! Identifiers, cut from their text at its dots.
+//! Identifiers, cut from their string at its dots.
 
 use crate::rattle_std::prelude::*;
 use crate::proved::semver_versions::comparing::InVersions;
@@ -9,7 +9,7 @@ use crate::proved::semver_texts::precedence::IdentifierRef;
 use crate::proved::semver_texts::version::Identifier;
 use crate::rattle_std::AllocError;
 
-/// The identifier that the text is kept as.
+/// Returns the identifier that a `Version` keeps of a string. `Err` means out of memory.
 #[inline(always)]
 fn identifier(text: &str) -> Result<Identifier, AllocError> {
     if let IdentifierRef::Numeric(number) = InVersions::read(text.as_bytes()) {
@@ -18,8 +18,8 @@ fn identifier(text: &str) -> Result<Identifier, AllocError> {
     Ok(Identifier::AlphaNumeric(String::fallible_from_str(text)?))
 }
 
-/// The identifiers that the texts between the dots are kept as; none if there are no bytes, which
-/// does not allocate.
+/// Returns the identifiers that a `Version` keeps of the strings between the dots. If there are no
+/// bytes, there are no identifiers, and nothing is allocated. `Err` means out of memory.
 #[inline(always)]
 pub(crate) fn identifiers(bytes: &[u8]) -> Result<Vec<Identifier>, AllocError> {
     if bytes.is_empty() {
@@ -28,7 +28,7 @@ pub(crate) fn identifiers(bytes: &[u8]) -> Result<Vec<Identifier>, AllocError> {
     identifiers_of_text(text_of_parts(bytes))
 }
 
-/// What `identifiers` returns, of a text.
+/// Returns the result of [`identifiers`] for a string.
 #[inline(always)]
 pub fn identifiers_of_text(text: &str) -> Result<Vec<Identifier>, AllocError> {
     of_parts(text, |part| identifier(part))

@@ -1,5 +1,5 @@
 // Made by tools/erase.py from crates/semver_versions/src/outlines.rt; not edited by hand.
-//! Versions in outline.
+//! Borrowed versions.
 
 use crate::rattle_std::prelude::*;
 use crate::proved::semver_versions::comparing::InVersions;
@@ -12,8 +12,8 @@ use crate::proved::semver_texts::version::{Identifier, Version};
 use crate::rattle_std::AllocError;
 use crate::rattle_std::cmp::Ordering;
 
-/// A version text in outline: the three numbers, and the texts of the pre-release and of the build
-/// with where they are. `version::outline` answers it, and the version can be made of it.
+/// A borrowed version: the three numbers, and slices of the pre-release and of the build metadata
+/// with their offsets. `version::outline` returns it, and it can be converted to a [`Version`].
 ///
 /// ```
 /// use semver_parser::version;
@@ -35,7 +35,7 @@ pub struct Outline<'t> {
 }
 
 impl<'t> Outline<'t> {
-    /// The outline of 0.0.0.
+    /// Returns the borrowed version 0.0.0.
     ///
     /// ```
     /// use semver_parser::version::{self, Outline};
@@ -57,7 +57,7 @@ impl<'t> Outline<'t> {
         }
     }
 
-    /// The first number.
+    /// Returns the first number.
     ///
     /// ```
     /// use semver_parser::version;
@@ -70,7 +70,7 @@ impl<'t> Outline<'t> {
         self.major
     }
 
-    /// The second number.
+    /// Returns the second number.
     ///
     /// ```
     /// use semver_parser::version;
@@ -83,7 +83,7 @@ impl<'t> Outline<'t> {
         self.minor
     }
 
-    /// The third number.
+    /// Returns the third number.
     ///
     /// ```
     /// use semver_parser::version;
@@ -96,8 +96,8 @@ impl<'t> Outline<'t> {
         self.patch
     }
 
-    /// The identifiers of the pre-release joined by dots, without the `-` before them; empty where
-    /// there is no pre-release.
+    /// Returns the identifiers of the pre-release joined by dots, without the `-` before them. The
+    /// string is empty if there is no pre-release.
     ///
     /// ```
     /// use semver_parser::version;
@@ -110,15 +110,15 @@ impl<'t> Outline<'t> {
         text_of_parts(self.pre)
     }
 
-    /// The bytes of [`Outline::pre`]. For speed, they are not made a text.
+    /// Returns the bytes of [`Outline::pre`]. They aren't converted to a `str`, for speed.
     #[must_use]
     #[inline(always)]
     pub fn pre_bytes(&self) -> &'t [u8] {
         self.pre
     }
 
-    /// The identifiers of the build joined by dots, without the `+` before them; empty where there
-    /// is no build.
+    /// Returns the identifiers of the build metadata joined by dots, without the `+` before them.
+    /// The string is empty if there is no build metadata.
     ///
     /// ```
     /// use semver_parser::version;
@@ -131,7 +131,7 @@ impl<'t> Outline<'t> {
         text_of_parts(self.build)
     }
 
-    /// Whether it has a pre-release.
+    /// Returns whether the version has a pre-release.
     ///
     /// ```
     /// use semver_parser::version;
@@ -145,8 +145,8 @@ impl<'t> Outline<'t> {
         !self.pre.is_empty()
     }
 
-    /// How many bytes of the text that was read are before the identifiers of the pre-release. It
-    /// is 0 where there is no pre-release.
+    /// Returns the byte offset of the pre-release's identifiers in the string that was read, or 0
+    /// if there is no pre-release.
     ///
     /// ```
     /// use semver_parser::version;
@@ -160,8 +160,8 @@ impl<'t> Outline<'t> {
         self.before_pre
     }
 
-    /// How many bytes of the text that was read are before the identifiers of the build. It is 0
-    /// where there is no build.
+    /// Returns the byte offset of the build metadata's identifiers in the string that was read, or
+    /// 0 if there is no build metadata.
     ///
     /// ```
     /// use semver_parser::version;
@@ -175,8 +175,8 @@ impl<'t> Outline<'t> {
         self.before_build
     }
 
-    /// What an identifier of digits alone is from 2^64 on, by the dialect that the text was read
-    /// by: a text as `semver-parser` keeps it, or a number.
+    /// Returns how a numeric identifier above 2^64 - 1 is read, in the dialect in which the string
+    /// was read: as a string, which is what `semver-parser` does, or as a number.
     ///
     /// ```
     /// use semver_parser::version::{self, Grammar};
@@ -190,25 +190,26 @@ impl<'t> Outline<'t> {
         self.digits
     }
 
-    /// The identifiers of the pre-release, as they are compared: they are read while they are
-    /// taken. It does not allocate.
+    /// Returns the identifiers of the pre-release for comparing. They are read one by one, as they
+    /// are needed. It does not allocate.
     #[must_use]
     #[inline(always)]
     pub fn compared_pre(&self) -> ByDigits<Joined<'t, InVersions>> {
         self.pre_by(self.digits)
     }
 
-    /// The identifiers of the pre-release, as they are compared if those of digits alone are read
-    /// so.
+    /// Returns the identifiers of the pre-release for comparing, where numeric ones are read as
+    /// `digits` says.
     #[inline(always)]
     pub(crate) fn pre_by(&self, digits: Digits) -> ByDigits<Joined<'t, InVersions>> {
         ByDigits::of(Joined::of(self.pre, InVersions), digits)
     }
 
-    /// The identifiers of the pre-release. Digits from 2^64 on are kept as a text.
+    /// Returns the identifiers of the pre-release. Numeric identifiers above 2^64 - 1 are kept as
+    /// strings.
     ///
-    /// It allocates if there are some: for their list, and for each that isn't a number.
-    /// `Err` is out of memory.
+    /// If there are identifiers, it allocates their list, and each identifier that isn't a number.
+    /// `Err` means out of memory.
     ///
     /// ```
     /// use semver_parser::version::{self, Identifier};
@@ -223,7 +224,8 @@ impl<'t> Outline<'t> {
         identifiers(self.pre)
     }
 
-    /// The identifiers of the build. It allocates as [`Outline::pre_identifiers`].
+    /// Returns the identifiers of the build metadata. It allocates like
+    /// [`Outline::pre_identifiers`].
     ///
     /// ```
     /// use semver_parser::version::{self, Identifier};
@@ -237,10 +239,10 @@ impl<'t> Outline<'t> {
         identifiers(self.build)
     }
 
-    /// The version that the outline is of.
+    /// Returns the version with identifiers of its own.
     ///
-    /// It allocates if there is a pre-release or a build: for the lists of identifiers,
-    /// and for each identifier that isn't a number. `Err` is out of memory.
+    /// If there is a pre-release or build metadata, it allocates the lists of identifiers, and each
+    /// identifier that isn't a number. `Err` means out of memory.
     ///
     /// ```
     /// use semver_parser::version;
@@ -260,8 +262,8 @@ impl<'t> Outline<'t> {
         })
     }
 
-    /// The version, if the outline is that of the text. For speed, the identifiers are cut from the
-    /// text, so their bytes aren't checked for UTF-8.
+    /// Returns the version, if the borrowed version is that of the string. The identifiers are cut
+    /// from the string, so their bytes needn't be checked for UTF-8, for speed.
     #[inline(always)]
     pub(crate) fn version_in(&self, text: &str) -> Result<Version, AllocError> {
         Ok(Version {
@@ -273,9 +275,9 @@ impl<'t> Outline<'t> {
         })
     }
 
-    /// How the version of this outline compares with another by precedence (SemVer 2.0.0, section
-    /// 11), as `version::cmp_precedence` says of two versions. Builds don't count. Identifiers of
-    /// digits alone are read by the outline's dialect, on both sides. It does not allocate.
+    /// Compares this borrowed version with a version by precedence (SemVer 2.0.0, section 11), like
+    /// `version::cmp_precedence`. Build metadata is ignored. Numeric identifiers on both sides are
+    /// read as in the borrowed version's dialect. It does not allocate.
     ///
     /// ```
     /// use semver_parser::version;
@@ -296,9 +298,8 @@ impl<'t> Outline<'t> {
         )
     }
 
-    /// How the version of this outline compares with that of another by precedence (SemVer 2.0.0,
-    /// section 11). Build metadata is ignored. Identifiers of digits alone are read by the dialect
-    /// of each. It does not allocate.
+    /// Compares two borrowed versions by precedence (SemVer 2.0.0, section 11). Build metadata is
+    /// ignored. Numeric identifiers are read in the dialect of each. It does not allocate.
     ///
     /// ```
     /// use semver_parser::version;
@@ -319,7 +320,7 @@ impl<'t> Outline<'t> {
     }
 }
 
-/// The identifiers of parts that are in a text at an offset.
+/// Returns the identifiers of parts that are in a string at an offset. `Err` means out of memory.
 #[inline(always)]
 fn identifiers_at(
     text: &str,
@@ -332,14 +333,14 @@ fn identifiers_at(
     identifiers_of_text(&text[offset..offset + parts.len()])
 }
 
-/// Where a part begins whose mark is at the place; 0 where there is no part.
+/// Returns the offset of a part whose mark is at an offset, or 0 if there is no part.
 #[inline(always)]
 fn after_mark_at(place: usize, part: &[u8]) -> usize {
     if part.is_empty() { 0 } else { place + 1 }
 }
 
-/// The outline of these numbers, how many bytes there are up to their end, and the texts of the
-/// pre-release and of the build, which follow, each after its mark.
+/// Returns the borrowed version of these numbers, which end at an offset, and of a pre-release and
+/// build metadata, which follow, each after its mark.
 #[inline(always)]
 pub(crate) fn with_parts<'t>(
     major: u64,

@@ -1,5 +1,5 @@
 // Made by tools/erase.py from crates/semver_versions/src/read_version.rt; not edited by hand.
-//! Versions that own their identifiers, and know how those of digits alone are read.
+//! Versions that own their identifiers, and know how the numeric ones are read.
 
 use crate::rattle_std::prelude::*;
 use crate::proved::semver_versions::outlines::Outline;
@@ -10,13 +10,13 @@ use crate::proved::semver_texts::version::{Identifier, Version};
 use crate::rattle_std::AllocError;
 use crate::rattle_std::cmp::Ordering;
 
-/// A version, and how its identifiers of digits alone are read: from 2^64 on they are texts, as a
-/// `Version` keeps them, or numbers, as Cargo and npm read them.
+/// A version, and how its numeric identifiers above 2^64 - 1 are read: as strings, which is how a
+/// `Version` keeps them, or as numbers, as Cargo and npm read them.
 #[derive(Clone, Debug)]
 pub struct ReadVersion {
     /// The version.
     pub version: Version,
-    /// How its identifiers of digits alone are read.
+    /// How its numeric identifiers are read.
     pub digits: Digits,
 }
 
@@ -29,7 +29,7 @@ impl crate::rattle_std::FallibleClone for ReadVersion {
 }
 
 impl ReadVersion {
-    /// Returns the version of an outline, without its build. `Err` is out of memory.
+    /// Returns a borrowed version without its build metadata. `Err` means out of memory.
     #[inline(always)]
     pub fn of(outline: &Outline<'_>) -> Result<ReadVersion, AllocError> {
         let version = Version {
@@ -45,7 +45,7 @@ impl ReadVersion {
         })
     }
 
-    /// Returns the same version, without its build. `Err` is out of memory.
+    /// Returns the same version without its build metadata. `Err` means out of memory.
     pub fn without_build(&self) -> Result<ReadVersion, AllocError> {
         let version = Version {
             major: self.version.major,
@@ -60,19 +60,19 @@ impl ReadVersion {
         })
     }
 
-    /// Returns the identifiers of the pre-release, as they are compared.
+    /// Returns the identifiers of the pre-release for comparing.
     #[inline(always)]
     pub fn pre<'a>(&'a self) -> ByDigits<&'a [Identifier]> {
         ByDigits::of(self.version.pre.as_slice(), self.digits)
     }
 
-    /// Returns how it compares with another by precedence.
+    /// Compares two versions by precedence.
     pub fn compare(&self, other: &ReadVersion) -> Ordering {
         self.compare_version(&other.version, other.digits)
     }
 
-    /// Returns how it compares by precedence with a version whose identifiers of digits alone are
-    /// read so.
+    /// Compares it with a version by precedence, where the version's numeric identifiers are read
+    /// as `digits` says.
     #[inline(always)]
     pub fn compare_version(&self, version: &Version, digits: Digits) -> Ordering {
         compare(
@@ -83,8 +83,8 @@ impl ReadVersion {
         )
     }
 
-    /// Returns how the version of an outline compares with it by precedence, if the outline's
-    /// identifiers of digits alone are read so.
+    /// Compares a borrowed version with it by precedence, where the borrowed version's numeric
+    /// identifiers are read as `digits` says.
     #[inline(always)]
     pub fn compared_outline(&self, outline: &Outline<'_>, digits: Digits) -> Ordering {
         compare(

@@ -1,12 +1,14 @@
 // Made by tools/erase.py from crates/semver_versions/src/version.rt; not edited by hand.
-//! Version texts read straight from their bytes: as a `Version`, or as an outline without memory.
+//! Reads version strings directly from their bytes: as a `Version`, or as a borrowed version that
+//! allocates nothing.
 //!
-//! A version text is three numbers separated by dots, then optionally `-` and the identifiers of a
-//! pre-release, then optionally `+` and the identifiers of a build, each list separated by dots:
-//! `1.2.3-rc.1+5aedf`. Spaces, tabs, line feeds and carriage returns may come before and after it.
-//! A number is a canonical decimal, `0` or digits that don't begin with `0`, up to
-//! 18446744073709551615. An identifier is one or more runs of ASCII letters and digits joined by
-//! single hyphens; there is no limit on runs, identifiers or the length of a text.
+//! In the crate's grammar, a version is three numbers separated by dots, such as
+//! `1.2.3-rc.1+5aedf`. They are followed optionally by `-` and the identifiers of a pre-release,
+//! and then optionally by `+` and the identifiers of the build metadata, both separated by dots.
+//! Spaces, tabs, line feeds and carriage returns are allowed before and after it. A number is `0`,
+//! or digits that don't begin with `0`, up to 2^64 - 1. An identifier is one or more sequences of
+//! ASCII letters and digits, joined by single hyphens. The number of these sequences, the number of
+//! identifiers and the length of a string aren't limited.
 
 use crate::rattle_std::prelude::*;
 pub use crate::proved::semver_versions::outlines::Outline;
@@ -16,13 +18,13 @@ pub use crate::proved::semver_texts::precedence::cmp_precedence;
 pub use crate::proved::semver_texts::version::{Identifier, Version};
 use crate::rattle_std::AllocError;
 
-/// The version that the text spells, if it spells one. What is wrong with a text that spells none,
-/// `semver_parser::version::parse` reports.
+/// Returns the version that the string spells, or `None` if it spells none. To find out what is
+/// wrong with an invalid version, call `semver_parser::version::parse`.
 ///
-/// `Err` is out of memory, and comes only if the text spells a version with a pre-release or a
-/// build: nothing is allocated before the whole text is known to spell one. Then each identifier
-/// that isn't a number allocates, and so do the lists of identifiers. A text that spells no version
-/// allocates nothing, however long it is.
+/// `Err` means out of memory, which is possible only if the string spells a version with a
+/// pre-release or build metadata. Nothing is allocated before the whole string is known to spell a
+/// version. Then the lists of identifiers are allocated, and each identifier that isn't a number.
+/// For an invalid version nothing is allocated, however long the string is.
 ///
 /// ```
 /// use semver_parser::version;
@@ -41,11 +43,11 @@ pub fn read(input: &str) -> Result<Option<Version>, AllocError> {
     Ok(Some(outline.version_in(input)?))
 }
 
-/// What [`read`] answers of a text, of bytes that needn't be UTF-8. Bytes that are no UTF-8 give
+/// Reads a version like [`read`], from bytes that needn't be UTF-8. Bytes that aren't UTF-8 give
 /// `None`.
 ///
 /// The bytes aren't checked for UTF-8, since each byte of a version is ASCII. So for lines of a
-/// file this is quicker than such a check and [`read`].
+/// file this is faster than such a check followed by [`read`].
 ///
 /// ```
 /// use semver_parser::version;
@@ -62,9 +64,9 @@ pub fn read_bytes(input: &[u8]) -> Result<Option<Version>, AllocError> {
     Ok(Some(outline.version()?))
 }
 
-/// The version that the text spells in outline, if it spells one.
+/// Returns the version that the string spells as a borrowed version, or `None` if it spells none.
 ///
-/// It does not allocate: the texts are slices of the input.
+/// It does not allocate: its parts are slices of the input.
 ///
 /// ```
 /// use semver_parser::version;
@@ -80,8 +82,8 @@ pub fn outline(input: &str) -> Option<Outline<'_>> {
     outline_bytes(input.as_bytes())
 }
 
-/// What [`outline`] answers of a text, of bytes that needn't be UTF-8. Bytes that are no UTF-8 give
-/// `None`. They aren't checked for it. It does not allocate.
+/// Returns the result of [`outline`] for bytes that needn't be UTF-8. Bytes that aren't UTF-8 give
+/// `None`, without a separate check. It does not allocate.
 ///
 /// ```
 /// use semver_parser::version;
@@ -95,9 +97,9 @@ pub fn outline_bytes(input: &[u8]) -> Option<Outline<'_>> {
     outline_in(input, Grammar::Crate)
 }
 
-/// Returns what [`outline_bytes`] does, by a dialect.
+/// Returns the result of [`outline_bytes`] in a dialect.
 ///
-/// The bytes need not be UTF-8, and it does not allocate. The pages `docs::grammar` and
+/// The bytes needn't be UTF-8, and it does not allocate. The pages `docs::grammar` and
 /// `docs::original_crate` have the grammars.
 ///
 /// ```
@@ -116,11 +118,11 @@ pub fn outline_in(input: &[u8], grammar: Grammar) -> Option<Outline<'_>> {
     reader::outline(input, grammar)
 }
 
-/// Returns whether the bytes spell a version in a dialect, whatever their length: only npm limits
-/// it. For `1.2.3` after a thousand spaces this is true by npm's dialect, although [`outline_in`]
-/// returns `None`.
+/// Returns whether the bytes spell a version in a dialect, whatever their length, which only npm
+/// limits. For `1.2.3` after a thousand spaces this is true in npm's dialect, although
+/// [`outline_in`] returns `None`.
 ///
-/// The bytes need not be UTF-8, and it does not allocate.
+/// The bytes needn't be UTF-8, and it does not allocate.
 #[must_use]
 pub fn is_version_at_any_length(input: &[u8], grammar: Grammar) -> bool {
     reader::outline_at_any_length(input, grammar).is_some()
