@@ -399,7 +399,7 @@ pub(crate) fn one_more(count: &mut usize) {
     ('crates/release_filter/src/laws.rt', 'use crate::lines::{Lines',
      '''pub use crate::kept::one_more;
 use crate::lines::{Lines'''),
-    ('crates/release_filter/src/kept.rt', '/// Adds those of a few',
+    ('crates/release_filter/src/kept.rt', '/// Adds the versions that are in a set',
      '''/// One more.
 pub fn one_more(count: &mut usize)
     requires { count.old < 2 ^ 32 }
@@ -408,7 +408,7 @@ pub fn one_more(count: &mut usize)
     *count += 1;
 }
 
-/// Adds those of a few'''),
+/// Adds the versions that are in a set'''),
     ('crates/release_filter/src/kept.rt', '        count += usize::from(are_in[at]);\n',
      '''        let more = &mut count;
         if are_in[at] {
@@ -419,7 +419,7 @@ pub fn one_more(count: &mut usize)
         careless=[
     ('release_filter/kept.rs',
      '''
-/// Adds those of a few versions that are in a set. All are checked, and the places of those that
+/// Adds the versions that are in a set, of at most 64. First all are checked, and the indices of
 ''',
      '''
 /// One more.
@@ -427,7 +427,7 @@ pub(crate) fn one_more(count: &mut usize) {
     *count += 1;
 }
 
-/// Adds those of a few versions that are in a set. All are checked, and the places of those that
+/// Adds the versions that are in a set, of at most 64. First all are checked, and the indices of
 '''),
     ('release_filter/kept.rs', '        count += usize::from(are_in[at]);\n',
      '''        let more = &mut count;
@@ -579,12 +579,12 @@ use crate::command_line;
         careless=[
     ('semver_texts/bytes.rs',
      '''use crate::rattle_std::prelude::*;
-/// Whether the byte is a space, a tab, a line feed or a carriage return.
+/// Returns whether the byte is a space, a tab, a line feed or a carriage return.
 ''',
      '''use crate::rattle_std::prelude::*;
 use crate::proved::semver_texts::command_line;
 
-/// Whether the byte is a space, a tab, a line feed or a carriage return.
+/// Returns whether the byte is a space, a tab, a line feed or a carriage return.
 '''),
     ('semver_texts/bytes.rs', "    byte.is_ascii_alphanumeric() || byte == b'-'\n",
      '''    byte.is_ascii_alphanumeric() || crate::proved::command_line::is_hyphen(byte)
@@ -642,7 +642,7 @@ type Name = String;
         edits=[
     ('crates/semver_texts/src/bytes.rt',
      '''// Answer: equation.
-/// How many of the bytes are dots: 2 of `1.2.3`.
+/// Returns how many of the bytes are dots: 2 for `1.2.3`.
 ''',
      '''/// The first byte.
 pub fn first(bytes: &[u8], _test: fn(u8) -> bool) -> u8
@@ -652,13 +652,13 @@ pub fn first(bytes: &[u8], _test: fn(u8) -> bool) -> u8
 }
 
 // Answer: equation.
-/// How many of the bytes are dots: 2 of `1.2.3`.
+/// Returns how many of the bytes are dots: 2 for `1.2.3`.
 '''),
         ],
         careless=[
     ('semver_texts/bytes.rs',
      '''
-/// How many of the bytes are dots: 2 of `1.2.3`.
+/// Returns how many of the bytes are dots: 2 for `1.2.3`.
 ''',
      '''
 /// The first byte.
@@ -666,7 +666,7 @@ pub fn first(bytes: &[u8], _test: fn(u8) -> bool) -> u8 {
     bytes[0]
 }
 
-/// How many of the bytes are dots: 2 of `1.2.3`.
+/// Returns how many of the bytes are dots: 2 for `1.2.3`.
 '''),
         ],
         at=('crates/semver_texts/src/bytes.rt', '_test: fn('),
@@ -678,7 +678,7 @@ pub fn first(bytes: &[u8], _test: fn(u8) -> bool) -> u8 {
      'byte.is_ascii_alphanumeric() || format!(byte)'),
     ('crates/semver_texts/src/bytes.rt',
      '''// Answer: equation.
-/// How many of the bytes are dots: 2 of `1.2.3`.
+/// Returns how many of the bytes are dots: 2 for `1.2.3`.
 ''',
      '''macro_rules! format {
     (byte) => {
@@ -687,7 +687,7 @@ pub fn first(bytes: &[u8], _test: fn(u8) -> bool) -> u8 {
 }
 
 // Answer: equation.
-/// How many of the bytes are dots: 2 of `1.2.3`.
+/// Returns how many of the bytes are dots: 2 for `1.2.3`.
 '''),
         ],
         careless=[
@@ -696,7 +696,7 @@ pub fn first(bytes: &[u8], _test: fn(u8) -> bool) -> u8 {
 '''),
     ('semver_texts/bytes.rs',
      '''
-/// How many of the bytes are dots: 2 of `1.2.3`.
+/// Returns how many of the bytes are dots: 2 for `1.2.3`.
 ''',
      '''
 macro_rules! format {
@@ -705,7 +705,7 @@ macro_rules! format {
     };
 }
 
-/// How many of the bytes are dots: 2 of `1.2.3`.
+/// Returns how many of the bytes are dots: 2 for `1.2.3`.
 '''),
         ],
         at=('crates/semver_texts/src/bytes.rt', 'macro_rules! format'),
@@ -715,7 +715,7 @@ macro_rules! format {
         edits=[
     ('crates/semver_texts/src/bytes.rt',
      '''// Answer: equation.
-/// How many of the bytes are dots: 2 of `1.2.3`.
+/// Returns how many of the bytes are dots: 2 for `1.2.3`.
 ''',
      '''/// How many bytes there are from 250 on.
 pub fn high_bytes() -> usize {
@@ -723,13 +723,13 @@ pub fn high_bytes() -> usize {
 }
 
 // Answer: equation.
-/// How many of the bytes are dots: 2 of `1.2.3`.
+/// Returns how many of the bytes are dots: 2 for `1.2.3`.
 '''),
         ],
         careless=[
     ('semver_texts/bytes.rs',
      '''
-/// How many of the bytes are dots: 2 of `1.2.3`.
+/// Returns how many of the bytes are dots: 2 for `1.2.3`.
 ''',
      '''
 /// How many bytes there are from 250 on.
@@ -737,7 +737,7 @@ pub fn high_bytes() -> usize {
     (250u8..).take(9).count()
 }
 
-/// How many of the bytes are dots: 2 of `1.2.3`.
+/// Returns how many of the bytes are dots: 2 for `1.2.3`.
 '''),
         ],
         at=('crates/semver_texts/src/bytes.rt', '(250u8..)'),
@@ -919,7 +919,7 @@ fn version_of(text: &str) -> Result<Version, AllocError> {
         edits=[
     ('crates/semver_texts/src/bytes.rt',
      '''// Answer: equation.
-/// How many of the bytes are dots: 2 of `1.2.3`.
+/// Returns how many of the bytes are dots: 2 for `1.2.3`.
 ''',
      '''/// What can be without white space.
 pub trait Trimmed {
@@ -939,13 +939,13 @@ pub fn trimmed_len(bytes: &[u8]) -> usize {
 }
 
 // Answer: equation.
-/// How many of the bytes are dots: 2 of `1.2.3`.
+/// Returns how many of the bytes are dots: 2 for `1.2.3`.
 '''),
         ],
         careless=[
     ('semver_texts/bytes.rs',
      '''
-/// How many of the bytes are dots: 2 of `1.2.3`.
+/// Returns how many of the bytes are dots: 2 for `1.2.3`.
 ''',
      '''
 /// What can be without white space.
@@ -965,7 +965,7 @@ pub fn trimmed_len(bytes: &[u8]) -> usize {
     bytes.trim_ascii().len()
 }
 
-/// How many of the bytes are dots: 2 of `1.2.3`.
+/// Returns how many of the bytes are dots: 2 for `1.2.3`.
 '''),
         ],
         at=('crates/semver_texts/src/bytes.rt', 'impl Trimmed'),
@@ -975,7 +975,7 @@ pub fn trimmed_len(bytes: &[u8]) -> usize {
         edits=[
     ('crates/semver_texts/src/bytes.rt',
      '''// Answer: equation.
-/// How many of the bytes are dots: 2 of `1.2.3`.
+/// Returns how many of the bytes are dots: 2 for `1.2.3`.
 ''',
      '''/// A bit of 64.
 pub fn bit(place: usize) -> usize
@@ -985,7 +985,7 @@ pub fn bit(place: usize) -> usize
 }
 
 // Answer: equation.
-/// How many of the bytes are dots: 2 of `1.2.3`.
+/// Returns how many of the bytes are dots: 2 for `1.2.3`.
 '''),
     ('crates/semver_texts/src/bytes.rt', 'ghost use Rattle.std.specs.Prelude.{◌≡◌};\n',
      'ghost use Rattle.std.specs.Prelude.{◌≡◌, ◌<◌};\n'),
@@ -993,7 +993,7 @@ pub fn bit(place: usize) -> usize
         careless=[
     ('semver_texts/bytes.rs',
      '''
-/// How many of the bytes are dots: 2 of `1.2.3`.
+/// Returns how many of the bytes are dots: 2 for `1.2.3`.
 ''',
      '''
 /// A bit of 64.
@@ -1001,7 +1001,7 @@ pub(crate) fn bit(place: usize) -> usize {
     1usize << place
 }
 
-/// How many of the bytes are dots: 2 of `1.2.3`.
+/// Returns how many of the bytes are dots: 2 for `1.2.3`.
 '''),
         ],
         at=('crates/semver_texts/src/bytes.rt', '1usize <<'),

@@ -1,9 +1,9 @@
-//! Buffers in which prefixes are completed.
+//! Buffers in which completions are appended to prefixes.
 ghost use Rattle.std.specs.Prelude.{◌≡◌, ◌≤◌, ◌+◌, ◌++◌, length, string_bytes, string_capacity};
 ghost use Rattle.std.specs.Prelude.{take};
 ghost use Rattle.invalid_strings.specs.Buffers.{HoldsAfter};
 
-/// Writes the bytes at an offset; those before it stay.
+/// Writes bytes at an offset. The bytes before it stay as they are.
 pub(crate) fn write(buffer: &mut [u8], offset: usize, bytes: &[u8])
     requires { offset + length bytes.now ≤ length buffer.old }
     ensures before { take offset buffer.new ≡ take offset buffer.old }
@@ -14,8 +14,8 @@ pub(crate) fn write(buffer: &mut [u8], offset: usize, bytes: &[u8])
 }
 
 // Answer: equation.
-/// Puts two texts, one after the other, in place of what the buffer holds. Its capacity has to
-/// hold both, so it does not allocate.
+/// Replaces the content of the buffer by two strings, one after the other. It does not allocate,
+/// since the buffer's capacity has to hold both.
 pub fn join(buffer: &mut String, first: &str, second: &str)
     requires { length first.now + length second.now ≤ string_capacity buffer.old }
     ensures joined { string_bytes buffer.new ≡ first.now ++ second.now }
@@ -26,7 +26,7 @@ pub fn join(buffer: &mut String, first: &str, second: &str)
     let _ = buffer.push_str(second);
 }
 
-/// Puts a completion in place of what the buffer holds after a prefix.
+/// Replaces what follows a prefix in the buffer by a completion.
 pub(crate) fn complete(buffer: &mut String, prefix: &str, completion: &str)
     requires held { HoldsAfter prefix.now (string_bytes buffer.old) }
     requires room { length prefix.now + length completion.now ≤ string_capacity buffer.old }

@@ -1,4 +1,4 @@
-//! Whether some version begins with bytes, which may end within a character.
+//! Decides whether some version begins with given bytes, which may end within a character.
 ghost use Rattle.std.specs.Prelude.{◌≡◌, ◌≤◌, ◌+◌, ◌-◌, ◌++◌, ◌↔◌, IsTrue, length, map};
 ghost use Rattle.std.specs.Prelude.{take};
 ghost use Rattle.semver_texts.specs.Texts.{Text};
@@ -9,7 +9,7 @@ use crate::buffers::write;
 use semver_texts::grammar::Grammar;
 use semver_versions::version::{is_version_at_any_length, outline_in};
 
-/// What completes a prefix.
+/// The bytes that complete a prefix.
 const COMPLETIONS: [&[u8]; 23] = [
     b"",
     b"a",
@@ -36,16 +36,16 @@ const COMPLETIONS: [&[u8]; 23] = [
     b"\xBF0.0.0",
 ];
 
-/// How long a version may be.
+/// The length that a version may have.
 #[derive(Clone, Copy)]
 pub(crate) enum Length {
     /// As long as its dialect allows.
     Allowed,
-    /// Of any length.
+    /// Any length.
     Any,
 }
 
-/// Whether some version of such a length begins with the bytes.
+/// Returns whether some version of an allowed length begins with the bytes.
 pub(crate) fn begins(prefix: &[u8], len: Length, grammar: Grammar, buffer: &mut [u8]) -> bool
     requires { length prefix.now + 8 ≤ length buffer.old }
     ensures { IsTrue result ↔ (more : Text) × IsVersionOf len grammar (prefix.now ++ more) }
@@ -54,7 +54,8 @@ pub(crate) fn begins(prefix: &[u8], len: Length, grammar: Grammar, buffer: &mut 
     goes_on(buffer, prefix.len(), &COMPLETIONS, len, grammar)
 }
 
-/// Whether the bytes up to an offset and one of the completions are a version of such a length.
+/// Returns whether the bytes up to an offset, with one of the completions, are a version of an
+/// allowed length.
 fn goes_on(
     buffer: &mut [u8],
     end: usize,
@@ -77,7 +78,7 @@ fn goes_on(
     false
 }
 
-/// Whether the bytes are a version of such a length.
+/// Returns whether the bytes are a version of an allowed length.
 pub(crate) fn is_version(bytes: &[u8], len: Length, grammar: Grammar) -> bool
     ensures { IsTrue result ↔ IsVersionOf len grammar bytes.now }
 {

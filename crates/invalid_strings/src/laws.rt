@@ -14,7 +14,8 @@ use crate::longest::{Language, longest_prefix};
 use crate::reasons::Reason;
 use std::alloc::{AllocError, Global};
 
-/// What begins a prefix is one, so is nothing, and so is each version.
+/// A prefix of a prefix of a version is itself such a prefix; so are the empty string and every
+/// version.
 pub fn prefixes_begin_prefixes()
     ensures shorter { (grammar : Grammar) (text more : Text) → IsPrefixIn grammar (text ++ more)
         → IsPrefixIn grammar text }
@@ -23,13 +24,13 @@ pub fn prefixes_begin_prefixes()
         → IsWholePrefixIn grammar text }
 {}
 
-/// A text has one longest prefix.
+/// A string has only one longest prefix.
 pub fn one_longest_prefix()
     ensures same_offset { (grammar : Grammar) (text : Text) (m n : ℕ)
         → IsLongestVersionPrefix grammar text m → IsLongestVersionPrefix grammar text n → m ≡ n }
 {}
 
-/// `longest_prefix` has one answer, unless memory runs out.
+/// Unless memory runs out, `longest_prefix` has only one permitted result.
 pub fn one_offset<L: Language>(
     alloc: Global,
     language: &L,
@@ -44,13 +45,13 @@ pub fn one_offset<L: Language>(
     )
 }
 
-/// A prefix and what follows it have one reason.
+/// A prefix and the byte after it have only one reason.
 pub fn one_reason()
     ensures same_reason { (grammar : Grammar) (prefix : Text) (next : Option ℕ) (x y : SomeReason)
         → IsReason grammar prefix next x → IsReason grammar prefix next y → x ≡ y }
 {}
 
-/// A number has one reason, or none.
+/// A number is that of one reason, or of none.
 pub fn one_reason_of_number(number: i32) -> (Option<Reason>, Option<Reason>)
     ensures one { result.0 ≡ result.1 }
 {

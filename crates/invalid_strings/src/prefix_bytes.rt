@@ -1,4 +1,4 @@
-//! The bytes at the end of a prefix, and the one after it.
+//! The bytes at the end of a prefix, and the byte after it.
 
 ghost use Rattle.std.specs.Prelude.{◌≡◌};
 ghost use Rattle.invalid_strings.specs.Reasons.{byte_at, ends_in_zero, from_end, has_no_digit};
@@ -19,7 +19,7 @@ pub fn byte_at(text: &[u8], offset: usize) -> Option<u8>
 }
 
 // Answer: equation.
-/// Returns a byte by its offset from the end; 0 before the first.
+/// Returns a byte by its offset from the end, or 0 before the first byte.
 pub fn from_end(prefix: &[u8], offset: usize) -> u8
     ensures { result ≡ from_end prefix.now offset }
 {
@@ -31,7 +31,7 @@ pub fn from_end(prefix: &[u8], offset: usize) -> u8
 }
 
 // Answer: equation.
-/// Whether it ends in a zero with no digit before it.
+/// Returns whether a prefix ends in a zero without a digit before it.
 pub fn ends_in_zero(prefix: &[u8]) -> bool
     ensures { result ≡ ends_in_zero prefix.now }
 {
@@ -39,7 +39,7 @@ pub fn ends_in_zero(prefix: &[u8]) -> bool
 }
 
 // Answer: equation.
-/// Whether it has no digit.
+/// Returns whether a prefix has no digit.
 pub fn has_no_digit(prefix: &[u8]) -> bool
     ensures { result ≡ has_no_digit prefix.now }
 {
@@ -47,7 +47,7 @@ pub fn has_no_digit(prefix: &[u8]) -> bool
 }
 
 // Answer: equation.
-/// Whether the byte follows a number or an identifier in some versions.
+/// Returns whether the byte can follow a number or an identifier in some version.
 pub fn is_separator(byte: u8) -> bool
     ensures { result ≡ is_separator byte }
 {

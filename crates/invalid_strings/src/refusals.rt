@@ -1,4 +1,4 @@
-//! Where and why a text is no valid version.
+//! Where and why a string is an invalid version.
 
 ghost use Rattle.std.specs.Prelude.{◌≡◌, ◌<◌, ◌≤◌, ◌↔◌, ◌+◌, ◌++◌, ◌∷◌, []};
 ghost use Rattle.std.specs.Prelude.{IfErr, IfOk, IsTrue, MatchOption, false, length};
@@ -22,7 +22,7 @@ use semver_texts::npm_limits::MAX_LENGTH;
 use semver_texts::white_space::is_ascii_white_space;
 use std::alloc::{AllocError, Global};
 
-/// Where and why a text is no valid version.
+/// The error of an invalid version string: its offset and its reason.
 ///
 /// ```
 /// use semver_parser::layers::{explain_version, VersionRefusal};
@@ -34,14 +34,14 @@ use std::alloc::{AllocError, Global};
 /// ```
 #[derive(Clone, Copy, PartialEq, Eq, Debug)]
 pub struct Refusal {
-    /// The byte offset of the first character that no version has there, or the length of the text
-    /// if something is missing at its end.
+    /// The byte offset of the first character that isn't allowed there in a version, or the length
+    /// of the string if something is missing at its end.
     pub offset: usize,
-    /// Why.
+    /// The reason.
     pub reason: Reason,
 }
 
-/// Whether neither a number nor a `v` has begun.
+/// Returns whether neither a number nor a `v` has begun.
 fn is_blank(prefix: &[u8]) -> bool
     ensures { result ≡ is_blank prefix.now }
 {
@@ -50,7 +50,7 @@ fn is_blank(prefix: &[u8]) -> bool
         .all(|&byte| !(byte.is_ascii_digit() || byte == b'v'))
 }
 
-/// Why a prefix with fewer than three numbers doesn't go on as a version.
+/// Returns why a prefix with fewer than three numbers doesn't continue as a version.
 fn missing_after(prefix: &[u8]) -> Reason
     ensures { result ≡ missing_after prefix.now }
 {
@@ -61,7 +61,8 @@ fn missing_after(prefix: &[u8]) -> Reason
     }
 }
 
-/// What a byte is that no version has there: a `v` before the numbers, or any other.
+/// Returns the reason for a byte that isn't allowed there: a `v` before the numbers, or another
+/// one.
 fn unexpected_in(grammar: Grammar, prefix: &[u8], byte: u8) -> Reason
     ensures { result ≡ unexpected_in grammar prefix.now byte }
 {
@@ -73,7 +74,9 @@ fn unexpected_in(grammar: Grammar, prefix: &[u8], byte: u8) -> Reason
     }
 }
 
-/// The reason, by what the prefix is and takes.
+/// Returns the reason. `version` is whether the prefix is a version of any length, and `letter` and
+/// `zero` are whether it is one with a letter or a zero appended. `too_long` is whether the prefix
+/// with the next byte is too long.
 fn reason_by(
     grammar: Grammar,
     version: bool,
@@ -126,7 +129,7 @@ fn reason_by(
     }
 }
 
-/// Whether the prefix and a letter or digit are a version of any length.
+/// Returns whether the prefix with `part` appended is a version of any length.
 fn takes(prefix: &str, part: &str, grammar: Grammar, buffer: &mut String) -> bool
     requires { length prefix.now + length part.now ≤ string_capacity buffer.old }
     ensures takes { IsTrue result ↔ IsVersionAtAnyLength grammar (prefix.now ++ part.now) }
@@ -136,7 +139,7 @@ fn takes(prefix: &str, part: &str, grammar: Grammar, buffer: &mut String) -> boo
     is_version(buffer.as_bytes(), Length::Any, grammar)
 }
 
-/// Whether the dialect limits the length of a version.
+/// Returns whether the dialect limits the length of a version.
 fn has_limit(grammar: Grammar) -> bool
     ensures { result ≡ false → (text : Text) → ¬ (IsTooLong grammar text) }
 {
@@ -147,8 +150,8 @@ fn has_limit(grammar: Grammar) -> bool
     }
 }
 
-/// Whether some version begins with the bytes, but each is longer than the dialect allows. For
-/// speed, of a short text the answer is known.
+/// Returns whether some version begins with the bytes, but every such version is longer than the
+/// dialect allows. For a short string the result is known at once, for speed.
 fn is_too_long(alloc: Global, text: &[u8], grammar: Grammar) -> Result<bool, AllocError>
     ensures { IfOk result (λ too_long. IsTrue too_long ↔ IsTooLong grammar text.now) }
 {
@@ -162,7 +165,8 @@ fn is_too_long(alloc: Global, text: &[u8], grammar: Grammar) -> Result<bool, All
     Ok(is_too_long_in(text, grammar, buffer.as_mut_slice()))
 }
 
-/// The same, found in a buffer that has 8 bytes more than the text.
+/// Returns whether some version begins with the bytes, but every such version is longer than the
+/// dialect allows. The buffer has to be at least 8 bytes longer than the string.
 fn is_too_long_in(text: &[u8], grammar: Grammar, buffer: &mut [u8]) -> bool
     requires { length text.now + 8 ≤ length buffer.old }
     ensures { IsTrue result ↔ IsTooLong grammar text.now }
@@ -170,7 +174,7 @@ fn is_too_long_in(text: &[u8], grammar: Grammar, buffer: &mut [u8]) -> bool
     begins(text, Length::Any, grammar, buffer) && !begins(text, Length::Allowed, grammar, buffer)
 }
 
-/// The bytes up to an offset, and the one at it, if there is one.
+/// Returns the bytes up to an offset, and the byte at it, if there is one.
 fn with_next(input: &[u8], offset: usize) -> &[u8]
     requires { offset ≤ length input.now }
     ensures within { length result.now ≤ length input.now }
@@ -184,7 +188,8 @@ fn with_next(input: &[u8], offset: usize) -> &[u8]
 }
 
 // Answer: law answer_laws::texts::one_explanation.
-/// Returns where and why a text is no valid version, or `None` if it is one.
+/// Returns the error of a version string, with its offset and reason, or `None` if the version is
+/// valid.
 ///
 /// ```text
 /// explain(alloc, b"1.2.03", Grammar::Cargo)?    // at 5: LeadingZero
@@ -195,8 +200,8 @@ fn with_next(input: &[u8], offset: usize) -> &[u8]
 ///
 /// # Errors
 ///
-/// `AllocError` if an allocation fails. It allocates only if the text is no valid version, and then
-/// one buffer of about its length, or two if it is npm's and longer than 248 bytes.
+/// `AllocError` if an allocation fails. It allocates only if the version is invalid: one buffer of
+/// about its length, or two if the dialect is npm's and the string is longer than 248 bytes.
 pub fn explain(alloc: Global, text: &[u8], grammar: Grammar) -> Result<Option<Refusal>, AllocError>
     ensures version { IfOk result (λ o. MatchOption o (IsVersionTextIn grammar text.now)
         (λ r. ¬ (IsVersionTextIn grammar text.now))) }
@@ -204,7 +209,7 @@ pub fn explain(alloc: Global, text: &[u8], grammar: Grammar) -> Result<Option<Re
         (λ r. IsLongestVersionPrefix grammar text.now r.offset)) }
     ensures reason { IfOk result (λ o. MatchOption o (Unit {0})
         (λ r. IsReason grammar (take r.offset text.now) (byte_at text.now r.offset) r.reason)) }
-    // Memory runs out only in place of a refusal.
+    // An allocation can fail only if the version is invalid.
     ensures out_of_memory { IfErr result (λ _. ¬ (IsVersionTextIn grammar text.now)) }
 {
     if is_version(text, Length::Allowed, grammar) {
@@ -213,7 +218,7 @@ pub fn explain(alloc: Global, text: &[u8], grammar: Grammar) -> Result<Option<Re
     Ok(Some(refused(alloc, text, grammar)?))
 }
 
-/// Where and why a text is an invalid version, if it is one.
+/// Returns the error of an invalid version string.
 fn refused(alloc: Global, input: &[u8], grammar: Grammar) -> Result<Refusal, AllocError>
     ensures offset { IfOk result (λ r. IsLongestVersionPrefix grammar input.now r.offset) }
     ensures reason { IfOk result (λ r.
@@ -228,7 +233,8 @@ fn refused(alloc: Global, input: &[u8], grammar: Grammar) -> Result<Refusal, All
     Ok(Refusal { offset, reason })
 }
 
-/// The reason at the end of a prefix, by the byte after it, and whether both are too long.
+/// Returns the reason at the end of a prefix. `next` is the byte after it, and `too_long` is
+/// whether the prefix with that byte is too long.
 fn reason_at(
     prefix: &str,
     next: Option<u8>,

@@ -1,4 +1,4 @@
-//! The terms of a range text as plain data: what is written, and where.
+//! The terms of a range string as plain data: what is written, and at which offsets.
 #![tactic(auto)]
 
 pub mod term;

@@ -1,4 +1,4 @@
-//! A term of a range text, as it is written.
+//! A term of a range string, as it is written.
 
 ghost use Rattle.std.specs.Prelude.{◌≡◌, option_map};
 ghost use Rattle.std.specs.Fmt.{WritesOnOk};
@@ -10,7 +10,7 @@ ghost use Rattle.range_terms.specs.WrittenTexts.{dot_text, part_text};
 use semver_versions::version::Outline;
 use std::fmt;
 
-/// What a term begins with, or that it is a hyphen range.
+/// The operator at the beginning of a term, or that of a hyphen range.
 ///
 /// ```
 /// use semver_parser::{terms, Dialect, Operator};
@@ -22,7 +22,7 @@ use std::fmt;
 #[derive(Clone, Copy, PartialEq, Eq, Hash, Debug)]
 #[non_exhaustive]
 pub enum Operator {
-    /// Nothing: `1.2`.
+    /// No operator: `1.2`.
     Bare,
     /// `=`.
     Equal,
@@ -44,8 +44,8 @@ pub enum Operator {
 
 impl Operator {
     // Answer: equation.
-    /// Returns its number in the C API. The operators of comparators have the numbers that they have
-    /// there.
+    /// Returns the number of the operator in the C API. The operators of comparators have the same
+    /// numbers there.
     ///
     /// ```
     /// use semver_parser::Operator;
@@ -70,8 +70,8 @@ impl Operator {
     }
 
     // Answer: equation.
-    /// Returns how it is written: `~` for `~>` too, `-` for a hyphen range, and an empty string if
-    /// nothing is before the version.
+    /// Returns the operator as it is written: `~` also for `~>`, `-` for a hyphen range, and an
+    /// empty string if there is no operator.
     ///
     /// ```
     /// use semver_parser::Operator;
@@ -108,9 +108,10 @@ impl Operator {
 /// ```
 #[derive(Clone, Copy, PartialEq, Eq, Hash, Debug)]
 pub enum Component {
-    /// A number. One above 2^64 - 1, which can only be after a wildcard, is 2^64 - 1.
+    /// A number. A number above 2^64 - 1, which is possible only after a wildcard, is given as 2^64
+    /// - 1.
     Number(u64),
-    /// A wildcard: `x`, `X` or `*`, as it is written.
+    /// A wildcard as it is written: `x`, `X` or `*`.
     Wildcard(char),
 }
 
@@ -121,8 +122,8 @@ impl fmt::Display for Component {
 
     ghost output = { λ component. Some (component_text component) };
 
-    /// Writes the number, or the wildcard as it is written. It does not allocate, and its only error
-    /// is the writer's.
+    /// Writes the number, or the wildcard as it is written. It does not allocate, and its only
+    /// error is the writer's.
     fn fmt<W: fmt::Write>(&self, f: &mut fmt::Formatter<W>) -> fmt::Result {
         match self {
             Component::Number(number) => write!(f, "{number}"),
@@ -131,7 +132,8 @@ impl fmt::Display for Component {
     }
 }
 
-/// Where something is in a string: from a byte to the byte after it.
+/// The position of something in a string: the offset of its first byte and the offset after its
+/// last.
 ///
 /// ```
 /// use semver_parser::{terms, Dialect, Span};
@@ -149,7 +151,7 @@ pub struct Span {
     pub end: usize,
 }
 
-/// A version as a term states it, with one to three components.
+/// The version of a term, with one to three components.
 ///
 /// ```
 /// use semver_parser::{terms, Component, Dialect, Span};
@@ -163,7 +165,7 @@ pub struct Span {
 /// ```
 #[derive(Clone, Copy, PartialEq, Eq, Hash, Debug)]
 pub struct PartialVersion<'text> {
-    /// Where it is in the string, with its `v`.
+    /// The position in the string, including a `v`.
     pub span: Span,
     /// Whether it begins with `v`, which only npm's dialect has.
     pub has_v: bool,
@@ -181,10 +183,10 @@ pub struct PartialVersion<'text> {
 
 impl<'text> PartialVersion<'text> {
     // Answer: equation.
-    /// Returns the numbers of another version in the form of this one: with as many components, with
-    /// its wildcards, and with a `v` if it has one. The pre-release of the other version is kept if
-    /// three numbers are stated here, and its build metadata is left out. The span stays that of this
-    /// version, whose string the result may replace.
+    /// Returns the numbers of another version in the form of this one: with as many components,
+    /// with its wildcards, and with a `v` if it has one. The pre-release of the other version is
+    /// kept if this one has three numbers, and its build metadata is left out. The span stays that
+    /// of this version, whose string the result may replace.
     ///
     /// ```
     /// use semver_parser::{terms, Dialect, VersionRef};
@@ -217,7 +219,7 @@ impl<'text> PartialVersion<'text> {
         }
     }
 
-    /// Whether it states three numbers.
+    /// Returns whether it has three numbers.
     fn states_three(&self) -> bool
         ensures { result ≡ states_three (version_value self.now) }
     {
@@ -232,7 +234,7 @@ impl<'text> PartialVersion<'text> {
     }
 }
 
-/// A component with another number; a wildcard stays as it is.
+/// Returns a component with another number; a wildcard stays as it is.
 fn with_number(component: Component, number: u64) -> Component
     ensures { result ≡ component_with number component }
 {
@@ -242,7 +244,7 @@ fn with_number(component: Component, number: u64) -> Component
     }
 }
 
-/// The same, if it is written.
+/// Returns a component with another number, if it is written; a wildcard stays as it is.
 fn with_number_if_written(component: Option<Component>, number: u64) -> Option<Component>
     ensures { result ≡ option_map (component_with number) component }
 {
@@ -309,14 +311,14 @@ fn write_part<W: fmt::Write>(f: &mut fmt::Formatter<W>, mark: &str, part: &str) 
 /// ```
 #[derive(Clone, Copy, PartialEq, Eq, Hash, Debug)]
 pub struct Term<'text> {
-    /// How many `||` are before it: the index of its range.
+    /// The index of its range: the number of `||` before it.
     pub range: usize,
-    /// What it begins with, or that it is a hyphen range.
+    /// The operator at its beginning, or that of a hyphen range.
     pub operator: Operator,
-    /// Where it is in the string, from its operator to the end of its last version.
+    /// The position in the string, from the operator to the end of the last version.
     pub span: Span,
-    /// Its version, which of a hyphen range is the one before the hyphen.
+    /// Its version. In a hyphen range, it is the one before the hyphen.
     pub version: PartialVersion<'text>,
-    /// The version after the hyphen of a hyphen range.
+    /// The version after the hyphen of a hyphen range, and `None` for any other term.
     pub upper: Option<PartialVersion<'text>>,
 }

@@ -1,4 +1,4 @@
-//! The terms of a range text, one after the other. Nothing here allocates.
+//! Iterates over the terms of a range string. Nothing here allocates.
 
 ghost use Rattle.std.specs.Prelude.{◌≡◌, ◌≢◌, ◌≤◌, ◌<◌, ◌+◌, ◌++◌, true, Err, IfOk, IfSome};
 ghost use Rattle.std.specs.Prelude.{[], ◌∷◌, length, option_map, slice_index};
@@ -28,8 +28,8 @@ use tool_ranges::dialect::Dialect;
 use tool_ranges::meaning::{Meaning, check};
 use version_sets::PreReleases;
 
-/// The terms of a range, one after the other, as they are written. It borrows the string and
-/// allocates nothing. An empty range, such as the second of `1.2 ||`, has no term.
+/// An iterator over the terms of a range, as they are written. It borrows the string and allocates
+/// nothing. An empty range, such as the second of `1.2 ||`, has no term.
 ///
 /// ```
 /// use semver_parser::{terms, Dialect, Operator};
@@ -50,10 +50,10 @@ use version_sets::PreReleases;
 /// ```
 #[derive(Debug, Drop)]
 pub struct Terms<'text> {
-    /// The length of the whole text.
+    /// The length of the whole string.
     len: usize,
     grammar: Grammar,
-    /// How many `||` are before the rest.
+    /// The number of `||` before the rest.
     range: usize,
     rest: &'text [u8],
 }
@@ -72,17 +72,18 @@ impl<'text> Model for Terms<'text> {
 
 impl<'text> Terms<'text> {
     // Answer: law answer_laws::ranges::one_terms.
-    /// Checks a range string of a dialect, and returns its terms.
+    /// Checks a range string in a dialect, and returns its terms.
     ///
-    /// Another partial version of the dialect's grammar may replace the one at the span of a version,
-    /// and the string is in the grammar again. In Cargo's dialect it must state a number. Check the
-    /// string all the same, since one of its numbers may be too large.
+    /// If the part of the string at the span of a version is replaced by another partial version of
+    /// the dialect's grammar, the string is still in the grammar. In Cargo's dialect the
+    /// replacement must have a number. Check the new string anyway, since one of its numbers may be
+    /// too large.
     ///
     /// # Errors
     ///
-    /// Those of `check_range`, without a string: `NotARange` if and only if the string isn't a range
-    /// of the dialect, and `NumberTooLarge` if and only if it is one, and a number that it states or
-    /// a bound that is raised by one is above the dialect's limit.
+    /// The errors of `check_range`, without a string: `NotARange` if and only if the string isn't a
+    /// range in the dialect, and `NumberTooLarge` if and only if it is a range, but one of its
+    /// numbers, or a bound that is raised by one, is above the dialect's limit.
     ///
     /// ```
     /// use semver_parser::{Dialect, RangeError, Terms};
@@ -92,14 +93,16 @@ impl<'text> Terms<'text> {
     /// # Ok::<(), RangeError>(())
     /// ```
     pub fn try_parse(range: &'text str, dialect: Dialect) -> Result<Terms<'text>, RangeError>
-        // What isn't a range of the dialect, and what is too large, is refused, exactly.
+        // `NotARange` and `NumberTooLarge` are returned for exactly the strings for which they are
+        // defined.
         ensures refusals { RefusesAs dialect range.now result }
         ensures no_memory { result ≢ Err RangeError.OutOfMemory }
-        // The terms are those of each tree that spells the text, by each way in which it does.
+        // The terms are those of the syntax tree of the string, whichever way it spells the string.
         ensures terms { IfOk result (λ terms. (tree : TreeOf dialect)
             (spelled : SpellsAs dialect tree range.now)
             → terms ≡ terms_in dialect tree range.now spelled) }
-        // With another version of the grammar at the span of one the text is a range again.
+        // If another version of the grammar replaces the string at the span of one, the result is a
+        // range again.
         ensures replaceable { IfOk result
             (λ terms. AllByRecursion (IsReplaceable dialect range.now) terms) }
     {
@@ -153,7 +156,7 @@ pub fn copy<'text>(terms: &Terms<'text>) -> Terms<'text>
     }
 }
 
-/// The term of an operator and one version, or of the two versions of a hyphen range.
+/// Returns the term of an operator and one version, or of the two versions of a hyphen range.
 fn term<'text>(
     range: usize,
     form: Form,
@@ -177,7 +180,7 @@ fn term<'text>(
     }
 }
 
-/// The operator of what is before a partial version.
+/// Returns the operator before a partial version.
 fn operator_of(form: Form) -> Operator
     ensures { result ≡ operator_of (form_of form) }
 {
@@ -193,8 +196,8 @@ fn operator_of(form: Form) -> Operator
     }
 }
 
-/// What follows the blanks and the pairs of bars at the front of a text, and how many pairs these
-/// are.
+/// Returns how many pairs of bars are at the beginning of a string, among blanks, and what follows
+/// them and the blanks.
 fn after_ranges(text: &[u8], grammar: Grammar) -> (usize, &[u8])
     ensures value { (result.0, result.1.now) ≡ after_ranges grammar text.now }
     ensures within { result.0 + length result.1.now ≤ length text.now }
@@ -210,7 +213,8 @@ fn after_ranges(text: &[u8], grammar: Grammar) -> (usize, &[u8])
     }
 }
 
-/// The version at the front of what is left of a text of some length, and what follows it.
+/// Returns the version at the beginning of the rest of a string, and what follows it. `len` is the
+/// length of the whole string.
 fn read_version(text: &[u8], grammar: Grammar, len: usize) -> Option<(PartialVersion<'_>, &[u8])>
     requires { length text.now ≤ len }
     ensures found { IsFound (version_in grammar len text.now) result }
@@ -225,14 +229,14 @@ fn read_version(text: &[u8], grammar: Grammar, len: usize) -> Option<(PartialVer
     Some((version(span, begins_with_v(text), word, &written), rest))
 }
 
-/// Whether a text begins with `v`.
+/// Returns whether a string begins with `v`.
 fn begins_with_v(text: &[u8]) -> bool
     ensures { result ≡ begins_with 118 text.now }
 {
     matches!(text, [b'v', ..])
 }
 
-/// The version of the components that are at the front of a text.
+/// Returns the version with the components that are at the beginning of a string.
 fn version<'text>(
     span: Span,
     has_v: bool,
@@ -257,7 +261,7 @@ fn version<'text>(
     }
 }
 
-/// What follows the first dot of a text: nothing if there is none.
+/// Returns what follows the first dot of a string, which is nothing if there is none.
 fn after_dot(text: &[u8]) -> &[u8]
     ensures { (word rest : Text) → is_component word ≡ true → text.now ≡ word ++ (46 ∷ rest)
         → result.now ≡ rest }
@@ -268,7 +272,7 @@ fn after_dot(text: &[u8]) -> &[u8]
     }
 }
 
-/// The component that was read at the front of a text.
+/// Returns the component that was read at the beginning of a string.
 fn component(read: partial::Component, text: &[u8]) -> Component
     ensures { (word rest : Text) → IsComponentOf word read → text.now ≡ word ++ rest
         → result ≡ component_of word }
@@ -279,7 +283,7 @@ fn component(read: partial::Component, text: &[u8]) -> Component
     }
 }
 
-/// The wildcard at the front of a text.
+/// Returns the wildcard at the beginning of a string.
 fn wildcard(text: &[u8]) -> char
     ensures { (word rest : Text) → is_wildcard word ≡ true → text.now ≡ word ++ rest
         → result ≡ slice_index word 0 }
@@ -291,8 +295,8 @@ fn wildcard(text: &[u8]) -> char
     }
 }
 
-/// The version after a hyphen, if what follows a version goes on with one; and what is left after
-/// it, after the blanks, or after a comma.
+/// Returns the version after a hyphen, if what follows a version continues with one, and what is
+/// left after it, after the blanks, or after a comma.
 fn read_upper(text: &[u8], grammar: Grammar, len: usize) -> (Option<PartialVersion<'_>>, &[u8])
     requires { length text.now ≤ len }
     ensures value { (option_map version_value result.0, result.1.now)

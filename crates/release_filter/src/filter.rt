@@ -1,4 +1,4 @@
-//! The releases among many versions that a range text means.
+//! Filters the releases that satisfy a range from many versions.
 
 ghost use Rattle.std.specs.Prelude.{◌≡◌, IfOk, map};
 ghost use Rattle.semver_ranges.specs.RangeTexts.{RefusesExactly};
@@ -18,29 +18,34 @@ use tool_ranges::dialect::Dialect;
 use tool_ranges::meaning::{self, Meaning};
 use version_sets::{PreReleases, VersionSet};
 
-/// The releases of a text in Cargo mode.
+/// The releases of a range in Cargo mode.
 const CARGO: Meaning = Meaning {
     dialect: Dialect::CrateCargo,
     pre_releases: PreReleases::Excluded,
 };
 
-/// Those in npm mode.
+/// The releases of a range in npm mode.
 const NPM: Meaning = Meaning {
     dialect: Dialect::CrateNpm,
     pre_releases: PreReleases::Excluded,
 };
 
 // Answer: law answer_laws::filters::one_filter_text.
-/// The releases among the versions that a range text means, in the given order and with repeats
-/// kept: each version without pre-release that satisfies the text.
-///
-/// The text is read first, so its refusal doesn't depend on the versions: `NotARange` where it
-/// isn't in the range grammar, `NumberTooLarge` where it is and a stated number or a raised bound
-/// is above 2^64 - 1. `OutOfMemory` comes only in place of an answer. Pre-releases are never
-/// in the result, whatever the text says.
+/// Returns the versions without a pre-release that satisfy a range. They are in the given order,
+/// with repeats. Pre-releases are never in the result, whatever the range says.
 ///
 /// Each version is checked once. The result is allocated as it grows, and not at all if no version
 /// is kept.
+///
+/// # Errors
+///
+/// The range is read first, so its errors don't depend on the versions:
+///
+/// - `NotARange` if the string isn't in the range grammar.
+/// - `NumberTooLarge` if it is in the grammar, but one of its numbers, or a raised bound, is above
+///   2^64 - 1.
+/// - `OutOfMemory` if an allocation failed. A string with one of the first two errors never gives
+///   this one.
 ///
 /// ```
 /// use semver_parser::filters::filter_text;
@@ -59,7 +64,7 @@ pub fn filter_text<'v>(
     versions: &'v [Version],
 ) -> Result<Vec<&'v Version>, RangeError>
     ensures refusals { RefusesExactly compat text.now result }
-    // The result is what each tree of the text keeps.
+    // The result is what the syntax tree of the range keeps.
     ensures kept { IfOk result (λ kept. (tree : SetTree) → Spells tree text.now
         → map (λ v. v.now) kept.items ≡ kept_releases compat tree versions.now) }
 {
@@ -70,7 +75,7 @@ pub fn filter_text<'v>(
     }
 }
 
-/// The releases that a range text means in a mode.
+/// Returns the set of the releases that satisfy a range in a mode.
 fn read_releases(alloc: Global, text: &str, compat: Compat) -> Result<VersionSet, RangeError>
     ensures refusals { RefusesExactly compat text.now result }
     ensures meaning { IfOk result (λ set. (tree : SetTree) (v : VersionValue)

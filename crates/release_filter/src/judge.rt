@@ -1,4 +1,4 @@
-//! What a range says of a line: a function of its bytes.
+//! Decides whether a line is kept. This depends only on its bytes.
 
 ghost use Rattle.std.specs.Prelude.{◌≡◌};
 ghost use Rattle.tool_ranges.specs.VersionRanges.{versions_grammar};
@@ -11,7 +11,7 @@ use semver_versions::laws;
 use semver_versions::version::{Outline, outline_in};
 use tool_ranges::version_range::VersionRange;
 
-/// Which lines are kept, and what is given of one.
+/// The range, and how the lines are read and written.
 #[derive(Debug, Drop)]
 pub(crate) struct Judge {
     pub(crate) range: VersionRange,
@@ -20,20 +20,20 @@ pub(crate) struct Judge {
     pub(crate) strips_prefix: bool,
 }
 
-/// What a range says of a line.
+/// What was decided about a line.
 #[derive(Debug, Drop)]
 pub(crate) enum Judged<'l> {
-    /// This is its text, which has no version.
+    /// Its text has no version. This is the text.
     NotAVersion(&'l [u8]),
     /// It has a version that the range doesn't contain.
     Outside,
-    /// It has the version of this outline, which the range contains, and this is given of it.
+    /// It has this version, which the range contains, and these are the bytes to write.
     Kept(Outline<'l>, &'l [u8]),
 }
 
 impl Judge {
-    /// What the range says of a line: the first prefix after which its text has a version decides.
-    /// Without a prefix it is as with the empty one.
+    /// Decides about a line. The first prefix after which its text has a version decides. Without
+    /// any prefix it is as with the empty one.
     #[inline(always)]
     pub(crate) fn judge<'l>(&self, line: &'l [u8]) -> Judged<'l>
         ensures { IsVerdictOn (rule_of self.now) line.now (verdict_of result) }
@@ -48,8 +48,8 @@ impl Judge {
         }
     }
 
-    /// What the range says of a line of this text, after the first of the prefixes after which it
-    /// spells a version.
+    /// Decides about a line with this text, after the first of the prefixes after which it spells a
+    /// version.
     fn judge_after_each<'l>(
         &self,
         prefixes: &[String],
@@ -69,7 +69,7 @@ impl Judge {
         }
     }
 
-    /// What the range says of a line of this text, after this prefix.
+    /// Decides about a line with this text, after this prefix.
     #[inline(always)]
     fn judge_after<'l>(&self, prefix: &str, text: &'l [u8], line: &'l [u8]) -> Judged<'l>
         ensures { Judges (rule_of self.now)
@@ -91,7 +91,7 @@ impl Judge {
         }
     }
 
-    /// What is given of a line that has a version after so many bytes.
+    /// Returns the bytes to write for a line that has a version after `count` bytes.
     #[inline(always)]
     fn given<'l>(&self, line: &'l [u8], count: usize) -> &'l [u8]
         ensures { result.now ≡ given_after (rule_of self.now) count line.now }

@@ -1,4 +1,4 @@
-//! Those of a list of versions that are in a set.
+//! Filters the versions that are in a set from a list.
 
 ghost use Rattle.std.specs.Prelude.{◌≡◌, ◌≤◌, ◌++◌, length, map, filter, IfOk};
 ghost use Rattle.semver_texts.specs.VersionViews.{version_value};
@@ -8,13 +8,13 @@ use semver_versions::version::Version;
 use std::alloc::{AllocError, Global};
 use version_sets::VersionSet;
 
-/// So many versions are checked before those that are in the set are kept.
+/// The number of versions that are checked together, before the ones in the set are kept.
 const AT_ONCE: usize = 64;
 
-/// Those of the versions that are in a set, in their order and with repeats.
+/// Returns the versions that are in a set, in their order and with repeats.
 ///
-/// Each version is checked once. The result is allocated as it grows, and not at all if no
-/// version is in the set. `Err` is out of memory.
+/// Each version is checked once. The result is allocated as it grows, and not at all if no version
+/// is in the set. `Err` means out of memory.
 pub(crate) fn kept<'v>(
     alloc: Global,
     set: &VersionSet,
@@ -33,9 +33,9 @@ pub(crate) fn kept<'v>(
     Ok(kept)
 }
 
-/// Adds those of a few versions that are in a set. All are checked, and the places of those that
-/// are in it put in front, before one is added: so nothing but the end of a loop depends on how
-/// they were checked.
+/// Adds the versions that are in a set, of at most 64. First all are checked, and the indices of
+/// those in the set are moved to the front; then they are added. So only the end of a loop depends
+/// on the checks.
 fn keep<'v>(
     set: &VersionSet,
     versions: &'v [Version],

@@ -12,12 +12,13 @@ ghost use Rattle.release_filter.specs.declared.lines.LinesError.TheVariants.{NoV
 use crate::lines::{Lines, LinesError};
 use std::alloc::Global;
 
-/// However a text is cut into pieces, what is appended is the same. It does nothing.
+/// However a text is cut into pieces, the same bytes are appended. It does nothing.
 pub fn pieces_do_not_matter()
-    // Pieces that are taken one after another do what they do as one piece.
+    // Two pieces that are taken one after another do the same as one piece.
     ensures composed { (s t u : LinesValue) (piece next old mid new : Text)
         → Takes s piece t old mid → Takes t next u mid new → Takes s (piece ++ next) u old new }
-    // With the end of the text they do what the whole text does, without its byte order mark.
+    // Together with the end of the text, the pieces do the same as the whole text without its byte
+    // order mark.
     ensures whole { (s t u : LinesValue) (pieces : List Text) (old mid new : Text)
         → TakesPieces (begun_text s) pieces t old mid → Finishes t u mid new
         → Completes s (without_mark (concat pieces)) u old new }
@@ -25,7 +26,8 @@ pub fn pieces_do_not_matter()
     semver_texts::laws::precedence_is_total();
 }
 
-/// One state comes of a piece and of a whole text, and one text is appended. It does nothing.
+/// Taking a piece, or a whole text, has only one resulting state, and appends only one sequence of
+/// bytes. It does nothing.
 pub fn one_outcome()
     ensures taking { (s t u : LinesValue) (piece old new other : Text)
         → Takes s piece t old new → Takes s piece u old other → (t ≡ u) × (new ≡ other) }
@@ -36,9 +38,10 @@ pub fn one_outcome()
     semver_versions::laws::one_version_in();
 }
 
-/// `Lines::push` has one result: equal states and bytes before it are equal after it, if both calls
-/// take the piece; if both stop at an invalid line, the counts, the bytes and the error are equal;
-/// and if one takes the piece, the other does or is out of memory.
+/// `Lines::push` has only one permitted result. Given equal states and bytes before two calls:
+/// - If both calls take the piece, states and bytes are equal after them.
+/// - If both stop at an invalid line, the counts, the bytes and the error are equal.
+/// - If one takes the piece, the other does so, too, or is out of memory.
 pub fn one_push(
     alloc: Global,
     first: &mut Lines,
@@ -65,7 +68,7 @@ pub fn one_push(
     )
 }
 
-/// `Lines::finish` has one result, as `Lines::push` has.
+/// `Lines::finish` has only one permitted result, as described for `Lines::push`.
 pub fn one_finish(
     alloc: Global,
     first: &mut Lines,
@@ -88,7 +91,7 @@ pub fn one_finish(
     (first.finish(alloc, kept), second.finish(alloc, other))
 }
 
-/// `Lines::end_file` has one result, as `Lines::push` has.
+/// `Lines::end_file` has only one permitted result, as described for `Lines::push`.
 pub fn one_end_file(
     alloc: Global,
     first: &mut Lines,

@@ -1,6 +1,6 @@
-//! Which versions and lines match a range: the releases among many versions, the lines of a text
-//! that comes in pieces, the line of the highest or the lowest version, and the lines sorted; and
-//! which versions satisfy a range set.
+//! Filters versions and lines by a range: the releases among many versions, the lines of a text
+//! that comes in pieces, the line with the highest or the lowest version, and sorted lines. Also
+//! decides which versions satisfy a range set.
 #![tactic(auto)]
 
 mod counts;

@@ -1,4 +1,4 @@
-//! What is done with lines.
+//! Options for lines.
 
 ghost use Rattle.std.specs.Prelude.{◌≡◌, false};
 ghost use Rattle.release_filter.specs.declared.line_texts.LineEnd.TheVariants.{LineFeed};
@@ -7,7 +7,7 @@ ghost use Rattle.release_filter.specs.declared.selection.Selection.TheVariants.{
 use crate::line_texts::LineEnd;
 use crate::selection::Selection;
 
-/// What [`Lines`](crate::lines::Lines) does with lines.
+/// The options of [`Lines`](crate::lines::Lines).
 ///
 /// ```
 /// use semver_parser::filters::{LineOptions, Lines, Selection};
@@ -32,7 +32,7 @@ pub struct LineOptions {
     pub selection: Selection,
     /// What ends a line.
     pub ending: LineEnd,
-    /// Whether a kept line is given without the prefix that its version is after.
+    /// Whether a kept line is written without the prefix before its version.
     pub strips_prefix: bool,
     /// Whether a line that isn't empty and has no version is an error.
     pub is_strict: bool,
@@ -40,8 +40,8 @@ pub struct LineOptions {
 
 impl LineOptions {
     // Answer: equation.
-    /// Returns the options by default: each kept line is wanted, as it is, a line feed ends a line,
-    /// and a line without a version is no error.
+    /// Returns the default options: every kept line is wanted and stays as it is, a line feed ends
+    /// a line, and a line without a version is not an error.
     ///
     /// ```
     /// use semver_parser::filters::{LineEnd, LineOptions, Selection};

@@ -1,4 +1,4 @@
-//! Whether a version satisfies a range set, by each rule for pre-releases.
+//! Decides whether a version satisfies a range set, with and without pre-releases.
 
 ghost use Rattle.std.specs.Prelude.{◌≡◌, ◌&&◌};
 ghost use Rattle.std.specs.List.{list_all, list_any};
@@ -12,10 +12,11 @@ use semver_ranges::{Comparator, Op, Range, RangeSet};
 use semver_versions::version::Version;
 
 // Answer: equation.
-/// Whether a version is a release that satisfies a range set: it has no pre-release, and some range
-/// of the set has all its comparators satisfied, by precedence (SemVer 2.0.0, section 11).
+/// Returns whether a version is a release that satisfies a range set. It must have no pre-release,
+/// and it must satisfy all comparators of at least one range by precedence (SemVer 2.0.0, section
+/// 11).
 ///
-/// No version satisfies a set without ranges, and each release satisfies a range without
+/// No version satisfies a set without ranges, and every release satisfies a range without
 /// comparators. It does not allocate.
 ///
 /// ```
@@ -36,13 +37,13 @@ pub fn release_meets(set: &RangeSet, version: &Version) -> bool
 }
 
 // Answer: equation.
-/// Whether a version, a pre-release too, satisfies a range set: some range of the set has all its
-/// comparators satisfied, by precedence (SemVer 2.0.0, section 11). The build of the version
-/// doesn't count.
+/// Returns whether a version, even a pre-release, satisfies a range set. It must satisfy all
+/// comparators of at least one range by precedence (SemVer 2.0.0, section 11). Build metadata is
+/// ignored.
 ///
 /// A pre-release needs no comparator with its own numbers: `2.0.0-alpha` satisfies `>=1.0.0`, and
-/// `<2.0.0` too. No version satisfies a set without ranges, and each satisfies a range without
-/// comparators. It does not allocate.
+/// also `<2.0.0`. No version satisfies a set without ranges, and every version satisfies a range
+/// without comparators. It does not allocate.
 ///
 /// ```
 /// use semver_parser::filters::version_meets;
@@ -60,7 +61,7 @@ pub fn version_meets(set: &RangeSet, version: &Version) -> bool
     some_range_is_met(&set.ranges, version)
 }
 
-/// Whether a version satisfies some range.
+/// Returns whether a version satisfies at least one range.
 fn some_range_is_met(ranges: &[Range], version: &Version) -> bool
     ensures { result ≡ list_any (λ range. meets_range (version_value version.now).plain
         (range_of range)) ranges.now }
@@ -68,14 +69,14 @@ fn some_range_is_met(ranges: &[Range], version: &Version) -> bool
     ranges.iter().any(|range| range_is_met(range, version))
 }
 
-/// Whether a version satisfies all comparators of a range.
+/// Returns whether a version satisfies all comparators of a range.
 fn range_is_met(range: &Range, version: &Version) -> bool
     ensures { result ≡ meets_range (version_value version.now).plain (range_of range.now) }
 {
     each_comparator_is_met(&range.comparator_set, version)
 }
 
-/// Whether a version satisfies all comparators.
+/// Returns whether a version satisfies all comparators.
 fn each_comparator_is_met(comparators: &[Comparator], version: &Version) -> bool
     ensures { result ≡ list_all (λ comparator. meets_comparator (version_value version.now).plain
         (comparator_of comparator)) comparators.now }
@@ -85,7 +86,7 @@ fn each_comparator_is_met(comparators: &[Comparator], version: &Version) -> bool
         .all(|comparator| comparator_is_met(comparator, version))
 }
 
-/// Whether a version satisfies a comparator.
+/// Returns whether a version satisfies a comparator.
 #[inline(always)]
 fn comparator_is_met(comparator: &Comparator, version: &Version) -> bool
     ensures { result ≡ meets_comparator (version_value version.now).plain

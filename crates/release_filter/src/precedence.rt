@@ -1,4 +1,4 @@
-//! How a version compares with that of a comparator by precedence (SemVer 2.0.0, section 11).
+//! Compares a version with the version of a comparator by precedence (SemVer 2.0.0, section 11).
 
 ghost use Rattle.std.specs.Prelude.{◌≡◌};
 ghost use Rattle.semver_texts.specs.Precedence.{precedence};
@@ -10,7 +10,7 @@ use semver_texts::precedence;
 use semver_versions::version::Version;
 use std::cmp::Ordering;
 
-/// How a version compares with a comparator's: by the three numbers, and where these are equal by
+/// Compares a version with that of a comparator: first the three numbers, and if these are equal,
 /// the pre-releases.
 #[inline(always)]
 pub fn compare(version: &Version, comparator: &Comparator) -> Ordering

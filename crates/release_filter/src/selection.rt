@@ -1,4 +1,4 @@
-//! Which of the kept lines are wanted, and those that are held until the end of the text.
+//! Which of the kept lines are wanted, and the lines that are held until the end of the text.
 
 ghost use Rattle.std.specs.Prelude.{◌≡◌, ◌⊎◌, ◌++◌, [], ◌∷◌, IfErr, IfOk, List, map};
 ghost use Rattle.std.specs.Cmp.{IsTotalOrder};
@@ -39,22 +39,22 @@ use std::cmp::Ordering;
 /// ```
 #[derive(Clone, Copy, Debug, PartialEq, Eq)]
 pub enum Selection {
-    /// Each, as soon as it has ended.
+    /// Every kept line, as soon as it has ended.
     Each,
-    /// The one with the highest version by precedence (SemVer 2.0.0, section 11), and the first of
-    /// those with an equal one; builds don't count.
+    /// The line with the highest version by precedence (SemVer 2.0.0, section 11). Of lines with
+    /// equal versions, it is the first. Build metadata is ignored.
     Highest,
-    /// The one with the lowest version, and the first of those with an equal one.
+    /// The line with the lowest version. Of lines with equal versions, it is the first.
     Lowest,
-    /// All, from the lowest version to the highest, and those of equal versions in their order. A
-    /// line without the byte that ends lines gets it.
+    /// All kept lines, from the lowest version to the highest. Lines with equal versions stay in
+    /// their order. A line without the byte that ends lines gets it.
     Sorted,
     /// The lines of [`Selection::Sorted`], in reverse order.
     Reversed,
 }
 
 impl Selection {
-    /// Whether the lines are sorted: then each gets an end.
+    /// Returns whether the lines are sorted, so that each gets an end.
     pub(crate) fn closes_lines(self) -> bool
         ensures { result ≡ is_sorted self }
     {
@@ -62,8 +62,8 @@ impl Selection {
     }
 }
 
-/// A kept line, and its index among the kept ones: by that a sort without a buffer keeps lines of
-/// equal versions in their order.
+/// A kept line, and its index among the kept ones. With the index, a sort without a buffer leaves
+/// lines with equal versions in their order.
 #[derive(Clone, Copy)]
 struct IndexedLine<'k> {
     index: usize,
@@ -71,7 +71,7 @@ struct IndexedLine<'k> {
 }
 
 impl IndexedLine<'_> {
-    /// How it compares with another: by precedence, then by the index.
+    /// Compares two lines: first by precedence, then by the index.
     fn compare(&self, other: &IndexedLine<'_>) -> Ordering
         ensures { result ≡ ordering_then (precedence (read_plain self.now.line.now.version)
             (read_plain other.now.line.now.version)) (nat_cmp self.now.index other.now.index) }
@@ -82,7 +82,7 @@ impl IndexedLine<'_> {
 }
 
 impl Held {
-    /// Holds no line.
+    /// Returns a state that holds no line.
     pub(crate) fn new(alloc: Global, selection: Selection) -> Held
         ensures { held_value result ≡ record { selection = selection; lines = [] } }
     {
@@ -92,7 +92,7 @@ impl Held {
         }
     }
 
-    /// Appends a line, or holds it, if it is kept: this is said of it.
+    /// Appends or holds a line, if it was decided to keep it. `Err` means out of memory.
     #[inline(always)]
     pub(crate) fn keep(
         &mut self,
@@ -111,7 +111,7 @@ impl Held {
         Ok(())
     }
 
-    /// Appends a kept line of this outline, or holds it.
+    /// Appends or holds a kept line with this version. `Err` means out of memory.
     #[inline(always)]
     fn keep_line(
         &mut self,
@@ -137,8 +137,8 @@ impl Held {
         }
     }
 
-    /// Holds a line of this outline alone, if it is better than the best so far, in the memory of
-    /// that.
+    /// Holds only this line, if it is better than the best one so far. It reuses the memory of that
+    /// one. `Err` means out of memory.
     fn hold_best(
         &mut self,
         alloc: Global,
@@ -169,7 +169,7 @@ impl Held {
         Ok(())
     }
 
-    /// Appends the lines that are held, sorted, and holds none any more.
+    /// Appends the held lines in order, and holds none afterwards. `Err` means out of memory.
     pub(crate) fn finish(&mut self, alloc: Global, kept: &mut Vec<u8>) -> Result<(), AllocError>
         ensures answers { IfOk result (λ _. (added : Text) × Answers (held_value self.old) added
             × (kept.new.items ≡ kept.old.items ++ added)) }
@@ -182,8 +182,8 @@ impl Held {
     }
 }
 
-/// Whether the version of an outline is to be held in place of the best so far: there is none, or
-/// it is above that, or, if the lowest is wanted, below it.
+/// Returns whether a version is better than the best one so far: there is none, or the version is
+/// above it, or below it if the lowest is wanted.
 #[inline(always)]
 fn is_better(selection: Selection, outline: &Outline<'_>, held: &[SelectedLine]) -> bool
     ensures { result ≡ is_better selection (version_of outline.now).plain
@@ -201,7 +201,8 @@ fn is_better(selection: Selection, outline: &Outline<'_>, held: &[SelectedLine])
     }
 }
 
-/// The lines that are held, sorted by their versions, as they are wanted.
+/// Returns the held lines, sorted by their versions, in the wanted order. `Err` means out of
+/// memory.
 fn sorted<'k>(
     alloc: Global,
     held: &'k [SelectedLine],
@@ -210,7 +211,7 @@ fn sorted<'k>(
     ensures sorts { IfOk result (λ lines. (sorted : List SelectedValue)
         × IsStableSort (map selected_value held.now) sorted
         × (seen_lines lines.items ≡ in_order selection sorted)) }
-    // What the sort compares by is a total order, which Rust demands.
+    // The sort's comparison is a total order, which Rust demands.
     ensures total_order { IsTotalOrder (λ (k l : IndexedLine). ordering_then
         (precedence (read_plain k.line.now.version) (read_plain l.line.now.version))
         (nat_cmp k.index l.index)) }
@@ -226,7 +227,7 @@ fn sorted<'k>(
     Ok(lines)
 }
 
-/// Puts sorted lines into the order in which they are wanted.
+/// Puts sorted lines into the wanted order.
 fn put_in_order(lines: &mut Vec<IndexedLine<'_>>, selection: Selection)
     ensures { seen_lines lines.new.items ≡ in_order selection (seen_lines lines.old.items) }
 {
@@ -236,7 +237,8 @@ fn put_in_order(lines: &mut Vec<IndexedLine<'_>>, selection: Selection)
     }
 }
 
-/// Appends the lines that are held, sorted by their versions, as they are wanted.
+/// Appends the held lines, sorted by their versions, in the wanted order. `Err` means out of
+/// memory.
 fn append_sorted(
     alloc: Global,
     held: &[SelectedLine],
@@ -252,7 +254,7 @@ fn append_sorted(
     append(lines.as_slice(), kept)
 }
 
-/// Appends lines, as they are.
+/// Appends lines as they are. `Err` means out of memory.
 fn append(lines: &[IndexedLine<'_>], kept: &mut Vec<u8>) -> Result<(), AllocError>
     ensures appends { IfOk result (λ _. kept.new.items
         ≡ kept.old.items ++ text_of (seen_lines lines.now)) }

@@ -71,7 +71,7 @@ pub fn parse(alloc: Global, input: &str) -> Result<Version, parser::Error<'_>>
     ensures outcome { UnlessOutOfMemory result
         (IsOutcomeOf input.now (answer_of version_value result)) }
     // Memory runs out only if the error would be `MoreInput`, or if the longest prefix of the
-    // tokens that begins a version contains an alphanumeric part of an identifier.
+    // tokens that begins a version contains letters or digits after a `-` or a `+`.
     ensures out_of_memory { IfOutOfMemory result (TextMayRunOut input.now) }
 {
     match read(alloc, input) {

@@ -1,11 +1,11 @@
-//! Tests of bytes, and how many bytes at the front pass one.
+//! Tests of bytes, and the lengths of prefixes whose bytes pass a test.
 ghost use Rattle.std.specs.Prelude.{◌≡◌};
 ghost use Rattle.std.specs.List.{prefix_len, count_by};
 ghost use Rattle.std.specs.Char.{is_ascii_alphanumeric};
 ghost use Rattle.semver_texts.specs.Texts.{is_space, is_part_byte, is_dot};
 
 // Answer: equation.
-/// Whether the byte is a space, a tab, a line feed or a carriage return.
+/// Returns whether the byte is a space, a tab, a line feed or a carriage return.
 #[inline(always)]
 pub fn is_space(byte: u8) -> bool
     ensures { result ≡ is_space byte }
@@ -14,7 +14,7 @@ pub fn is_space(byte: u8) -> bool
 }
 
 // Answer: equation.
-/// Whether the byte is an ASCII letter, a digit or a hyphen.
+/// Returns whether the byte is an ASCII letter, a digit or a hyphen.
 #[inline(always)]
 pub fn is_part_byte(byte: u8) -> bool
     ensures { result ≡ is_part_byte byte }
@@ -23,7 +23,7 @@ pub fn is_part_byte(byte: u8) -> bool
 }
 
 // Answer: equation.
-/// How many bytes at the front are white space: 2 of ` \t1`.
+/// Returns how many bytes at the beginning are white space: 2 for ` \t1`.
 #[inline(always)]
 pub fn space_len(bytes: &[u8]) -> usize
     ensures { result ≡ prefix_len is_space bytes.now }
@@ -32,7 +32,7 @@ pub fn space_len(bytes: &[u8]) -> usize
 }
 
 // Answer: equation.
-/// How many bytes at the front are ASCII letters and digits: 3 of `rc1-2`.
+/// Returns how many bytes at the beginning are ASCII letters and digits: 3 for `rc1-2`.
 #[inline(always)]
 pub fn run_len(bytes: &[u8]) -> usize
     ensures { result ≡ prefix_len is_ascii_alphanumeric bytes.now }
@@ -44,7 +44,7 @@ pub fn run_len(bytes: &[u8]) -> usize
 }
 
 // Answer: equation.
-/// How many bytes at the front are ASCII letters, digits and hyphens: 5 of `rc1-2.3`.
+/// Returns how many bytes at the beginning are ASCII letters, digits and hyphens: 5 for `rc1-2.3`.
 #[inline(always)]
 pub fn part_len(bytes: &[u8]) -> usize
     ensures { result ≡ prefix_len is_part_byte bytes.now }
@@ -53,7 +53,7 @@ pub fn part_len(bytes: &[u8]) -> usize
 }
 
 // Answer: equation.
-/// How many of the bytes are dots: 2 of `1.2.3`.
+/// Returns how many of the bytes are dots: 2 for `1.2.3`.
 #[inline(always)]
 pub fn count_dots(bytes: &[u8]) -> usize
     ensures { result ≡ count_by is_dot bytes.now }

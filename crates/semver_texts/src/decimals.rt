@@ -8,11 +8,12 @@ ghost use Rattle.std.specs.Str.Parse.{digits_value};
 ghost use Rattle.semver_texts.specs.Texts.{Text, IsNumber, BeginsWithNumber, BeginsWithNumbers};
 ghost use Rattle.semver_texts.specs.Steps.Decimals.{digits_front};
 
-/// For speed: what is below this may be multiplied by ten and a digit added without a test.
+/// A number below this can be multiplied by ten and a digit added without an overflow check, for
+/// speed.
 const LIMIT: u64 = 1_000_000_000_000_000_000;
 
 // Answer: equation.
-/// The number with one digit more after it.
+/// Returns the number with one more digit appended, or `None` if it is 2^64 or more.
 #[inline(always)]
 pub fn with_digit(number: u64, digit: u8) -> Option<u64>
     requires { digit < 10 }
@@ -25,8 +26,8 @@ pub fn with_digit(number: u64, digit: u8) -> Option<u64>
     number.checked_mul(10)?.checked_add(u64::from(digit))
 }
 
-/// The number that the digits at the front write, and how many they are; none where it is 2^64 or
-/// more.
+/// Returns the number that the digits at the beginning write, and the number of digits, or `None`
+/// if the number is 2^64 or more.
 #[inline(always)]
 fn digits(bytes: &[u8]) -> Option<(u64, usize)>
     requires some { 0 < length bytes.now }
@@ -47,7 +48,8 @@ fn digits(bytes: &[u8]) -> Option<(u64, usize)>
 }
 
 // Answer: equation.
-/// Whether a digit is at the front: of `1.2`, and not of `.2` or of nothing.
+/// Returns whether the bytes begin with a digit, which is so for `1.2`, but not for `.2` or the
+/// empty string.
 #[inline(always)]
 pub fn begins_with_digit(bytes: &[u8]) -> bool
     ensures { result ≡ is_ascii_digit (slice_index bytes.now 0) }
@@ -58,10 +60,10 @@ pub fn begins_with_digit(bytes: &[u8]) -> bool
     }
 }
 
-/// The number at the front of bytes that begin with a digit, and what follows it, which doesn't
-/// begin with one.
+/// Returns the number at the beginning of bytes that begin with a digit, and what follows it, which
+/// doesn't begin with one.
 ///
-/// One digit alone is read first, for speed: so a loop runs for longer numbers only.
+/// A single digit is read first, for speed, so a loop runs only for longer numbers.
 #[inline(always)]
 fn number_at_digit(bytes: &[u8]) -> Option<(u64, &[u8])>
     requires { is_ascii_digit (slice_index bytes.now 0) ≡ true }
@@ -80,7 +82,7 @@ fn number_at_digit(bytes: &[u8]) -> Option<(u64, &[u8])>
     Some((number, &bytes[len..]))
 }
 
-/// The number at the front, and what follows it, which doesn't begin with a digit.
+/// Returns the number at the beginning, and what follows it, which doesn't begin with a digit.
 #[inline(always)]
 fn number(bytes: &[u8]) -> Option<(u64, &[u8])>
     ensures { MatchOption result ((n : ℕ) (rest : Text) → ¬ (BeginsWithNumber bytes.now n rest))
@@ -93,8 +95,8 @@ fn number(bytes: &[u8]) -> Option<(u64, &[u8])>
 }
 
 // Answer: equation.
-/// The number up to 2^64 - 1 that a part of digits writes, which may begin with zeros. That of no
-/// digits is 0.
+/// Returns the number that a part of only digits writes, if it is at most 2^64 - 1. Leading zeros
+/// are allowed, and no digits give 0.
 #[inline(always)]
 pub fn number_of_digits(part: &[u8]) -> Option<u64>
     ensures { MatchOption result
@@ -117,7 +119,7 @@ pub fn number_of_digits(part: &[u8]) -> Option<u64>
 }
 
 // Answer: law answer_laws::texts::one_whole_number.
-/// The number up to 2^64 - 1 that the whole text is.
+/// Returns the number that the whole string is, if it is a canonical decimal up to 2^64 - 1.
 #[inline(always)]
 pub fn whole_number(text: &str) -> Option<u64>
     ensures { MatchOption result (¬ (IsNumber text.now))
@@ -127,7 +129,7 @@ pub fn whole_number(text: &str) -> Option<u64>
     if rest.is_empty() { Some(number) } else { None }
 }
 
-/// The number after a dot, and what follows it.
+/// Returns the number after a dot, and what follows it.
 #[inline(always)]
 fn dot_number(bytes: &[u8]) -> Option<(u64, &[u8])>
     ensures { MatchOption result ((n : ℕ) (after rest : Text) → bytes.now ≡ 46 ∷ after
@@ -142,7 +144,8 @@ fn dot_number(bytes: &[u8]) -> Option<(u64, &[u8])>
 }
 
 // Answer: law answer_laws::texts::one_numbers_at_digit.
-/// What [`numbers`] returns of bytes that begin with a digit. For speed, it isn't tested again.
+/// Returns the result of [`numbers`] for bytes that begin with a digit. This isn't tested again,
+/// for speed.
 #[inline(always)]
 pub fn numbers_at_digit(bytes: &[u8]) -> Option<(u64, u64, u64, &[u8])>
     requires { is_ascii_digit (slice_index bytes.now 0) ≡ true }
@@ -157,8 +160,8 @@ pub fn numbers_at_digit(bytes: &[u8]) -> Option<(u64, u64, u64, &[u8])>
 }
 
 // Answer: law answer_laws::texts::one_numbers.
-/// The three numbers at the front, joined by dots, and what follows them, which doesn't begin with
-/// a digit: 1, 2, 3 and `-rc` of `1.2.3-rc`. A number is at most 2^64 - 1.
+/// Returns the three numbers at the beginning, joined by dots, and what follows them, which doesn't
+/// begin with a digit: 1, 2, 3 and `-rc` for `1.2.3-rc`. A number is at most 2^64 - 1.
 #[inline(always)]
 pub fn numbers(bytes: &[u8]) -> Option<(u64, u64, u64, &[u8])>
     ensures { MatchOption result ((major minor patch : ℕ) (rest : Text) →

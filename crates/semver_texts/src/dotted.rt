@@ -1,5 +1,5 @@
-//! Parts joined by dots after their mark, as the identifiers of a pre-release and those of a build
-//! are written in version texts and in range texts.
+//! Parts joined by dots after their mark, which is how version and range strings have the
+//! identifiers of a pre-release and of build metadata.
 ghost use Rattle.std.specs.Prelude.{◌≡◌, ◌||◌, ◌==◌, ◌<◌, [], ◌∷◌, ◌++◌, None, Some, Ok, true};
 ghost use Rattle.std.specs.Prelude.{false, length, IsTrue, IfOk, IfErr, MatchOption};
 ghost use Rattle.std.specs.Char.{is_ascii_digit};
@@ -13,16 +13,17 @@ ghost use Rattle.semver_texts.specs.Steps.DottedParts.{marked_part, runs_stand};
 use crate::bytes::count_dots;
 use std::alloc::{AllocError, Global};
 
-/// Which hyphens a part may have.
+/// The hyphens that a part may have.
 #[derive(Clone, Copy)]
 pub enum Hyphens {
-    /// Any, as in a range text.
+    /// Any, as in a range string.
     Any,
-    /// Those between letters and digits, as in a version text.
+    /// Those between letters and digits, as in a version string.
     BetweenRuns,
 }
 
-/// Whether the byte goes on with a run: a letter or a digit, and a hyphen where any may be.
+/// Returns whether the byte is part of a sequence without separators: a letter or a digit, or a
+/// hyphen if any hyphen is allowed.
 #[inline(always)]
 fn is_run_byte(byte: u8, hyphens: Hyphens) -> bool
     ensures { result ≡ is_run_byte hyphens byte }
@@ -30,7 +31,7 @@ fn is_run_byte(byte: u8, hyphens: Hyphens) -> bool
     byte.is_ascii_alphanumeric() || (byte == b'-' && matches!(hyphens, Hyphens::Any))
 }
 
-/// A hyphen or a dot.
+/// Returns whether the byte is a hyphen or a dot.
 #[inline(always)]
 fn is_between_runs(byte: u8) -> bool
     ensures { result ≡ (byte == 45 || byte == 46) }
@@ -38,8 +39,9 @@ fn is_between_runs(byte: u8) -> bool
     matches!(byte, b'-' | b'.')
 }
 
-/// How many bytes at the front are parts joined by dots, up to a byte that can't be in them. For
-/// speed, a letter or a digit is taken without a look at the hyphens.
+/// Returns the length of the parts joined by dots at the beginning, up to a byte that can't be in
+/// them, or `None` if they aren't valid. A letter or a digit is accepted without looking at the
+/// hyphens, for speed.
 #[inline(always)]
 #[tactic(auto, using(crate::proofs::DottedParts::letter_runs))]
 fn parts_len(bytes: &[u8], hyphens: Hyphens) -> Option<usize>
@@ -70,7 +72,7 @@ fn parts_len(bytes: &[u8], hyphens: Hyphens) -> Option<usize>
 }
 
 // Answer: equation.
-/// What follows the mark, where the bytes begin with it.
+/// Returns what follows the mark, if the bytes begin with it.
 #[inline(always)]
 pub fn strip_mark(bytes: &[u8], mark: u8) -> Option<&[u8]>
     ensures { MatchOption result (begins_with mark bytes.now ≡ false)
@@ -83,8 +85,8 @@ pub fn strip_mark(bytes: &[u8], mark: u8) -> Option<&[u8]>
 }
 
 // Answer: equation.
-/// The parts after the mark, and what follows them; where the bytes don't begin with the mark,
-/// nothing and all of them. None where what is after the mark are no parts.
+/// Returns the parts after the mark, and what follows them. If the bytes don't begin with the mark,
+/// there are no parts, and everything follows. Returns `None` if invalid parts follow the mark.
 #[inline(always)]
 pub fn marked_part(bytes: &[u8], mark: u8, hyphens: Hyphens) -> Option<(&[u8], &[u8])>
     ensures { MatchOption result (marked_part hyphens mark bytes.now ≡ None)
@@ -98,7 +100,7 @@ pub fn marked_part(bytes: &[u8], mark: u8, hyphens: Hyphens) -> Option<(&[u8], &
 }
 
 // Answer: equation.
-/// How many bytes parts have with their mark: 5 of `rc.1`, and 0 if there are none.
+/// Returns the length in bytes of parts with their mark: 5 for `rc.1`, and 0 if there are none.
 #[inline(always)]
 pub fn marked_len(parts: &[u8]) -> usize
     ensures { result ≡ marked_length parts.now }
@@ -107,7 +109,8 @@ pub fn marked_len(parts: &[u8]) -> usize
 }
 
 // Answer: equation.
-/// The text of parts. Their bytes and the dots between them are ASCII, so they always are a text.
+/// Returns parts as a string. Their bytes and the dots between them are ASCII, so this is always
+/// possible.
 pub fn text_of_parts(bytes: &[u8]) -> &str
     requires { AllByRecursion (λ b. IsTrue (is_dotted_byte b)) bytes.now }
     ensures { result.now ≡ bytes.now }
@@ -119,7 +122,8 @@ pub fn text_of_parts(bytes: &[u8]) -> &str
 }
 
 // Answer: law answer_laws::texts::one_split_at_dot.
-/// What is before the first dot, and what follows it; all, where there is no dot.
+/// Returns what is before the first dot, and what follows it. If there is no dot, it returns
+/// everything and `None`.
 #[inline(always)]
 pub fn split_at_dot(bytes: &[u8]) -> (&[u8], Option<&[u8]>)
     ensures { MatchOption result.1
@@ -136,8 +140,8 @@ pub fn split_at_dot(bytes: &[u8]) -> (&[u8], Option<&[u8]>)
 }
 
 // Answer: equation.
-/// Whether none of the parts that are digits alone has a leading zero. For speed, parts of which
-/// none begins with a zero are seen first.
+/// Returns whether no numeric part has a leading zero. It first tests whether any part begins with
+/// a zero at all, for speed.
 #[inline(always)]
 pub fn have_no_leading_zeros(parts: &[u8]) -> bool
     ensures { result ≡ list_all has_no_leading_zero (cut_at_dots parts.now) }
@@ -151,8 +155,8 @@ pub fn have_no_leading_zeros(parts: &[u8]) -> bool
     each_has_no_leading_zero(parts)
 }
 
-/// Whether a part is empty or begins with a zero. For speed, it is asked only of the bytes that
-/// follow a dot.
+/// Returns whether a part is empty or begins with a zero. Only the bytes after a dot are tested,
+/// for speed.
 #[inline(always)]
 fn begins_oddly(parts: &[u8]) -> bool
     ensures { result ≡ begins_oddly parts.now }
@@ -168,7 +172,7 @@ fn begins_oddly(parts: &[u8]) -> bool
     false
 }
 
-/// Whether the part at the front is empty or begins with a zero.
+/// Returns whether the first part is empty or begins with a zero.
 #[inline(always)]
 fn is_odd(parts: &[u8]) -> bool
     ensures { result ≡ is_odd parts.now }
@@ -176,8 +180,7 @@ fn is_odd(parts: &[u8]) -> bool
     matches!(parts, [] | [b'.' | b'0', ..])
 }
 
-/// Whether none of the parts that are digits alone has a leading zero, asked of one after the
-/// other.
+/// Returns whether no numeric part has a leading zero, testing one after the other.
 #[inline(never)]
 fn each_has_no_leading_zero(parts: &[u8]) -> bool
     ensures { result ≡ list_all has_no_leading_zero (slice_split is_dot parts.now) }
@@ -193,7 +196,7 @@ fn each_has_no_leading_zero(parts: &[u8]) -> bool
     true
 }
 
-/// Whether a part is a number without leading zeros, where it is digits alone.
+/// Returns whether a part, if it is numeric, has no leading zero.
 #[inline(always)]
 fn has_no_leading_zero(part: &[u8]) -> bool
     ensures { result ≡ has_no_leading_zero part.now }
@@ -202,7 +205,7 @@ fn has_no_leading_zero(part: &[u8]) -> bool
     !(begins_with_zero && are_digits(part))
 }
 
-/// Whether each byte is a digit.
+/// Returns whether each byte is a digit.
 #[inline(always)]
 pub(crate) fn are_digits(part: &[u8]) -> bool
     ensures { result ≡ list_all is_ascii_digit part.now }
@@ -210,8 +213,8 @@ pub(crate) fn are_digits(part: &[u8]) -> bool
     part.iter().all(|byte| byte.is_ascii_digit())
 }
 
-/// What [`split_at_dot`] returns, of a text. For speed, it is cut without a look at its characters:
-/// a dot is one.
+/// Returns the result of [`split_at_dot`] for a string. It is cut without looking at its
+/// characters, for speed, since a dot is one of them.
 #[inline(always)]
 fn split_text_at_dot(text: &str) -> (&str, Option<&str>)
     ensures { MatchOption result.1
@@ -228,7 +231,8 @@ fn split_text_at_dot(text: &str) -> (&str, Option<&str>)
     (text, None)
 }
 
-/// What is made of each part between the dots. Their list is asked for once, at its size.
+/// Returns what `make` returns for each part between the dots. Their list is allocated once, in its
+/// final size. `Err` means out of memory.
 fn cut_parts<T: Drop, F: Fn(&str) -> Result<T, AllocError>>(
     alloc: Global,
     text: &str,
@@ -249,7 +253,8 @@ fn cut_parts<T: Drop, F: Fn(&str) -> Result<T, AllocError>>(
 }
 
 // Answer: equation.
-/// What is made of each part between the dots; nothing of an empty text, which does not allocate.
+/// Returns what `make` returns for each part between the dots. For an empty string the result is
+/// empty, and nothing is allocated. `Err` means out of memory.
 #[inline(always)]
 pub fn of_parts<T: Drop, F: Fn(&str) -> Result<T, AllocError>>(
     alloc: Global,

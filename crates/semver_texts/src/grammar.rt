@@ -1,9 +1,9 @@
-//! The grammars that range texts and version texts are read by.
+//! The grammars in which range and version strings are read.
 
 ghost use Rattle.std.specs.Prelude.{◌≡◌};
 ghost use Rattle.semver_texts.specs.Digits.{digits_in};
 
-/// A grammar of version texts and range texts.
+/// A grammar of version and range strings.
 ///
 /// ```
 /// use semver_parser::version::{self, Grammar};
@@ -13,15 +13,15 @@ ghost use Rattle.semver_texts.specs.Digits.{digits_in};
 /// ```
 #[derive(Clone, Copy, PartialEq, Eq, Hash, Debug)]
 pub enum Grammar {
-    /// That of the crate `semver-parser`.
+    /// The grammar of the crate `semver-parser`.
     Crate,
-    /// Cargo's. Its versions are those of SemVer 2.0.0.
+    /// Cargo's grammar. Its versions are those of SemVer 2.0.0.
     Cargo,
-    /// npm's, as node-semver 7 reads without options.
+    /// npm's grammar, as node-semver 7 reads strings without options.
     Npm,
 }
 
-/// What an identifier of digits alone is from 2^64 on. Below, it is a number.
+/// How a numeric identifier above 2^64 - 1 is read. Other numeric identifiers are numbers.
 ///
 /// ```
 /// use semver_parser::Digits;
@@ -32,15 +32,15 @@ pub enum Grammar {
 /// ```
 #[derive(Clone, Copy, PartialEq, Eq, Hash, Debug)]
 pub enum Digits {
-    /// A text, as `semver-parser` keeps it.
+    /// As a string, as in the crate `semver-parser`.
     Kept,
-    /// A number, as in SemVer 2.0.0, Cargo and npm.
+    /// As a number, as in SemVer 2.0.0, Cargo and npm.
     AnySize,
 }
 
 impl Grammar {
     // Answer: equation.
-    /// How identifiers of digits alone are read: `Kept` by the crate's grammar, and `AnySize` by
+    /// Returns how numeric identifiers are read: `Kept` in the crate's grammar, and `AnySize` in
     /// the others.
     ///
     /// ```

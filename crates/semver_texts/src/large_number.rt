@@ -7,7 +7,7 @@ ghost use Rattle.semver_texts.specs.Texts.{is_large};
 
 use std::cmp::Ordering;
 
-/// A number of 2^64 or more, by its digits, of which the first isn't 0.
+/// A number of 2^64 or more, as its digits. The first digit isn't 0.
 #[derive(Clone, Copy)]
 pub struct LargeNumber<'a> {
     digits: &'a [u8],
@@ -16,7 +16,7 @@ pub struct LargeNumber<'a> {
 
 impl<'a> LargeNumber<'a> {
     // Answer: equation.
-    /// The number that the digits write.
+    /// Returns the number that the digits write.
     #[inline(always)]
     pub(crate) fn of(digits: &'a [u8]) -> LargeNumber<'a>
         requires { is_large digits.now ≡ true }
@@ -26,8 +26,8 @@ impl<'a> LargeNumber<'a> {
     }
 
     // Answer: equation.
-    /// How two compare: the one with more digits is greater, and as many go by the first that
-    /// differ. It does not allocate.
+    /// Compares two large numbers. The one with more digits is greater; if they have equally many,
+    /// the first digits that differ decide. It does not allocate.
     #[inline(always)]
     pub fn compare(&self, other: &LargeNumber<'_>) -> Ordering
         ensures { result ≡ nat_cmp (digits_value 10 self.now.digits.now)

@@ -13,7 +13,8 @@ ghost use Rattle.semver_texts.specs.VersionGrammar.{SpellsCore};
 ghost use Rattle.semver_texts.specs.Versions.{PlainVersion, VersionValue};
 ghost use Rattle.semver_texts.specs.declared.grammar.Digits.TheVariants.{AnySize};
 
-/// Precedence is a total order, and two versions are equal in it exactly if they are the same.
+/// Precedence is a total order, and two versions are equal in it if and only if they are the same,
+/// apart from build metadata.
 pub fn precedence_is_total()
     ensures total { IsTotalOrder precedence }
     ensures same { (v w : PlainVersion) → (precedence v w ≡ Equal) ↔ (v ≡ w) }
@@ -27,8 +28,8 @@ pub fn semver_texts_are_npms()
         → SpellsNpm v text }
 {}
 
-/// A version of SemVer 2.0.0 prints as its text, and one of npm's prints as a version of SemVer
-/// 2.0.0.
+/// A version of SemVer 2.0.0 is printed as its string, and a version of npm's is printed as one of
+/// SemVer 2.0.0.
 pub fn semver_texts_are_printed()
     ensures semver { (v : VersionValue) (text : Text) → SpellsSemver v text
         → text ≡ version_text v }
@@ -36,9 +37,9 @@ pub fn semver_texts_are_printed()
         → SpellsSemver v (version_text v) }
 {}
 
-/// A version of the crate without white space is one of SemVer 2.0.0 if none of its pre-release
-/// identifiers of digits alone has a leading zero. Those from 2^64 on, which the crate keeps as
-/// texts, are numbers there.
+/// A version in the crate's grammar without white space is one of SemVer 2.0.0, if none of its
+/// numeric pre-release identifiers has a leading zero. Those above 2^64 - 1, which the crate keeps
+/// as strings, are numbers in SemVer 2.0.0.
 pub fn crate_versions_are_semver()
     ensures { (v : VersionValue) (text : Text) → SpellsCore v text
         → IsTrue (list_all (λ id. has_no_leading_zero (identifier_text id)) v.plain.pre)

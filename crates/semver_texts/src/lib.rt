@@ -1,7 +1,7 @@
-//! What version texts and range texts share: versions as plain data and their precedence, bytes,
-//! numbers, identifiers joined by dots, white space, npm's limits, dialects, and how bytes and
-//! lists of printed values are written; and, in `specs/`, texts as their bytes, the grammar of
-//! versions, and their printed texts.
+//! What version and range strings have in common: versions as plain data and their precedence,
+//! bytes, numbers, identifiers joined by dots, white space, npm's limits, dialects, and how bytes
+//! and lists of printed values are written. The directory `specs/` has strings as their bytes, the
+//! grammar of versions, and how they are printed.
 #![tactic(auto)]
 
 pub mod bytes;

@@ -11,40 +11,40 @@ use crate::large_number::LargeNumber;
 use crate::version::Version;
 use std::cmp::Ordering;
 
-/// An identifier of a pre-release as it is compared.
+/// An identifier of a pre-release for comparing.
 #[derive(Clone, Copy)]
 pub enum IdentifierRef<'a> {
     /// A number below 2^64.
     Numeric(u64),
-    /// A greater number.
+    /// A number of 2^64 or more.
     LargeNumeric(LargeNumber<'a>),
-    /// Any other text, by its bytes.
+    /// Any other string, as its bytes.
     AlphaNumeric(&'a [u8]),
 }
 
-/// The identifiers of a pre-release, from the first on.
+/// The identifiers of a pre-release, in order.
 pub trait Identifiers<'a>: Copy {
-    /// Those that are left.
+    /// The identifiers that are left.
     ghost left: { Self → List IdentifierValue };
 
-    /// Whether none is left.
+    /// Returns whether no identifier is left.
     fn is_empty(&self) -> bool
         ensures { result ≡ is_empty (left self.now) };
 
-    /// Takes the first of those that are left.
+    /// Takes the first of the identifiers that are left.
     fn next(&mut self) -> Option<IdentifierRef<'a>>
         ensures { MatchOption result ((left self.old ≡ []) × (left self.new ≡ []))
             (λ first. left self.old ≡ ref_value first ∷ left self.new) };
 }
 
 // Answer: equation.
-/// How two versions compare by precedence (SemVer 2.0.0, section 11): `Less` where the first is
-/// below the other. Builds don't count. It does not allocate.
+/// Compares two versions by precedence (SemVer 2.0.0, section 11). The result is `Less` if the
+/// first version is below the other. Build metadata is ignored. It does not allocate.
 ///
-/// The first difference decides of the three numbers, the first of them first. Where these are
-/// equal, no pre-release is above any, and two go by the first identifiers that differ: numbers as
-/// numbers, texts by their bytes, and a number is below any text. Where there are none, the longer
-/// pre-release is above.
+/// The three numbers are compared first, from left to right. If they are equal, a version without a
+/// pre-release is above each version with one, and two pre-releases are compared by the first
+/// identifiers that differ: numbers numerically, strings by their bytes, and a number is below any
+/// string. If no identifiers differ, the pre-release with more identifiers is above the other.
 ///
 /// ```
 /// use semver_parser::version;
@@ -71,8 +71,8 @@ pub fn cmp_precedence(version: &Version, other: &Version) -> Ordering
 }
 
 // Answer: equation.
-/// How two versions compare by precedence, each of its numbers and the identifiers of its
-/// pre-release. It does not allocate.
+/// Compares two versions by precedence, given by their numbers and the identifiers of their
+/// pre-releases. It does not allocate.
 #[inline(always)]
 pub fn compare<'a, A: Identifiers<'a>, B: Identifiers<'a>>(
     numbers: (u64, u64, u64),
@@ -91,7 +91,8 @@ pub fn compare<'a, A: Identifiers<'a>, B: Identifiers<'a>>(
 }
 
 // Answer: equation.
-/// How two pre-releases compare. None is above any, and two go by their identifiers.
+/// Compares two pre-releases. No pre-release is above any pre-release, and two pre-releases are
+/// compared by their identifiers.
 #[inline(always)]
 pub fn compare_pre_releases<'a, A: Identifiers<'a>, B: Identifiers<'a>>(
     version: A,
@@ -107,7 +108,8 @@ pub fn compare_pre_releases<'a, A: Identifiers<'a>, B: Identifiers<'a>>(
     }
 }
 
-/// The first identifiers that differ decide. Where there are none, the longer list is above.
+/// Compares two lists of identifiers: by the first ones that differ, or if there are none, by
+/// length.
 fn compare_lists<'a, A: Identifiers<'a>, B: Identifiers<'a>>(version: A, other: B) -> Ordering
     ensures { result ≡ slice_cmp identifier_cmp (A.left version) (B.left other) }
 {
@@ -128,7 +130,8 @@ fn compare_lists<'a, A: Identifiers<'a>, B: Identifiers<'a>>(version: A, other: 
     }
 }
 
-/// Numbers go as numbers and texts by their bytes, and a number is below any text.
+/// Compares two identifiers: numbers numerically, strings by their bytes, and a number is below any
+/// string.
 #[inline(always)]
 fn compare_identifiers(first: IdentifierRef<'_>, other: IdentifierRef<'_>) -> Ordering
     ensures { result ≡ identifier_cmp (ref_value first.entry) (ref_value other.entry) }

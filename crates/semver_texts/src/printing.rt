@@ -1,4 +1,4 @@
-//! Lists of values, written one after the other.
+//! Writes lists of values one after the other.
 ghost use Rattle.std.specs.Prelude.{◌≡◌, ℕ, List, Some, map};
 ghost use Rattle.std.specs.Fmt.{WritesOnOk};
 ghost use Rattle.semver_texts.specs.Texts.{joined, marked};
@@ -6,10 +6,10 @@ ghost use Rattle.semver_texts.specs.Texts.{joined, marked};
 use std::fmt;
 
 // Answer: equation.
-/// Writes the mark and then the items joined by dots; nothing where there are none.
+/// Writes the mark and then the items joined by dots, or nothing if there are no items.
 ///
-/// Of the mark `-` and the items 7 and `"rc"` it writes `-7.rc`. It does not allocate, and its only
-/// error is the writer's.
+/// For the mark `-` and the items 7 and `"rc"` it writes `-7.rc`. It does not allocate, and its
+/// only error is the writer's.
 pub fn write_part<W: fmt::Write, T: fmt::Display>(
     f: &mut fmt::Formatter<W>,
     mark: &str,
@@ -26,9 +26,9 @@ pub fn write_part<W: fmt::Write, T: fmt::Display>(
 }
 
 // Answer: equation.
-/// Writes the items with the separator between each two.
+/// Writes the items, separated by the separator.
 ///
-/// Of the separator `.` and the items 7 and `"rc"` it writes `7.rc`. It does not allocate, and its
+/// For the separator `.` and the items 7 and `"rc"` it writes `7.rc`. It does not allocate, and its
 /// only error is the writer's.
 pub fn write_joined<W: fmt::Write, T: fmt::Display>(
     f: &mut fmt::Formatter<W>,

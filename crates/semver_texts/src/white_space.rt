@@ -1,10 +1,11 @@
-//! What JavaScript calls white space, and npm takes around versions and between comparators.
+//! The characters that JavaScript calls white space, which npm allows around versions and between
+//! comparators.
 ghost use Rattle.std.specs.Prelude.{◌≡◌, ◌≤◌, length};
 ghost use Rattle.semver_texts.specs.WhiteSpace.{is_ascii_white_space, is_white_space_beyond_ascii};
 ghost use Rattle.semver_texts.specs.WhiteSpace.{white_space_size};
 
 // Answer: equation.
-/// Whether the byte is white space of ASCII: U+0009 to U+000D, or a space.
+/// Returns whether the byte is ASCII white space: U+0009 to U+000D, or a space.
 #[inline(always)]
 pub fn is_ascii_white_space(byte: u8) -> bool
     ensures { result ≡ is_ascii_white_space byte }
@@ -13,7 +14,7 @@ pub fn is_ascii_white_space(byte: u8) -> bool
 }
 
 // Answer: equation.
-/// Whether a character beyond ASCII is white space.
+/// Returns whether a non-ASCII character is white space.
 #[inline(always)]
 pub fn is_white_space_beyond_ascii(character: char) -> bool
     ensures { result ≡ is_white_space_beyond_ascii character }
@@ -31,8 +32,8 @@ pub fn is_white_space_beyond_ascii(character: char) -> bool
 }
 
 // Answer: equation.
-/// How many bytes the character at the front has in UTF-8 if it is white space, or else 0: 2 of
-/// U+00A0.
+/// Returns the length in UTF-8 of the character at the beginning if it is white space, otherwise 0:
+/// 2 for U+00A0.
 #[inline(always)]
 pub fn white_space_len(bytes: &[u8]) -> usize
     ensures size { result ≡ white_space_size bytes.now }

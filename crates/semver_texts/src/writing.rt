@@ -1,15 +1,18 @@
-//! Writing bytes so that an error leaves a known beginning of them.
+//! Writes bytes so that after an error it is known that a prefix of them was written.
 ghost use Rattle.semver_texts.specs.Writing.{WritesOrBegins};
 
 use std::io::{self, ErrorKind, Write};
 
 // Answer: equation.
-/// Writes all of the bytes, by as many writes as it takes: `1.2.3` to a writer that takes four
-/// bytes a write is written as `1.2.` and then `3`.
+/// Writes all of the bytes, in as many writes as needed: if a writer takes four bytes at a time,
+/// `1.2.3` is written as `1.2.` and then `3`.
 ///
-/// It stops at the first write that fails, is interrupted, or takes no byte, with the error of that
-/// write or `ErrorKind::WriteZero`. Then `out` got a beginning of the bytes. `Write::write_all`
-/// doesn't say what was written before its error, and tries again after an interruption.
+/// # Errors
+///
+/// It stops at the first write that fails, is interrupted, or takes no byte, and returns the error
+/// of that write or `ErrorKind::WriteZero`. Then `out` got a prefix of the bytes. In contrast,
+/// `Write::write_all` doesn't specify what was written before its error, and retries after an
+/// interruption.
 pub fn write_whole<W: Write>(out: &mut W, bytes: &[u8]) -> io::Result<()>
     ensures writes { WritesOrBegins (W.contents out.old) (W.contents out.new) result bytes.now }
 {

@@ -1,7 +1,8 @@
-//! The tokens of a text: its signs, its white space, and its runs of ASCII letters and digits.
+//! The tokens of a string: its signs, its white space, and its sequences of ASCII letters and
+//! digits.
 //!
-//! The text is read by bytes, from the left; a character past ASCII is decoded only to be named in
-//! an error. Nothing here allocates: each token that has a text borrows it from the input.
+//! The string is read as bytes, from the left. A non-ASCII character is decoded only to be named in
+//! an error. Nothing here allocates: tokens with a string borrow it from the input.
 ghost use Rattle.std.specs.Prelude.{◌^◌, [], ◌≡◌, ◌+◌, ◌<◌, length, option_map};
 ghost use Rattle.semver_tokens.specs.Tokens.{is_whitespace};
 ghost use Rattle.semver_texts.specs.Texts.{IsRun};
@@ -13,7 +14,8 @@ use semver_texts::bytes::{is_space, run_len, space_len};
 use semver_texts::decimals::whole_number;
 use std::marker::Model;
 
-/// A token. Those of two characters are taken before those of one.
+/// A token. If both are possible, a token of two characters is preferred to one of a single
+/// character.
 ///
 /// ```
 /// use semver_parser::lexer::{Lexer, Token};
@@ -49,14 +51,14 @@ pub enum Token<'input> {
     Plus,
     /// `||`
     Or,
-    /// A longest run of spaces, tabs, line feeds and carriage returns: the byte where it begins,
-    /// and the byte after it.
+    /// Spaces, tabs, line feeds and carriage returns, as many as there are: the offset of the first
+    /// byte, and the offset after the last.
     Whitespace(usize, usize),
-    /// A longest run of ASCII letters and digits that is the canonical decimal of a number up to
-    /// 2^64 - 1: `0`, or digits that don't begin with `0`.
+    /// ASCII letters and digits, as many as there are, if they are the canonical decimal of a
+    /// number up to 2^64 - 1: `0`, or digits that don't begin with `0`.
     Numeric(u64),
-    /// Any other longest run of ASCII letters and digits, as the slice of the input: `beta2`, `01`,
-    /// `18446744073709551616`.
+    /// Any other ASCII letters and digits, as many as there are, as a slice of the input: `beta2`,
+    /// `01`, `18446744073709551616`.
     AlphaNumeric(&'input str),
 }
 
@@ -64,7 +66,7 @@ impl<'input> Token<'input> {
     ghost use Rattle.semver_tokens.specs.Tokens.{is_wildcard};
 
     // Answer: equation.
-    /// Whether the token is white space, of any length.
+    /// Returns whether the token is white space of any length.
     ///
     /// ```
     /// use semver_parser::lexer::Token;
@@ -81,7 +83,7 @@ impl<'input> Token<'input> {
     }
 
     // Answer: equation.
-    /// Whether the token is a wildcard: `*`, `x` or `X`.
+    /// Returns whether the token is a wildcard: `*`, `x` or `X`.
     ///
     /// ```
     /// use semver_parser::lexer::Token;
@@ -98,7 +100,7 @@ impl<'input> Token<'input> {
     }
 }
 
-/// Why a text has no further token.
+/// Why a string has no further token.
 ///
 /// ```
 /// use semver_parser::lexer::{Error, Lexer};
@@ -107,11 +109,11 @@ impl<'input> Token<'input> {
 /// ```
 #[derive(Clone, Copy, Debug, PartialEq, Eq, PartialOrd, Ord)]
 pub enum Error {
-    /// A character that opens no token; also a `|` that no second `|` follows.
+    /// A character that begins no token. This includes a `|` that isn't followed by a second one.
     UnexpectedChar(char),
 }
 
-/// The sign that two bytes begin with, and its length.
+/// Returns the sign with which two bytes begin, and its length.
 #[inline(always)]
 #[tactic(auto, unfolding(crate::specs::Steps::Scanning::sign))]
 fn sign<'input>(first: u8, second: u8) -> Option<(Token<'input>, usize)>
@@ -135,7 +137,7 @@ fn sign<'input>(first: u8, second: u8) -> Option<(Token<'input>, usize)>
     }
 }
 
-/// The token of a run of letters and digits.
+/// Returns the token of a sequence of letters and digits.
 #[inline(always)]
 #[tactic(auto, unfolding(crate::specs::Steps::Scanning::component))]
 fn component<'input>(run: &'input str) -> Token<'input>
@@ -148,8 +150,8 @@ fn component<'input>(run: &'input str) -> Token<'input>
     }
 }
 
-/// The token at the front of what is left of a text from `start` on, if one is there, and its
-/// length.
+/// Returns the token at the beginning of the rest of a string, if there is one, and its length.
+/// `start` is the offset of the rest.
 #[inline(always)]
 fn front_token<'input>(rest: &'input str, start: usize) -> Option<(Token<'input>, usize)>
     requires { start + length rest.now < 2 ^ 64 }
@@ -169,10 +171,10 @@ fn front_token<'input>(rest: &'input str, start: usize) -> Option<(Token<'input>
     sign(first, second)
 }
 
-/// Gives the tokens of a text one after the other, then at most one error, and then nothing for
-/// good.
+/// Returns the tokens of a string one after the other, then at most one error, and then only
+/// `None`.
 ///
-/// It holds the text, the byte where it is, and whether its error was given.
+/// It stores the string, the offset, and whether the error was returned.
 ///
 /// ```
 /// use semver_parser::lexer::{Error, Lexer, Token};
@@ -206,7 +208,7 @@ impl<'input> Lexer<'input> {
     ghost use Rattle.semver_tokens.specs.ParserState.{IsStateOf};
 
     // Answer: law answer_laws::versions::one_lexer.
-    /// A lexer at the start of the text. Any text will do.
+    /// Returns a lexer at the beginning of a string, which can be any string.
     ///
     /// ```
     /// use semver_parser::lexer::{Lexer, Token};
@@ -238,10 +240,11 @@ impl<'input> Iterator for Lexer<'input> {
 
     ghost remaining = { item_count items_left };
 
-    /// The next token; where no token begins, the error that names the character there, once; at
-    /// the end, and after the error, `None`. It does not allocate.
+    /// Returns the next token. If no token begins there, it returns the error with the character,
+    /// once. At the end, and after the error, it returns `None`. It does not allocate.
     ///
-    /// On `1é2` it gives `Ok(Numeric(1))`, `Err(UnexpectedChar('é'))`, and then `None` each time.
+    /// For `1é2` it returns `Ok(Numeric(1))`, `Err(UnexpectedChar('é'))`, and then `None` each
+    /// time.
     #[inline(always)]
     fn next(&mut self) -> Option<Result<Token<'input>, Error>> {
         if self.failed {
@@ -259,7 +262,7 @@ impl<'input> Iterator for Lexer<'input> {
 }
 
 // Answer: equation.
-/// A lexer that has the same items left.
+/// Returns a lexer that has the same items left.
 #[must_use]
 #[inline(always)]
 pub fn copy<'input>(lexer: &Lexer<'input>) -> Lexer<'input>
@@ -274,8 +277,8 @@ pub fn copy<'input>(lexer: &Lexer<'input>) -> Lexer<'input>
 }
 
 // Answer: free, which text: must-fail/rest_begins_at_the_start_of_the_text.edit.
-/// Returns the text from the first remaining token on, up to the end of the input; empty once the
-/// error was returned. On `1.2`, after the first token, it is `.2`.
+/// Returns the string from the first remaining token to the end of the input. It is empty after the
+/// error was returned. For `1.2`, after the first token, it is `.2`.
 #[must_use]
 #[inline(always)]
 pub fn rest<'input>(lexer: &Lexer<'input>) -> &'input str
@@ -288,8 +291,8 @@ pub fn rest<'input>(lexer: &Lexer<'input>) -> &'input str
 }
 
 // Answer: equation.
-/// How many tokens are left, and a lexer after the last of them: on `1.2/` these are 3, and a
-/// lexer whose next item is the error.
+/// Returns the number of tokens that are left, and a lexer after the last of them. For `1.2/` the
+/// number is 3, and the next item of the lexer is the error.
 #[must_use]
 pub fn count_tokens<'input>(lexer: &Lexer<'input>) -> (usize, Lexer<'input>)
     ensures count { result.0 ≡ length lexer.now.remaining }

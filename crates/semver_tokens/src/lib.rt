@@ -1,5 +1,6 @@
-//! Version texts as tokens: signs, white space, numbers, and other runs of letters and digits; and
-//! a parser of one token ahead, which takes numbers, components, identifiers and versions.
+//! Version strings as tokens: signs, white space, numbers, and other sequences of letters and
+//! digits; and a parser with one token of lookahead, which reads numbers, components, identifiers
+//! and versions.
 #![tactic(auto)]
 
 pub mod laws;

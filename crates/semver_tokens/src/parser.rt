@@ -1,10 +1,10 @@
-//! Numbers, components, identifiers and versions, read from the tokens of a text with one token
-//! ahead.
+//! Reads numbers, components, identifiers and versions from the tokens of a string, with one token
+//! of lookahead.
 //!
-//! The state of a parser is the list of tokens that remain, and a pending character where the text
-//! goes on with one that opens no token. Taking a token reads the next one first: so the last token
-//! before a bad character is never given, and what is refused as `Lexer` or `UnexpectedEnd` leaves
-//! the parser as it stood. An unexpected token is consumed.
+//! The state of a parser is the list of the remaining tokens, and a pending character if the string
+//! continues with one that begins no token. Taking a token first reads the next one. So the last
+//! token before a bad character is never returned, and the errors `Lexer` and `UnexpectedEnd` leave
+//! the parser as it was. An unexpected token is consumed.
 ghost use Rattle.std.specs.Prelude.{◌≡◌, true, ◌+◌, ◌↔◌, [], Some, None, IfOk, IfSome};
 ghost use Rattle.std.specs.Prelude.{string_bytes, IfErr, IsErr, ℕ, IsTrue, option_map, map, length};
 ghost use Rattle.std.specs.Prelude.{◌<◌, ◌≤◌, ◌++◌, ◌∷◌, vec_len, vec_capacity};
@@ -33,7 +33,7 @@ use std::alloc::{AllocError, Global};
 use std::fmt;
 use std::marker::Model;
 
-/// Why a call of a parser, or of `version::parse`, gives no value. It borrows the input.
+/// The error of a method of a parser, or of `version::parse`. It borrows the input.
 ///
 /// ```
 /// use semver_parser::parser::Error;
@@ -45,17 +45,17 @@ use std::marker::Model;
 /// ```
 #[derive(Debug, PartialEq, Eq, PartialOrd, Ord, Drop)]
 pub enum Error<'input> {
-    /// A token was needed, and the text is at its end.
+    /// A token is missing at the end of the string.
     UnexpectedEnd,
-    /// This token is none that can be here. It has been consumed.
+    /// This token isn't allowed here. It has been consumed.
     UnexpectedToken(Token<'input>),
-    /// The text goes on with a character that opens no token.
+    /// The string continues with a character that begins no token.
     Lexer(lexer::Error),
-    /// These tokens are after the version.
+    /// These tokens follow the version.
     MoreInput(Vec<Token<'input>>),
-    /// Kept for its name: no call answers it.
+    /// Never returned. The variant exists because the Rust crate has it.
     EmptyPredicate,
-    /// Kept for its name: no call answers it.
+    /// Never returned. The variant exists because the Rust crate has it.
     EmptyRange,
     /// An allocation failed.
     OutOfMemory,
@@ -68,7 +68,7 @@ impl<'input> From<lexer::Error> for Error<'input> {
 
     ghost from_gives = { λ value e. e ≡ error.Lexer value };
 
-    /// The error of the lexer, as `Lexer`.
+    /// Returns the error of the lexer as `Lexer`.
     #[inline(always)]
     fn from(value: lexer::Error) -> Self {
         Error::Lexer(value)
@@ -81,8 +81,8 @@ impl<'input> fmt::Display for Error<'input> {
 
     ghost output = { fixed_text };
 
-    /// Writes a sentence for a person, as `expected more input`. It does not allocate, and its only
-    /// error is the writer's.
+    /// Writes a sentence for people, such as `expected more input`. It does not allocate, and its
+    /// only error is the writer's.
     fn fmt<W: fmt::Write>(&self, f: &mut fmt::Formatter<W>) -> fmt::Result {
         match self {
             Error::UnexpectedEnd => f.write_str("expected more input"),
@@ -98,9 +98,10 @@ impl<'input> fmt::Display for Error<'input> {
 
 impl<'input> Error<'input> {
     // Answer: free, debug text inside some sentences: must-fail/text_of_an_error_is_empty.edit.
-    /// The text that `Display` writes, for use where the Rust crate turns an error into a `String`.
+    /// Returns the string that `Display` writes, for use where the Rust crate converts an error
+    /// into a `String`.
     ///
-    /// `Err` is out of memory; the error itself stays as it was.
+    /// `Err` means out of memory; the error itself isn't changed.
     ///
     /// ```
     /// use semver_parser::parser::Error;
@@ -116,7 +117,7 @@ impl<'input> Error<'input> {
     }
 }
 
-/// Reads a text token by token, one token ahead.
+/// Reads a string token by token, with one token of lookahead.
 ///
 /// ```
 /// use semver_parser::lexer::Token;
@@ -131,9 +132,9 @@ impl<'input> Error<'input> {
 #[derive(Debug, Drop)]
 pub struct Parser<'input> {
     lexer: Lexer<'input>,
-    // The first of the tokens that remain.
+    // The first of the remaining tokens.
     lookahead: Option<Token<'input>>,
-    // The text from that token on.
+    // The string from that token on.
     rest: &'input str,
 }
 
@@ -157,10 +158,12 @@ impl<'input> Model for Parser<'input> {
 
 impl<'input> Parser<'input> {
     // Answer: law answer_laws::versions::one_parser.
-    /// A parser at the start of the text: all its tokens remain, and where it ends in a character
-    /// that opens no token, that character is pending. It does not allocate.
+    /// Returns a parser at the beginning of a string: all its tokens remain. If the string ends in
+    /// a character that begins no token, that character is pending. It does not allocate.
     ///
-    /// `Lexer` exactly where the text begins with such a character.
+    /// # Errors
+    ///
+    /// `Lexer` if and only if the string begins with such a character.
     ///
     /// ```
     /// use semver_parser::lexer;
@@ -185,7 +188,7 @@ impl<'input> Parser<'input> {
         })
     }
 
-    /// Takes the first token. The one after it is read first, so an error changes nothing.
+    /// Takes the first token. The token after it is read first, so an error changes nothing.
     #[inline(always)]
     fn pop(&mut self) -> Result<Token<'input>, Error<'input>>
         ensures { step_of token_value result self.new ≡ spec.pop self.old }
@@ -205,8 +208,10 @@ impl<'input> Parser<'input> {
     // Answer: equation.
     /// Takes a number.
     ///
-    /// `UnexpectedToken` of any other token, which is consumed; `UnexpectedEnd` where no token
-    /// remains, and `Lexer` where a character is pending after at most one token: both leave the
+    /// # Errors
+    ///
+    /// `UnexpectedToken` for any other token, which is consumed. `UnexpectedEnd` if no token
+    /// remains, and `Lexer` if a character is pending after at most one token; both leave the
     /// parser as it was. It does not allocate.
     ///
     /// ```
@@ -228,7 +233,7 @@ impl<'input> Parser<'input> {
         }
     }
 
-    /// The first token, which stays.
+    /// Returns the first token without taking it.
     fn peek(&self) -> Option<&Token<'input>>
         ensures { option_map (λ t. token_value t.now) result ≡ spec.look self.now }
     {
@@ -236,9 +241,9 @@ impl<'input> Parser<'input> {
     }
 
     // Answer: equation.
-    /// Takes a number, or a wildcard as `None`.
+    /// Takes a number, or a wildcard, which is returned as `None`.
     ///
-    /// It refuses as `numeric` does, and does not allocate.
+    /// Its errors are those of `numeric`. It does not allocate.
     ///
     /// ```
     /// use semver_parser::lexer::Token;
@@ -266,11 +271,12 @@ impl<'input> Parser<'input> {
     }
 
     // Answer: equation.
-    /// Where a dot comes next, takes it and a component: `(Some(n), false)` for a number, `(None,
-    /// true)` for a wildcard. Where none comes next, it answers `(None, false)` and takes nothing.
+    /// Takes a dot and a component, if a dot is next. Returns `(Some(n), false)` for a number, and
+    /// `(None, true)` for a wildcard. If no dot is next, it returns `(None, false)` and takes
+    /// nothing.
     ///
-    /// It refuses as `component` does; the dot is then consumed, but where it is itself the last
-    /// token before a pending character. It does not allocate.
+    /// Its errors are those of `component`. After an error the dot has been consumed, unless the
+    /// dot itself is the last token before a pending character. It does not allocate.
     ///
     /// ```
     /// use semver_parser::parser::Parser;
@@ -296,7 +302,7 @@ impl<'input> Parser<'input> {
     // Answer: equation.
     /// Takes a dot and a number.
     ///
-    /// It refuses as `numeric` does, of either token; what it took before the refusal stays
+    /// Its errors are those of `numeric`, for either token. What it took before the error stays
     /// consumed. It does not allocate.
     ///
     /// ```
@@ -316,7 +322,7 @@ impl<'input> Parser<'input> {
     }
 
     // Answer: equation.
-    /// Whether no token remains. A character may still be pending. It changes nothing.
+    /// Returns whether no token remains. A character may still be pending. It changes nothing.
     ///
     /// ```
     /// use semver_parser::parser::Parser;
@@ -336,7 +342,7 @@ impl<'input> Parser<'input> {
         self.lookahead.is_none()
     }
 
-    /// Takes a run of letters and digits, and returns its number where it is one.
+    /// Takes letters and digits, and returns their number if they are one.
     #[inline(always)]
     fn run(&mut self) -> Result<Option<u64>, Error<'input>>
         ensures { step_of (λ n. n) result self.new ≡ expect_run self.old }
@@ -348,7 +354,7 @@ impl<'input> Parser<'input> {
         }
     }
 
-    /// A hyphen comes next.
+    /// Returns whether a hyphen is next.
     #[inline(always)]
     fn at_hyphen(&self) -> bool
         ensures { IsTrue result ↔ (spec.look self.now ≡ Some spec_token.Hyphen) }
@@ -356,7 +362,7 @@ impl<'input> Parser<'input> {
         matches!(self.peek(), Some(Token::Hyphen))
     }
 
-    /// A plus comes next.
+    /// Returns whether a plus is next.
     #[inline(always)]
     fn at_plus(&self) -> bool
         ensures { IsTrue result ↔ (spec.look self.now ≡ Some spec_token.Plus) }
@@ -364,7 +370,7 @@ impl<'input> Parser<'input> {
         matches!(self.peek(), Some(Token::Plus))
     }
 
-    /// A dot comes next.
+    /// Returns whether a dot is next.
     #[inline(always)]
     fn at_dot(&self) -> bool
         ensures { IsTrue result ↔ (spec.look self.now ≡ Some spec_token.Dot) }
@@ -372,8 +378,7 @@ impl<'input> Parser<'input> {
         matches!(self.peek(), Some(Token::Dot))
     }
 
-    /// Takes the runs of an identifier and the hyphens between them, and returns its number if it
-    /// is one number alone.
+    /// Takes the tokens of an identifier, and returns its number if it is only a number.
     fn pass_identifier(&mut self) -> Result<Option<u64>, Error<'input>>
         ensures { TakesIdentifier self.old (step_of (λ n. n) result self.new).0 self.new }
     {
@@ -387,20 +392,20 @@ impl<'input> Parser<'input> {
     }
 
     // Answer: law answer_laws::versions::one_identifier.
-    /// An identifier of a version: one or more runs of ASCII letters and digits, joined by single
-    /// hyphens. A lone run that is the canonical decimal of a number up to 18446744073709551615 is
-    /// given as `Numeric`, anything else as `AlphaNumeric` with its text. Its tokens are taken, and
-    /// no more.
+    /// Reads an identifier of a version: one or more sequences of ASCII letters and digits, joined
+    /// by single hyphens. A single sequence that is the canonical decimal of a number up to 2^64 -
+    /// 1 is returned as `Numeric`, anything else as `AlphaNumeric` with its string. Only the
+    /// identifier's tokens are taken.
     ///
-    /// Refusals, and the tokens that remain then:
+    /// # Errors
     ///
-    /// - `UnexpectedToken`: another token comes where a run has to, at the start or after a
-    ///   hyphen. It is taken too.
-    /// - `UnexpectedEnd`: no token remains there. What came before stays taken.
+    /// - `UnexpectedToken`: letters or digits are missing, at the beginning or after a hyphen, and
+    ///   another token is there. It is taken, too.
+    /// - `UnexpectedEnd`: no token remains there. The tokens before stay taken.
     /// - `Lexer`: a bad character is pending and at most one token remains. That token stays, since
     ///   it isn't known whether the identifier ends with it.
-    /// - `OutOfMemory`: there is no memory for the text, which is taken at once. Its tokens stay
-    ///   taken, and no more. A number does not allocate.
+    /// - `OutOfMemory`: the allocation of the string, which is made at once, failed. Only its
+    ///   tokens stay taken. A number isn't allocated.
     ///
     /// ```
     /// use semver_parser::parser::Parser;
@@ -416,9 +421,11 @@ impl<'input> Parser<'input> {
     pub fn identifier(&mut self, alloc: Global) -> Result<Identifier, Error<'input>>
         ensures answer { UnlessOutOfMemory result
             (ReadsIdentifier self.old (step_of identifier_value result self.new).0 self.new) }
-        // Without memory an end part of the tokens is left, and the longest front holds a run.
+        // If it is out of memory, a final part of the tokens is left, and the longest prefix that
+        // begins an identifier contains letters or digits.
         ensures out_of_memory { IfOutOfMemory result (MayRunOutInIdentifier self.old self.new) }
-        // With it a text would be answered, and what is left then is left now.
+        // With more memory a string would be returned, and the tokens that would be left then are
+        // left now.
         ensures text_taken { IfOutOfMemory result ((text : Text)
             × ReadsIdentifier self.old (Ok (alphanumeric text)) self.new) }
     {
@@ -432,7 +439,7 @@ impl<'input> Parser<'input> {
         Ok(Identifier::AlphaNumeric(kept))
     }
 
-    /// Takes what comes next and an identifier after it, and so on at each dot.
+    /// Takes the next token and an identifier after it, and repeats this at each dot.
     fn identifiers(&mut self, alloc: Global) -> Result<Vec<Identifier>, Error<'input>>
         ensures answer { UnlessOutOfMemory result
             (TakesPart true self.old (step_of (λ ids. map identifier_value ids.items) result
@@ -452,7 +459,8 @@ impl<'input> Parser<'input> {
         }
     }
 
-    /// The identifiers of a part whose mark comes next, if it is there, and else none.
+    /// Reads the identifiers of a part, whose mark is next, if the part is there. Otherwise it
+    /// returns none.
     #[inline(always)]
     fn part(&mut self, alloc: Global, there: bool) -> Result<Vec<Identifier>, Error<'input>>
         ensures answer { UnlessOutOfMemory result
@@ -467,7 +475,7 @@ impl<'input> Parser<'input> {
         }
     }
 
-    /// Takes white space, if it comes next.
+    /// Takes white space, if it is next.
     #[inline(always)]
     fn skip_whitespace(&mut self) -> Result<(), Error<'input>>
         ensures { step_of (λ _. tt) result self.new ≡ skip_whitespace self.old }
@@ -478,7 +486,7 @@ impl<'input> Parser<'input> {
         Ok(())
     }
 
-    /// Takes white space, if it comes next, and three numbers joined by dots.
+    /// Takes white space, if it is next, and three numbers joined by dots.
     #[inline(always)]
     fn numbers(&mut self) -> Result<(u64, u64, u64), Error<'input>>
         ensures { step_of (λ n. (n.0, n.1, n.2)) result self.new ≡ numbers self.old }
@@ -491,17 +499,18 @@ impl<'input> Parser<'input> {
     }
 
     // Answer: law answer_laws::versions::one_version_of_parser.
-    /// A version and the white space round it. It ends where no further token fits, and the tokens
-    /// after it remain.
+    /// Reads a version and the white space around it. It ends before the first token that doesn't
+    /// fit; that token and all after it remain.
     ///
-    /// Refusals, and the tokens that remain then:
+    /// # Errors
     ///
-    /// - `UnexpectedToken`: another token comes where a number, a dot or an identifier has to. It
-    ///   is taken too.
-    /// - `UnexpectedEnd`: no token remains there. What came before stays taken.
+    /// - `UnexpectedToken`: a number, a dot or an identifier is missing, and another token is
+    ///   there. It is taken, too.
+    /// - `UnexpectedEnd`: no token remains there. The tokens before stay taken.
     /// - `Lexer`: a bad character is pending and at most one token remains. That token stays.
-    /// - `OutOfMemory`: an allocation failed for an identifier's text or for a list of identifiers.
-    ///   What was taken stays taken. A version without pre-release and build does not allocate.
+    /// - `OutOfMemory`: an allocation failed, for the string of an identifier or for a list of
+    ///   identifiers. What was taken stays taken. Nothing is allocated for a version without a
+    ///   pre-release and build metadata.
     ///
     /// ```
     /// use semver_parser::lexer::Token;
@@ -515,8 +524,8 @@ impl<'input> Parser<'input> {
     pub fn version(&mut self, alloc: Global) -> Result<Version, Error<'input>>
         ensures answer { UnlessOutOfMemory result
             (ReadsVersion self.old (step_of version_value result self.new).0 self.new) }
-        // Without memory an end part of the tokens is left, and the longest front holds a run of an
-        // identifier.
+        // If it is out of memory, a final part of the tokens is left, and the longest prefix that
+        // begins a version contains letters or digits after a `-` or a `+`.
         ensures out_of_memory { IfOutOfMemory result (MayRunOutInVersion self.old self.new) }
     {
         let (major, minor, patch) = self.numbers()?;
@@ -535,12 +544,13 @@ impl<'input> Parser<'input> {
     }
 
     // Answer: equation.
-    /// All tokens that remain, in order; then none remains.
+    /// Takes and returns all remaining tokens, in order.
     ///
-    /// With a character pending it answers `Lexer` of it: no token remains then, and the character
-    /// stays pending. `OutOfMemory` if its one allocation failed: nothing is changed then. It
-    /// allocates only if tokens remain and no character is pending, once, for exactly
-    /// their number.
+    /// # Errors
+    ///
+    /// - `Lexer` if a character is pending. No token remains then, and the character stays pending.
+    /// - `OutOfMemory` if its one allocation failed. Nothing is changed then. It allocates only if
+    ///   tokens remain and no character is pending, once, for exactly their number.
     ///
     /// ```
     /// use semver_parser::lexer::Token;
@@ -554,8 +564,8 @@ impl<'input> Parser<'input> {
         ensures answer { UnlessOutOfMemory result
             (step_of (λ tokens. map token_value tokens.items) result self.new
             ≡ spec.tail self.old) }
-        // Without memory nothing changes. It is asked for only where tokens remain and no character
-        // is pending.
+        // If it is out of memory, nothing changes. It allocates only if tokens remain and no
+        // character is pending.
         ensures out_of_memory { IfOutOfMemory result
             ((self.new ≡ self.old) × (self.old.pending ≡ None) × (0 < length self.old.remaining)) }
     {
@@ -585,7 +595,7 @@ impl<'input> Parser<'input> {
     }
 }
 
-/// The longest front of letters, digits and hyphens.
+/// Returns the longest prefix of letters, digits and hyphens.
 fn identifier_front(text: &str) -> &str
     ensures { result.now ≡ take_while is_part_byte text.now }
 {
@@ -593,7 +603,7 @@ fn identifier_front(text: &str) -> &str
     &text[..len]
 }
 
-/// Appends where there is capacity.
+/// Appends a token to a vector that has capacity for it.
 fn push_within<'input>(tokens: &mut Vec<Token<'input>>, token: Token<'input>)
     requires { vec_len tokens.old < vec_capacity tokens.old }
     ensures items { tokens.new.items ≡ tokens.old.items ++ token.entry ∷ [] }

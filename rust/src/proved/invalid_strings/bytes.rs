@@ -1,12 +1,12 @@
 // Made by tools/erase.py from crates/invalid_strings/src/bytes.rt; not edited by hand.
-//! Whether some version begins with bytes, which may end within a character.
+//! Decides whether some version begins with given bytes, which may end within a character.
 
 use crate::rattle_std::prelude::*;
 use crate::proved::invalid_strings::buffers::write;
 use crate::proved::semver_texts::grammar::Grammar;
 use crate::proved::semver_versions::version::{is_version_at_any_length, outline_in};
 
-/// What completes a prefix.
+/// The bytes that complete a prefix.
 const COMPLETIONS: [&[u8]; 23] = [
     b"",
     b"a",
@@ -33,22 +33,23 @@ const COMPLETIONS: [&[u8]; 23] = [
     b"\xBF0.0.0",
 ];
 
-/// How long a version may be.
+/// The length that a version may have.
 #[derive(Clone, Copy)]
 pub(crate) enum Length {
     /// As long as its dialect allows.
     Allowed,
-    /// Of any length.
+    /// Any length.
     Any,
 }
 
-/// Whether some version of such a length begins with the bytes.
+/// Returns whether some version of an allowed length begins with the bytes.
 pub(crate) fn begins(prefix: &[u8], len: Length, grammar: Grammar, buffer: &mut [u8]) -> bool {
     write(buffer, 0, prefix);
     goes_on(buffer, prefix.len(), &COMPLETIONS, len, grammar)
 }
 
-/// Whether the bytes up to an offset and one of the completions are a version of such a length.
+/// Returns whether the bytes up to an offset, with one of the completions, are a version of an
+/// allowed length.
 fn goes_on(
     buffer: &mut [u8],
     end: usize,
@@ -65,7 +66,7 @@ fn goes_on(
     false
 }
 
-/// Whether the bytes are a version of such a length.
+/// Returns whether the bytes are a version of an allowed length.
 pub(crate) fn is_version(bytes: &[u8], len: Length, grammar: Grammar) -> bool {
     match len {
         Length::Allowed => outline_in(bytes, grammar).is_some(),

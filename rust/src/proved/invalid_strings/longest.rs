@@ -1,33 +1,33 @@
 // Made by tools/erase.py from crates/invalid_strings/src/longest.rt; not edited by hand.
-//! The end of the longest prefix of a text that some text of a language begins with, found by
-//! asking the language itself what a prefix could be completed with.
+//! Finds the end of the longest prefix of a string with which some string of a language begins, by
+//! trying whether a completion makes a prefix a string of the language.
 
 use crate::rattle_std::prelude::*;
 use crate::proved::invalid_strings::buffers::{complete, join};
 use crate::rattle_std::AllocError;
 
-/// How often a prefix is looked for by the likely completions alone.
+/// How often the search tries only the likely completions.
 const ROUNDS: usize = 4;
 
-/// A language: which texts are of it, and what completes each prefix of them.
+/// A language: the strings that belong to it, and the completions of their prefixes.
 pub trait Language {
-    /// Whether a text is of the language.
+    /// Returns whether a string belongs to the language.
     fn contains(&self, text: &str) -> bool;
 
-    /// What its prefixes are completed with.
+    /// Returns the completions of its prefixes.
     fn all_completions(&self) -> &[&str];
 
-    /// The index of the completion by which a prefix most likely goes on. Another index changes how
-    /// long a search takes, and never what it finds.
+    /// Returns the index of the completion that a prefix most likely needs. The index affects only
+    /// how long a search takes, not what it finds.
     fn likely(&self, prefix: &str) -> usize;
 }
 
-/// Returns the end of the longest prefix of a text that some text of a language begins with: the
-/// length of the text if it is of the language itself. With the versions of npm, `1.2.x` gives 4,
-/// since `1.2.0` begins with its first 4 bytes.
+/// Returns the end of the longest prefix of a string with which some string of a language begins.
+/// It is the length of the string if the string itself belongs to the language. For npm's versions,
+/// `1.2.x` gives 4, since `1.2.0` begins with its first 4 bytes.
 ///
-/// For a text of n bytes it tries the likely completion of log n prefixes, and each completion of
-/// the next one; seldom each completion of log n prefixes.
+/// For a string of n bytes it tries the likely completion of log n prefixes, and then all
+/// completions of the next prefix. Seldom it tries all completions of log n prefixes.
 ///
 /// # Errors
 ///
@@ -40,8 +40,8 @@ pub(crate) fn longest_prefix<L: Language>(
     Ok(longest_prefix_in(language, text, &mut buffer))
 }
 
-/// Returns what [`longest_prefix`] does, found in a buffer with a capacity of the text and 8 bytes
-/// more.
+/// Returns the result of [`longest_prefix`], using a buffer with a capacity of the length of the
+/// string plus 8 bytes.
 pub(crate) fn longest_prefix_in<L: Language>(language: &L, text: &str, buffer: &mut String) -> usize {
     let mut good = 0;
     'rounds: for _ in 0..ROUNDS {
@@ -58,8 +58,8 @@ pub(crate) fn longest_prefix_in<L: Language>(language: &L, text: &str, buffer: &
     longest_from(language, text, good, buffer)
 }
 
-/// The end of a prefix that some text of the language begins with, from one such end on: mostly of
-/// the longest one.
+/// Returns the end of a prefix with which some string of the language begins, at or after the end
+/// of such a prefix. It is mostly the longest one.
 fn likely_prefix<L: Language>(language: &L, text: &str, prefix: usize, buffer: &mut String) -> usize {
     let mut good = prefix;
     let mut end = text.len();
@@ -76,7 +76,8 @@ fn likely_prefix<L: Language>(language: &L, text: &str, prefix: usize, buffer: &
     }
 }
 
-/// The end of the longest prefix, after one that some text of the language begins with.
+/// Returns the end of the longest prefix, at or after the end of a prefix with which some string of
+/// the language begins.
 fn longest_from<L: Language>(language: &L, text: &str, prefix: usize, buffer: &mut String) -> usize {
     if is_prefix(language, text, buffer) {
         return text.len();
@@ -96,7 +97,7 @@ fn longest_from<L: Language>(language: &L, text: &str, prefix: usize, buffer: &m
     }
 }
 
-/// The longest prefix of the bytes that is UTF-8.
+/// Returns the longest prefix of the bytes that is UTF-8.
 pub(crate) fn text_prefix(bytes: &[u8]) -> &str {
     match crate::rattle_std::str::from_utf8(bytes) {
         Ok(text) => text,
@@ -107,7 +108,7 @@ pub(crate) fn text_prefix(bytes: &[u8]) -> &str {
     }
 }
 
-/// The next offset between two characters.
+/// Returns the next offset between two characters.
 fn after(text: &str, offset: usize) -> usize {
     for at in offset + 1..text.len() {
         if text.is_char_boundary(at) {
@@ -117,8 +118,8 @@ fn after(text: &str, offset: usize) -> usize {
     text.len()
 }
 
-/// An offset between two characters, after one offset and before another, near to halfway between
-/// them; the first of the two if there is none.
+/// Returns an offset between two characters, after `good`, before `bad`, and near the middle, or
+/// `good` if there is none.
 fn between(text: &str, good: usize, bad: usize) -> usize {
     let middle = good + (bad - good) / 2;
     for at in middle..bad {
@@ -134,7 +135,7 @@ fn between(text: &str, good: usize, bad: usize) -> usize {
     good
 }
 
-/// Whether a prefix with its likely completion is of the language.
+/// Returns whether a prefix with its likely completion belongs to the language.
 fn is_likely<L: Language>(language: &L, prefix: &str, buffer: &mut String) -> bool {
     let completions = language.all_completions();
     let completion = completions[language.likely(prefix)];
@@ -142,7 +143,7 @@ fn is_likely<L: Language>(language: &L, prefix: &str, buffer: &mut String) -> bo
     language.contains(buffer.as_str())
 }
 
-/// Whether a prefix with one of the completions is of the language.
+/// Returns whether a prefix with one of the completions belongs to the language.
 fn is_prefix<L: Language>(language: &L, prefix: &str, buffer: &mut String) -> bool {
     join(buffer, prefix, "");
     for completion in language.all_completions() {

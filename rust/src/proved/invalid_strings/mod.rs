@@ -1,10 +1,10 @@
 // Made by tools/erase.py from crates/invalid_strings/src/lib.rt; not edited by hand.
-//! Where and why a string is invalid. It is invalid after its longest prefix with which some valid
+//! Where and why a string is invalid. The error is after the longest prefix with which some valid
 //! string begins, and the reason says what is wrong with the character there.
 //!
-//! A language says which strings are its own, and which few strings complete a prefix; there is no
-//! second grammar. The versions of each dialect are such a language. Only `refusals::explain` and
-//! `longest::longest_prefix` allocate.
+//! A language decides which strings belong to it, and which few strings complete a prefix, so there
+//! is no second grammar. The versions of each dialect are such a language. Only `refusals::explain`
+//! and `longest::longest_prefix` allocate.
 
 use crate::rattle_std::prelude::*;
 pub mod buffers;

@@ -1,11 +1,11 @@
 // Made by tools/erase.py from crates/invalid_strings/src/reasons.rt; not edited by hand.
-//! Why a text is refused: the one list of reasons, with their numbers, names and sentences.
+//! The list of reasons why a string is invalid, with their numbers, names and sentences.
 
 use crate::rattle_std::prelude::*;
 use crate::proved::semver_texts::grammar::Grammar;
 use crate::rattle_std::fmt;
 
-/// Why a text is no valid version, or not a range. It prints as its sentence.
+/// Why a string is an invalid version, or not a range. It is printed as its sentence.
 ///
 /// ```
 /// use semver_parser::{check_range, check_version, Dialect, Reason};
@@ -23,27 +23,28 @@ use crate::rattle_std::fmt;
 #[derive(Clone, Copy, PartialEq, Eq, Hash, Debug)]
 #[non_exhaustive]
 pub enum Reason {
-    /// The text is empty, or only white space that the dialect takes before a version.
+    /// The string is empty, or only white space that the dialect allows before a version.
     Empty,
     /// There are fewer than three numbers: the version `1.2`, the range `1.2-rc`.
     NotThreeNumbers,
     /// A number, or a pre-release identifier of digits only, has a leading zero: `01.2.3`,
     /// `1.2.3-01`.
     LeadingZero,
-    /// An identifier is empty: `1.2.3-`, `1.2.3-a..b`. In the crate's dialect also what is before
-    /// or after a hyphen: `1.2.3--a`.
+    /// An identifier is empty: `1.2.3-`, `1.2.3-a..b`. In the crate's dialect this includes the
+    /// part before or after a hyphen: `1.2.3--a`.
     EmptyIdentifier,
-    /// No version, or range, has this character there: the version `1.x`, the range `1.2.3.4`.
+    /// This character isn't allowed there in a version, or in a range: the version `1.x`, the range
+    /// `1.2.3.4`.
     UnexpectedCharacter,
     /// A number is above 2^64 - 1.
     TooLarge,
-    /// Each version that begins so is longer than npm's 256 characters, or a build identifier
-    /// than 250.
+    /// Every version with this beginning is longer than npm's 256 characters, or has a build
+    /// identifier longer than 250.
     TooLong,
-    /// Text follows a version and white space: `1.2.3 x`. In Cargo's dialect also the white space
-    /// itself, and in the crate's a vertical tab or a form feed.
+    /// A version and white space are followed by something else: `1.2.3 x`. In Cargo's dialect this
+    /// includes the white space itself, and in the crate's a vertical tab or a form feed.
     TextAfter,
-    /// The bytes aren't UTF-8. No call on a `&str` returns this.
+    /// The bytes aren't UTF-8. A function that takes a `&str` never returns this.
     NotUtf8,
     /// A number is expected: `1..3`, `>=`.
     NumberExpected,
@@ -51,32 +52,32 @@ pub enum Reason {
     UnexpectedEnd,
     /// Cargo separates comparators by commas.
     CargoCommas,
-    /// Cargo takes `*` without numbers before it only alone.
+    /// Cargo allows `*` without a number before it only as the whole requirement.
     CargoWildcard,
-    /// Cargo takes no `||`; npm does.
+    /// Cargo doesn't allow `||`; npm does.
     CargoBars,
-    /// Cargo takes no leading `v`, of a version or of a range; npm does.
+    /// Cargo doesn't allow a leading `v`, before a version or in a range; npm does.
     CargoV,
-    /// Cargo takes no hyphen ranges; npm does.
+    /// Cargo doesn't have hyphen ranges; npm does.
     CargoHyphen,
-    /// npm separates comparators by spaces; Cargo takes commas.
+    /// npm separates comparators by spaces; Cargo separates them by commas.
     NpmComma,
-    /// The crate takes no commas; Cargo does.
+    /// The crate doesn't allow commas; Cargo does.
     CrateComma,
-    /// The crate takes no leading `v`, of a version or of a range; npm does.
+    /// The crate doesn't allow a leading `v`, before a version or in a range; npm does.
     CrateV,
-    /// To npm, a number is above 2^53 - 1.
+    /// In npm's dialect, a number is above 2^53 - 1.
     NpmTooLarge,
-    /// Cargo takes at most 32 comparators.
+    /// Cargo allows at most 32 comparators.
     TooManyComparators,
-    /// The bound of a range above a number is above 2^64 - 1: `>1.18446744073709551615`.
+    /// The bound above a number of a range is above 2^64 - 1: `>1.18446744073709551615`.
     BoundTooLarge,
-    /// To npm, the bound of a range above a number is above 2^53 - 1.
+    /// In npm's dialect, the bound above a number of a range is above 2^53 - 1.
     NpmBoundTooLarge,
 }
 
 impl Reason {
-    /// Returns the reason of a number that is above the limit of a dialect.
+    /// Returns the reason for a number that is above the limit of a dialect.
     ///
     /// ```
     /// use semver_parser::Reason;
@@ -93,8 +94,8 @@ impl Reason {
         }
     }
 
-    /// Returns the reason of a number of a range that can't be raised: the bound above it would be
-    /// above the limit of a dialect.
+    /// Returns the reason for a number of a range that can't be raised, since the bound above it
+    /// would be above the limit of a dialect.
     ///
     /// ```
     /// use semver_parser::Reason;
@@ -111,7 +112,7 @@ impl Reason {
         }
     }
 
-    /// Returns its number in C, Python and JavaScript.
+    /// Returns the number of the reason in C, Python and JavaScript.
     ///
     /// ```
     /// use semver_parser::Reason;
@@ -123,7 +124,7 @@ impl Reason {
         self.row().0
     }
 
-    /// Returns the reason of a number, or `None` if no reason has it.
+    /// Returns the reason with a number, or `None` if no reason has it.
     ///
     /// ```
     /// use semver_parser::Reason;
@@ -161,7 +162,7 @@ impl Reason {
         }
     }
 
-    /// Returns its name for programs, in lower case with hyphens.
+    /// Returns the name of the reason for programs, in lower case with hyphens.
     ///
     /// ```
     /// use semver_parser::Reason;
@@ -173,7 +174,7 @@ impl Reason {
         self.row().1
     }
 
-    /// Returns its sentence for people, without a full stop.
+    /// Returns the sentence of the reason for people, without a full stop.
     ///
     /// ```
     /// use semver_parser::Reason;
@@ -185,7 +186,7 @@ impl Reason {
         self.row().2
     }
 
-    /// Its number, its name and its sentence.
+    /// Returns the number, name and sentence of the reason.
     fn row(self) -> (i32, &'static str, &'static str) {
         match self {
             Reason::Empty => (1, "empty", "the string is empty"),

@@ -1,5 +1,5 @@
 // Made by tools/erase.py from crates/invalid_strings/src/refusals.rt; not edited by hand.
-//! Where and why a text is no valid version.
+//! Where and why a string is an invalid version.
 
 use crate::rattle_std::prelude::*;
 use crate::proved::invalid_strings::buffers::join;
@@ -14,7 +14,7 @@ use crate::proved::semver_texts::npm_limits::MAX_LENGTH;
 use crate::proved::semver_texts::white_space::is_ascii_white_space;
 use crate::rattle_std::AllocError;
 
-/// Where and why a text is no valid version.
+/// The error of an invalid version string: its offset and its reason.
 ///
 /// ```
 /// use semver_parser::layers::{explain_version, VersionRefusal};
@@ -26,21 +26,21 @@ use crate::rattle_std::AllocError;
 /// ```
 #[derive(Clone, Copy, PartialEq, Eq, Debug)]
 pub struct Refusal {
-    /// The byte offset of the first character that no version has there, or the length of the text
-    /// if something is missing at its end.
+    /// The byte offset of the first character that isn't allowed there in a version, or the length
+    /// of the string if something is missing at its end.
     pub offset: usize,
-    /// Why.
+    /// The reason.
     pub reason: Reason,
 }
 
-/// Whether neither a number nor a `v` has begun.
+/// Returns whether neither a number nor a `v` has begun.
 fn is_blank(prefix: &[u8]) -> bool {
     prefix
         .iter()
         .all(|&byte| !(byte.is_ascii_digit() || byte == b'v'))
 }
 
-/// Why a prefix with fewer than three numbers doesn't go on as a version.
+/// Returns why a prefix with fewer than three numbers doesn't continue as a version.
 fn missing_after(prefix: &[u8]) -> Reason {
     if from_end(prefix, 0).is_ascii_digit() {
         Reason::NotThreeNumbers
@@ -49,7 +49,8 @@ fn missing_after(prefix: &[u8]) -> Reason {
     }
 }
 
-/// What a byte is that no version has there: a `v` before the numbers, or any other.
+/// Returns the reason for a byte that isn't allowed there: a `v` before the numbers, or another
+/// one.
 fn unexpected_in(grammar: Grammar, prefix: &[u8], byte: u8) -> Reason {
     let is_mark = byte == b'v' && is_blank(prefix);
     match grammar {
@@ -59,7 +60,9 @@ fn unexpected_in(grammar: Grammar, prefix: &[u8], byte: u8) -> Reason {
     }
 }
 
-/// The reason, by what the prefix is and takes.
+/// Returns the reason. `version` is whether the prefix is a version of any length, and `letter` and
+/// `zero` are whether it is one with a letter or a zero appended. `too_long` is whether the prefix
+/// with the next byte is too long.
 fn reason_by(
     grammar: Grammar,
     version: bool,
@@ -110,13 +113,13 @@ fn reason_by(
     }
 }
 
-/// Whether the prefix and a letter or digit are a version of any length.
+/// Returns whether the prefix with `part` appended is a version of any length.
 fn takes(prefix: &str, part: &str, grammar: Grammar, buffer: &mut String) -> bool {
     join(buffer, prefix, part);
     is_version(buffer.as_bytes(), Length::Any, grammar)
 }
 
-/// Whether the dialect limits the length of a version.
+/// Returns whether the dialect limits the length of a version.
 fn has_limit(grammar: Grammar) -> bool {
     match grammar {
         Grammar::Crate => false,
@@ -125,8 +128,8 @@ fn has_limit(grammar: Grammar) -> bool {
     }
 }
 
-/// Whether some version begins with the bytes, but each is longer than the dialect allows. For
-/// speed, of a short text the answer is known.
+/// Returns whether some version begins with the bytes, but every such version is longer than the
+/// dialect allows. For a short string the result is known at once, for speed.
 fn is_too_long(text: &[u8], grammar: Grammar) -> Result<bool, AllocError> {
     if !has_limit(grammar) {
         return Ok(false);
@@ -138,12 +141,13 @@ fn is_too_long(text: &[u8], grammar: Grammar) -> Result<bool, AllocError> {
     Ok(is_too_long_in(text, grammar, buffer.as_mut_slice()))
 }
 
-/// The same, found in a buffer that has 8 bytes more than the text.
+/// Returns whether some version begins with the bytes, but every such version is longer than the
+/// dialect allows. The buffer has to be at least 8 bytes longer than the string.
 fn is_too_long_in(text: &[u8], grammar: Grammar, buffer: &mut [u8]) -> bool {
     begins(text, Length::Any, grammar, buffer) && !begins(text, Length::Allowed, grammar, buffer)
 }
 
-/// The bytes up to an offset, and the one at it, if there is one.
+/// Returns the bytes up to an offset, and the byte at it, if there is one.
 fn with_next(input: &[u8], offset: usize) -> &[u8] {
     if offset < input.len() {
         &input[..offset + 1]
@@ -152,7 +156,8 @@ fn with_next(input: &[u8], offset: usize) -> &[u8] {
     }
 }
 
-/// Returns where and why a text is no valid version, or `None` if it is one.
+/// Returns the error of a version string, with its offset and reason, or `None` if the version is
+/// valid.
 ///
 /// ```text
 /// explain(alloc, b"1.2.03", Grammar::Cargo)?    // at 5: LeadingZero
@@ -163,8 +168,8 @@ fn with_next(input: &[u8], offset: usize) -> &[u8] {
 ///
 /// # Errors
 ///
-/// `AllocError` if an allocation fails. It allocates only if the text is no valid version, and then
-/// one buffer of about its length, or two if it is npm's and longer than 248 bytes.
+/// `AllocError` if an allocation fails. It allocates only if the version is invalid: one buffer of
+/// about its length, or two if the dialect is npm's and the string is longer than 248 bytes.
 pub fn explain(text: &[u8], grammar: Grammar) -> Result<Option<Refusal>, AllocError> {
     if is_version(text, Length::Allowed, grammar) {
         return Ok(None);
@@ -172,7 +177,7 @@ pub fn explain(text: &[u8], grammar: Grammar) -> Result<Option<Refusal>, AllocEr
     Ok(Some(refused(text, grammar)?))
 }
 
-/// Where and why a text is an invalid version, if it is one.
+/// Returns the error of an invalid version string.
 fn refused(input: &[u8], grammar: Grammar) -> Result<Refusal, AllocError> {
     let text = text_prefix(input);
     let mut buffer = String::fallible_with_capacity(text.len().saturating_add(8))?;
@@ -183,7 +188,8 @@ fn refused(input: &[u8], grammar: Grammar) -> Result<Refusal, AllocError> {
     Ok(Refusal { offset, reason })
 }
 
-/// The reason at the end of a prefix, by the byte after it, and whether both are too long.
+/// Returns the reason at the end of a prefix. `next` is the byte after it, and `too_long` is
+/// whether the prefix with that byte is too long.
 fn reason_at(
     prefix: &str,
     next: Option<u8>,

@@ -7,8 +7,8 @@ use crate::proved::semver_texts::bytes::count_dots;
 use crate::proved::semver_texts::grammar::Grammar;
 use crate::proved::semver_versions::version::outline_in;
 
-/// What completes a prefix of a version: nothing is missing after a number or an identifier; a
-/// letter is in an identifier, and numbers before them.
+/// The strings that complete a prefix of a version. After a number or an identifier nothing is
+/// missing; an identifier needs a letter; before that, numbers are missing.
 const COMPLETIONS: [&str; 7] = ["", "a", "0", ".0", "0.0", ".0.0", "0.0.0"];
 
 /// The versions of a dialect.
@@ -26,7 +26,7 @@ impl Language for Versions {
         &COMPLETIONS
     }
 
-    /// By how many of the numbers are missing.
+    /// The index depends on how many of the numbers are missing.
     fn likely(&self, prefix: &str) -> usize {
         let dots = count_dots(prefix.as_bytes());
         let ends = prefix

@@ -1,5 +1,5 @@
 // Made by tools/erase.py from crates/range_terms/src/lib.rt; not edited by hand.
-//! The terms of a range text as plain data: what is written, and where.
+//! The terms of a range string as plain data: what is written, and at which offsets.
 
 use crate::rattle_std::prelude::*;
 pub mod term;

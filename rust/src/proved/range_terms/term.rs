@@ -1,11 +1,11 @@
 // Made by tools/erase.py from crates/range_terms/src/term.rt; not edited by hand.
-//! A term of a range text, as it is written.
+//! A term of a range string, as it is written.
 
 use crate::rattle_std::prelude::*;
 use crate::proved::semver_versions::version::Outline;
 use crate::rattle_std::fmt;
 
-/// What a term begins with, or that it is a hyphen range.
+/// The operator at the beginning of a term, or that of a hyphen range.
 ///
 /// ```
 /// use semver_parser::{terms, Dialect, Operator};
@@ -17,7 +17,7 @@ use crate::rattle_std::fmt;
 #[derive(Clone, Copy, PartialEq, Eq, Hash, Debug)]
 #[non_exhaustive]
 pub enum Operator {
-    /// Nothing: `1.2`.
+    /// No operator: `1.2`.
     Bare,
     /// `=`.
     Equal,
@@ -38,8 +38,8 @@ pub enum Operator {
 }
 
 impl Operator {
-    /// Returns its number in the C API. The operators of comparators have the numbers that they have
-    /// there.
+    /// Returns the number of the operator in the C API. The operators of comparators have the same
+    /// numbers there.
     ///
     /// ```
     /// use semver_parser::Operator;
@@ -61,8 +61,8 @@ impl Operator {
         }
     }
 
-    /// Returns how it is written: `~` for `~>` too, `-` for a hyphen range, and an empty string if
-    /// nothing is before the version.
+    /// Returns the operator as it is written: `~` also for `~>`, `-` for a hyphen range, and an
+    /// empty string if there is no operator.
     ///
     /// ```
     /// use semver_parser::Operator;
@@ -97,15 +97,16 @@ impl Operator {
 /// ```
 #[derive(Clone, Copy, PartialEq, Eq, Hash, Debug)]
 pub enum Component {
-    /// A number. One above 2^64 - 1, which can only be after a wildcard, is 2^64 - 1.
+    /// A number. A number above 2^64 - 1, which is possible only after a wildcard, is given as 2^64
+    /// - 1.
     Number(u64),
-    /// A wildcard: `x`, `X` or `*`, as it is written.
+    /// A wildcard as it is written: `x`, `X` or `*`.
     Wildcard(char),
 }
 
 impl fmt::Display for Component {
-    /// Writes the number, or the wildcard as it is written. It does not allocate, and its only error
-    /// is the writer's.
+    /// Writes the number, or the wildcard as it is written. It does not allocate, and its only
+    /// error is the writer's.
     fn fmt(&self, f: &mut fmt::Formatter<'_>) -> fmt::Result {
         match self {
             Component::Number(number) => write!(f, "{number}"),
@@ -114,7 +115,8 @@ impl fmt::Display for Component {
     }
 }
 
-/// Where something is in a string: from a byte to the byte after it.
+/// The position of something in a string: the offset of its first byte and the offset after its
+/// last.
 ///
 /// ```
 /// use semver_parser::{terms, Dialect, Span};
@@ -132,7 +134,7 @@ pub struct Span {
     pub end: usize,
 }
 
-/// A version as a term states it, with one to three components.
+/// The version of a term, with one to three components.
 ///
 /// ```
 /// use semver_parser::{terms, Component, Dialect, Span};
@@ -146,7 +148,7 @@ pub struct Span {
 /// ```
 #[derive(Clone, Copy, PartialEq, Eq, Hash, Debug)]
 pub struct PartialVersion<'text> {
-    /// Where it is in the string, with its `v`.
+    /// The position in the string, including a `v`.
     pub span: Span,
     /// Whether it begins with `v`, which only npm's dialect has.
     pub has_v: bool,
@@ -163,10 +165,10 @@ pub struct PartialVersion<'text> {
 }
 
 impl<'text> PartialVersion<'text> {
-    /// Returns the numbers of another version in the form of this one: with as many components, with
-    /// its wildcards, and with a `v` if it has one. The pre-release of the other version is kept if
-    /// three numbers are stated here, and its build metadata is left out. The span stays that of this
-    /// version, whose string the result may replace.
+    /// Returns the numbers of another version in the form of this one: with as many components,
+    /// with its wildcards, and with a `v` if it has one. The pre-release of the other version is
+    /// kept if this one has three numbers, and its build metadata is left out. The span stays that
+    /// of this version, whose string the result may replace.
     ///
     /// ```
     /// use semver_parser::{terms, Dialect, VersionRef};
@@ -197,7 +199,7 @@ impl<'text> PartialVersion<'text> {
         }
     }
 
-    /// Whether it states three numbers.
+    /// Returns whether it has three numbers.
     fn states_three(&self) -> bool {
         matches!(
             (self.major, self.minor, self.patch),
@@ -210,7 +212,7 @@ impl<'text> PartialVersion<'text> {
     }
 }
 
-/// A component with another number; a wildcard stays as it is.
+/// Returns a component with another number; a wildcard stays as it is.
 fn with_number(component: Component, number: u64) -> Component {
     match component {
         Component::Number(_) => Component::Number(number),
@@ -218,7 +220,7 @@ fn with_number(component: Component, number: u64) -> Component {
     }
 }
 
-/// The same, if it is written.
+/// Returns a component with another number, if it is written; a wildcard stays as it is.
 fn with_number_if_written(component: Option<Component>, number: u64) -> Option<Component> {
     match component {
         Some(component) => Some(with_number(component, number)),
@@ -272,14 +274,14 @@ fn write_part(f: &mut fmt::Formatter<'_>, mark: &str, part: &str) -> fmt::Result
 /// ```
 #[derive(Clone, Copy, PartialEq, Eq, Hash, Debug)]
 pub struct Term<'text> {
-    /// How many `||` are before it: the index of its range.
+    /// The index of its range: the number of `||` before it.
     pub range: usize,
-    /// What it begins with, or that it is a hyphen range.
+    /// The operator at its beginning, or that of a hyphen range.
     pub operator: Operator,
-    /// Where it is in the string, from its operator to the end of its last version.
+    /// The position in the string, from the operator to the end of the last version.
     pub span: Span,
-    /// Its version, which of a hyphen range is the one before the hyphen.
+    /// Its version. In a hyphen range, it is the one before the hyphen.
     pub version: PartialVersion<'text>,
-    /// The version after the hyphen of a hyphen range.
+    /// The version after the hyphen of a hyphen range, and `None` for any other term.
     pub upper: Option<PartialVersion<'text>>,
 }

@@ -1,5 +1,5 @@
 // Made by tools/erase.py from crates/range_terms/src/terms.rt; not edited by hand.
-//! The terms of a range text, one after the other. Nothing here allocates.
+//! Iterates over the terms of a range string. Nothing here allocates.
 
 use crate::rattle_std::prelude::*;
 use crate::proved::range_terms::term::{Component, Operator, PartialVersion, Span, Term};
@@ -14,8 +14,8 @@ use crate::proved::tool_ranges::dialect::Dialect;
 use crate::proved::tool_ranges::meaning::{Meaning, check};
 use crate::proved::version_sets::PreReleases;
 
-/// The terms of a range, one after the other, as they are written. It borrows the string and
-/// allocates nothing. An empty range, such as the second of `1.2 ||`, has no term.
+/// An iterator over the terms of a range, as they are written. It borrows the string and allocates
+/// nothing. An empty range, such as the second of `1.2 ||`, has no term.
 ///
 /// ```
 /// use semver_parser::{terms, Dialect, Operator};
@@ -36,26 +36,27 @@ use crate::proved::version_sets::PreReleases;
 /// ```
 #[derive(Debug)]
 pub struct Terms<'text> {
-    /// The length of the whole text.
+    /// The length of the whole string.
     len: usize,
     grammar: Grammar,
-    /// How many `||` are before the rest.
+    /// The number of `||` before the rest.
     range: usize,
     rest: &'text [u8],
 }
 
 impl<'text> Terms<'text> {
-    /// Checks a range string of a dialect, and returns its terms.
+    /// Checks a range string in a dialect, and returns its terms.
     ///
-    /// Another partial version of the dialect's grammar may replace the one at the span of a version,
-    /// and the string is in the grammar again. In Cargo's dialect it must state a number. Check the
-    /// string all the same, since one of its numbers may be too large.
+    /// If the part of the string at the span of a version is replaced by another partial version of
+    /// the dialect's grammar, the string is still in the grammar. In Cargo's dialect the
+    /// replacement must have a number. Check the new string anyway, since one of its numbers may be
+    /// too large.
     ///
     /// # Errors
     ///
-    /// Those of `check_range`, without a string: `NotARange` if and only if the string isn't a range
-    /// of the dialect, and `NumberTooLarge` if and only if it is one, and a number that it states or
-    /// a bound that is raised by one is above the dialect's limit.
+    /// The errors of `check_range`, without a string: `NotARange` if and only if the string isn't a
+    /// range in the dialect, and `NumberTooLarge` if and only if it is a range, but one of its
+    /// numbers, or a bound that is raised by one, is above the dialect's limit.
     ///
     /// ```
     /// use semver_parser::{Dialect, RangeError, Terms};
@@ -104,7 +105,7 @@ pub fn copy<'text>(terms: &Terms<'text>) -> Terms<'text> {
     }
 }
 
-/// The term of an operator and one version, or of the two versions of a hyphen range.
+/// Returns the term of an operator and one version, or of the two versions of a hyphen range.
 fn term<'text>(
     range: usize,
     form: Form,
@@ -125,7 +126,7 @@ fn term<'text>(
     }
 }
 
-/// The operator of what is before a partial version.
+/// Returns the operator before a partial version.
 fn operator_of(form: Form) -> Operator {
     match form {
         Form::Bare => Operator::Bare,
@@ -139,8 +140,8 @@ fn operator_of(form: Form) -> Operator {
     }
 }
 
-/// What follows the blanks and the pairs of bars at the front of a text, and how many pairs these
-/// are.
+/// Returns how many pairs of bars are at the beginning of a string, among blanks, and what follows
+/// them and the blanks.
 fn after_ranges(text: &[u8], grammar: Grammar) -> (usize, &[u8]) {
     let mut bars = 0;
     let mut rest = after_blanks(text, grammar);
@@ -153,7 +154,8 @@ fn after_ranges(text: &[u8], grammar: Grammar) -> (usize, &[u8]) {
     }
 }
 
-/// The version at the front of what is left of a text of some length, and what follows it.
+/// Returns the version at the beginning of the rest of a string, and what follows it. `len` is the
+/// length of the whole string.
 fn read_version(text: &[u8], grammar: Grammar, len: usize) -> Option<(PartialVersion<'_>, &[u8])> {
     let word = after_v(text, grammar);
     let (written, rest) = read_components(word)?;
@@ -164,12 +166,12 @@ fn read_version(text: &[u8], grammar: Grammar, len: usize) -> Option<(PartialVer
     Some((version(span, begins_with_v(text), word, &written), rest))
 }
 
-/// Whether a text begins with `v`.
+/// Returns whether a string begins with `v`.
 fn begins_with_v(text: &[u8]) -> bool {
     matches!(text, [b'v', ..])
 }
 
-/// The version of the components that are at the front of a text.
+/// Returns the version with the components that are at the beginning of a string.
 fn version<'text>(
     span: Span,
     has_v: bool,
@@ -189,7 +191,7 @@ fn version<'text>(
     }
 }
 
-/// What follows the first dot of a text: nothing if there is none.
+/// Returns what follows the first dot of a string, which is nothing if there is none.
 fn after_dot(text: &[u8]) -> &[u8] {
     match split_at_dot(text) {
         (_, Some(after)) => after,
@@ -197,7 +199,7 @@ fn after_dot(text: &[u8]) -> &[u8] {
     }
 }
 
-/// The component that was read at the front of a text.
+/// Returns the component that was read at the beginning of a string.
 fn component(read: partial::Component, text: &[u8]) -> Component {
     match read {
         partial::Component::Number(number) => Component::Number(number.unwrap_or(u64::MAX)),
@@ -205,7 +207,7 @@ fn component(read: partial::Component, text: &[u8]) -> Component {
     }
 }
 
-/// The wildcard at the front of a text.
+/// Returns the wildcard at the beginning of a string.
 fn wildcard(text: &[u8]) -> char {
     match text {
         [b'X', ..] => 'X',
@@ -214,8 +216,8 @@ fn wildcard(text: &[u8]) -> char {
     }
 }
 
-/// The version after a hyphen, if what follows a version goes on with one; and what is left after
-/// it, after the blanks, or after a comma.
+/// Returns the version after a hyphen, if what follows a version continues with one, and what is
+/// left after it, after the blanks, or after a comma.
 fn read_upper(text: &[u8], grammar: Grammar, len: usize) -> (Option<PartialVersion<'_>>, &[u8]) {
     let gap = after_blanks(text, grammar);
     if let Some(others) = strip_mark(gap, b',') {

@@ -1,16 +1,16 @@
 // Made by tools/erase.py from crates/release_filter/src/counts.rt; not edited by hand.
-//! How many lines a text has, how many of these are kept, how many have no version, and the first
+//! Counts the lines of a text, the kept ones, and the ones without a version, and keeps the first
 //! of those.
 
 use crate::rattle_std::prelude::*;
 use crate::proved::release_filter::judge::Judged;
 use crate::rattle_std::AllocError;
 
-/// So many bytes of the first line that is invalid are kept.
+/// The number of bytes that are kept of the first invalid line.
 const FRONT: usize = 81;
 
-/// How many lines a text has, and how many of these are kept or have no version. Each count stops
-/// at 2^64 - 1.
+/// The number of lines of a text, and how many of them are kept or have no version. Each count
+/// stops at 2^64 - 1.
 ///
 /// ```
 /// use semver_parser::filters::{LineOptions, Lines};
@@ -25,15 +25,15 @@ const FRONT: usize = 81;
 /// ```
 #[derive(Debug)]
 pub struct Counts {
-    /// The lines that have ended, and the last one, once the end of the text was taken.
+    /// The lines that have ended. When the end of the text is taken, the last line is included.
     pub lines: u64,
-    /// Those of them that are kept, whichever of these are wanted.
+    /// The kept lines, whichever of these are wanted.
     pub kept: u64,
-    /// Those of them whose text is empty.
+    /// The lines whose text is empty.
     pub empty: u64,
-    /// Those of them that are invalid: they aren't empty, and have no version.
+    /// The invalid lines: they aren't empty, and have no version.
     pub invalid: u64,
-    /// The first invalid one.
+    /// The first invalid line.
     pub first_invalid: Option<InvalidLine>,
 }
 
@@ -52,14 +52,14 @@ pub struct Counts {
 /// ```
 #[derive(Debug)]
 pub struct InvalidLine {
-    /// Its number: that of the first line is 1.
+    /// Its number, where the first line has number 1.
     pub number: u64,
-    /// The first 81 bytes of its text, without what ends it; fewer if it is shorter.
+    /// The first 81 bytes of its text, without the line's end, or all of it if it is shorter.
     pub front: Vec<u8>,
 }
 
 impl Counts {
-    /// Counts no line.
+    /// Returns counts of no lines.
     pub(crate) fn new() -> Counts {
         Counts {
             lines: 0,
@@ -70,7 +70,8 @@ impl Counts {
         }
     }
 
-    /// Counts a line of which this is said, and returns whether it isn't an invalid one.
+    /// Counts a line, given what the filter decided about it, and returns whether the line is
+    /// valid. `Err` means out of memory.
     #[inline(always)]
     pub(crate) fn count(&mut self, judged: &Judged<'_>) -> Result<bool, AllocError> {
         match judged {
@@ -82,7 +83,8 @@ impl Counts {
         Ok(true)
     }
 
-    /// Counts a line of this text, which has no version, and returns whether it is empty.
+    /// Counts a line with this text, which has no version, and returns whether it is empty. `Err`
+    /// means out of memory.
     fn count_without_version(&mut self, text: &[u8]) -> Result<bool, AllocError> {
         let number = self.lines.saturating_add(1);
         if text.is_empty() {
@@ -96,7 +98,8 @@ impl Counts {
         Ok(false)
     }
 
-    /// Keeps the front of an invalid line of this number and text, if it is the first one.
+    /// Keeps the beginning of an invalid line with this number and text, if it is the first one.
+    /// `Err` means out of memory.
     fn keep_first(&mut self, number: u64, text: &[u8]) -> Result<(), AllocError> {
         if self.first_invalid.is_none() {
             let front = Vec::fallible_from_slice(&text[..text.len().min(FRONT)])?;

@@ -1,12 +1,12 @@
 // Made by tools/erase.py from crates/release_filter/src/judge.rt; not edited by hand.
-//! What a range says of a line: a function of its bytes.
+//! Decides whether a line is kept. This depends only on its bytes.
 
 use crate::rattle_std::prelude::*;
 use crate::proved::release_filter::line_texts::{LONGEST, LineEnd, text_after, text_of};
 use crate::proved::semver_versions::version::{Outline, outline_in};
 use crate::proved::tool_ranges::version_range::VersionRange;
 
-/// Which lines are kept, and what is given of one.
+/// The range, and how the lines are read and written.
 #[derive(Debug)]
 pub(crate) struct Judge {
     pub(crate) range: VersionRange,
@@ -15,20 +15,20 @@ pub(crate) struct Judge {
     pub(crate) strips_prefix: bool,
 }
 
-/// What a range says of a line.
+/// What was decided about a line.
 #[derive(Debug)]
 pub(crate) enum Judged<'l> {
-    /// This is its text, which has no version.
+    /// Its text has no version. This is the text.
     NotAVersion(&'l [u8]),
     /// It has a version that the range doesn't contain.
     Outside,
-    /// It has the version of this outline, which the range contains, and this is given of it.
+    /// It has this version, which the range contains, and these are the bytes to write.
     Kept(Outline<'l>, &'l [u8]),
 }
 
 impl Judge {
-    /// What the range says of a line: the first prefix after which its text has a version decides.
-    /// Without a prefix it is as with the empty one.
+    /// Decides about a line. The first prefix after which its text has a version decides. Without
+    /// any prefix it is as with the empty one.
     #[inline(always)]
     pub(crate) fn judge<'l>(&self, line: &'l [u8]) -> Judged<'l> {
         let text = text_of(line, self.ending);
@@ -41,8 +41,8 @@ impl Judge {
         }
     }
 
-    /// What the range says of a line of this text, after the first of the prefixes after which it
-    /// spells a version.
+    /// Decides about a line with this text, after the first of the prefixes after which it spells a
+    /// version.
     fn judge_after_each<'l>(
         &self,
         prefixes: &[String],
@@ -58,7 +58,7 @@ impl Judge {
         }
     }
 
-    /// What the range says of a line of this text, after this prefix.
+    /// Decides about a line with this text, after this prefix.
     #[inline(always)]
     fn judge_after<'l>(&self, prefix: &str, text: &'l [u8], line: &'l [u8]) -> Judged<'l> {
         let Some(rest) = text_after(prefix, text) else {
@@ -74,7 +74,7 @@ impl Judge {
         }
     }
 
-    /// What is given of a line that has a version after so many bytes.
+    /// Returns the bytes to write for a line that has a version after `count` bytes.
     #[inline(always)]
     fn given<'l>(&self, line: &'l [u8], count: usize) -> &'l [u8] {
         if self.strips_prefix {

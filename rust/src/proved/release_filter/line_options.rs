@@ -1,11 +1,11 @@
 // Made by tools/erase.py from crates/release_filter/src/line_options.rt; not edited by hand.
-//! What is done with lines.
+//! Options for lines.
 
 use crate::rattle_std::prelude::*;
 use crate::proved::release_filter::line_texts::LineEnd;
 use crate::proved::release_filter::selection::Selection;
 
-/// What [`Lines`](crate::proved::release_filter::lines::Lines) does with lines.
+/// The options of [`Lines`](crate::proved::release_filter::lines::Lines).
 ///
 /// ```
 /// use semver_parser::filters::{LineOptions, Lines, Selection};
@@ -30,15 +30,15 @@ pub struct LineOptions {
     pub selection: Selection,
     /// What ends a line.
     pub ending: LineEnd,
-    /// Whether a kept line is given without the prefix that its version is after.
+    /// Whether a kept line is written without the prefix before its version.
     pub strips_prefix: bool,
     /// Whether a line that isn't empty and has no version is an error.
     pub is_strict: bool,
 }
 
 impl LineOptions {
-    /// Returns the options by default: each kept line is wanted, as it is, a line feed ends a line,
-    /// and a line without a version is no error.
+    /// Returns the default options: every kept line is wanted and stays as it is, a line feed ends
+    /// a line, and a line without a version is not an error.
     ///
     /// ```
     /// use semver_parser::filters::{LineEnd, LineOptions, Selection};

@@ -1,6 +1,6 @@
 // Made by tools/erase.py from crates/release_filter/src/lines.rt; not edited by hand.
-//! The lines of a text that comes in pieces, and which of them a filter keeps. A line is held until
-//! it ends, up to what shows that it has no version: a text of more than 1,048,576 bytes has none.
+//! Filters the lines of a text that comes in pieces. A line is held until it ends, but no more of
+//! it than shows that it has no version: a text of more than 1,048,576 bytes has none.
 
 use crate::rattle_std::prelude::*;
 use crate::proved::release_filter::counts::Counts;
@@ -11,7 +11,7 @@ use crate::proved::release_filter::line_texts::{after_mark, closing, cut, first_
 use crate::rattle_std::AllocError;
 use crate::proved::tool_ranges::version_range::VersionRange;
 
-/// Why lines were not taken to the end.
+/// Why not all lines were taken.
 ///
 /// ```
 /// use semver_parser::filters::{LineOptions, Lines, LinesError};
@@ -30,7 +30,7 @@ use crate::proved::tool_ranges::version_range::VersionRange;
 pub enum LinesError {
     /// An allocation failed.
     OutOfMemory,
-    /// The line of this number is not empty and has no version. The first line is line 1.
+    /// The line with this number is not empty and has no version. The first line is line 1.
     NoVersion(u64),
 }
 
@@ -52,21 +52,20 @@ impl From<AllocError> for LinesError {
     }
 }
 
-/// The lines of a text that comes in pieces of any length, and which of them a filter keeps.
+/// The lines of a text that comes in pieces of any length, and the filter that keeps some of them.
 ///
-/// A line ends with a line feed, or with a zero byte ([`LineEnd`](crate::proved::release_filter::line_texts::LineEnd)), and
-/// the last one may have none. Its text is the line without that, and without one carriage return
-/// before a line feed. A line is kept if its text is one of the prefixes and then spells a version
-/// that matches, in the dialect of the filter. In the crate's and npm's, white space may be around
-/// the version. The first prefix after which it spells a version decides.
-/// Without a prefix it is as with the empty one. A text of more than 1,048,576 bytes has no
-/// version.
+/// A line ends with a line feed, or with a zero byte ([`LineEnd`](crate::proved::release_filter::line_texts::LineEnd)); the
+/// last one may have no end. Its text is the line without its end, and without one carriage return
+/// before a line feed. A line is kept if its text is one of the prefixes followed by a version that
+/// matches, in the dialect of the filter. The crate's and npm's dialects allow white space around
+/// the version. The first prefix after which the text spells a version decides. Without any prefix
+/// it is as with the empty one. A text of more than 1,048,576 bytes has no version.
 ///
-/// A byte order mark at the front of the text is dropped, also one that is cut between pieces.
+/// A byte order mark at the beginning of the text is dropped, even if it is cut between pieces.
 ///
-/// A line that goes on into the next piece is held until it ends, but no more of it than shows that
+/// A line that continues in the next piece is held until it ends, but no more of it than shows that
 /// its text is too long. So memory is bounded, however long a line is. After an error only the
-/// counts are of use.
+/// counts can be used.
 ///
 /// ```
 /// use semver_parser::filters::{LineOptions, Lines};
@@ -87,7 +86,7 @@ pub struct Lines {
     begun: Vec<u8>,
 }
 
-/// What is done with each line, and what came of those so far.
+/// The options for lines, and the state after the lines so far.
 #[derive(Debug)]
 pub(crate) struct Fold {
     pub(crate) judge: Judge,
@@ -97,7 +96,7 @@ pub(crate) struct Fold {
 }
 
 impl Lines {
-    /// Returns the lines of a text of which no byte was taken yet.
+    /// Returns the lines of a text from which no byte was taken yet.
     ///
     /// ```
     /// use semver_parser::filters::{LineOptions, Lines};
@@ -133,20 +132,20 @@ impl Lines {
         }
     }
 
-    /// Takes the next bytes of the text, and appends of the lines that these end the kept ones that
-    /// are wanted at once.
+    /// Takes the next bytes of the text. Of the lines that end in them, it appends the kept ones
+    /// that are wanted at once.
     ///
     /// # Errors
     ///
     /// `OutOfMemory` if an allocation fails. `NoVersion`, only if the lines are strict, for the
-    /// first line that isn't empty and has no version. Then lines were taken up to the error: what
-    /// they append was appended, and they are counted. After an error only the counts are of use.
+    /// first line that isn't empty and has no version. Lines before the error were taken: their
+    /// output was appended, and they are counted. After an error only the counts can be used.
     ///
     /// # Details
     ///
-    /// A kept line is appended as it is, with the byte that ends it, but for a byte order mark at
-    /// the front of the text, and for its prefix where prefixes are stripped. What a text appends
-    /// doesn't depend on how it is cut into pieces.
+    /// A kept line is appended as it is, with the byte that ends it. Only a byte order mark at the
+    /// beginning of the text is left out, and the prefix if prefixes are stripped. The output for a
+    /// text doesn't depend on how it is cut into pieces.
     ///
     /// ```
     /// use semver_parser::filters::{LineOptions, Lines};
@@ -176,20 +175,20 @@ impl Lines {
         self.begin_line(begun)
     }
 
-    /// Takes the end of the text, with the last line if it has no end of its own, and appends the
-    /// rest of the answer.
+    /// Takes the end of the text, and the last line if it has no end of its own, and appends the
+    /// rest of the output.
     ///
     /// # Errors
     ///
     /// `OutOfMemory` if an allocation fails. `NoVersion`, only if the lines are strict, if the last
-    /// line isn't empty and has no version: it is counted. After an error only the counts are of
-    /// use.
+    /// line isn't empty and has no version; it is counted. After an error only the counts can be
+    /// used.
     ///
     /// # Details
     ///
-    /// A last line without an end gets one if the lines are sorted, and otherwise stays as it is.
-    /// Then no byte of a text was taken, as after [`Lines::new`], so that another text can be
-    /// pushed. The lines of both are counted.
+    /// A last line without an end gets one if the lines are sorted; otherwise it stays as it is.
+    /// After that, no byte of a text was taken, as after [`Lines::new`], so another text can be
+    /// pushed. The lines of both texts are counted.
     ///
     /// ```
     /// use semver_parser::filters::{LineOptions, Lines, Selection};
@@ -211,14 +210,15 @@ impl Lines {
         Ok(())
     }
 
-    /// Takes the end of a file that another one follows in the same text: its last line gets an end
-    /// if it has none of its own, and a byte order mark at the front of the next file is dropped.
+    /// Takes the end of a file that is followed by another one in the same text. Its last line gets
+    /// an end if it has none of its own, and a byte order mark at the beginning of the next file is
+    /// dropped.
     ///
     /// # Errors
     ///
     /// `OutOfMemory` if an allocation fails. `NoVersion`, only if the lines are strict, if the last
-    /// line isn't empty and has no version: it is counted. After an error only the counts are of
-    /// use.
+    /// line isn't empty and has no version; it is counted. After an error only the counts can be
+    /// used.
     ///
     /// ```
     /// use semver_parser::filters::{LineOptions, Lines};
@@ -256,7 +256,7 @@ impl Lines {
         &self.fold.counts
     }
 
-    /// Takes the end of a file: a line that has no end gets one, if it is to have one.
+    /// Takes the end of a file. A last line without an end gets one if `closes`.
     fn end(&mut self, closes: bool, kept: &mut Vec<u8>) -> Result<(), LinesError> {
         let line = after_mark(self.at_front, self.begun.as_slice());
         let end = [self.fold.judge.ending.byte()];
@@ -266,13 +266,13 @@ impl Lines {
         Ok(())
     }
 
-    /// Holds more bytes of the line that has begun, if some may be needed.
+    /// Holds more bytes of the line that has begun, if they may be needed.
     fn begin_line(&mut self, bytes: &[u8]) -> Result<(), LinesError> {
         hold(&mut self.begun, bytes)?;
         Ok(())
     }
 
-    /// Takes the line that has begun, with these bytes, if it isn't empty then.
+    /// Takes the line that has begun, with these bytes appended, unless it is empty then.
     fn end_line(&mut self, end: &[u8], kept: &mut Vec<u8>) -> Result<(), LinesError> {
         hold(&mut self.begun, end)?;
         let line = after_mark(self.at_front, self.begun.as_slice());
@@ -310,7 +310,7 @@ impl Fold {
         Ok(())
     }
 
-    /// Takes a line, if it isn't empty.
+    /// Takes a line, unless it is empty.
     fn take_some(
         &mut self,
         line: &[u8],

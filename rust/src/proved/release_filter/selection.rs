@@ -1,5 +1,5 @@
 // Made by tools/erase.py from crates/release_filter/src/selection.rt; not edited by hand.
-//! Which of the kept lines are wanted, and those that are held until the end of the text.
+//! Which of the kept lines are wanted, and the lines that are held until the end of the text.
 
 use crate::rattle_std::prelude::*;
 use crate::proved::release_filter::held::{Held, SelectedLine};
@@ -26,29 +26,29 @@ use crate::rattle_std::cmp::Ordering;
 /// ```
 #[derive(Clone, Copy, Debug, PartialEq, Eq)]
 pub enum Selection {
-    /// Each, as soon as it has ended.
+    /// Every kept line, as soon as it has ended.
     Each,
-    /// The one with the highest version by precedence (SemVer 2.0.0, section 11), and the first of
-    /// those with an equal one; builds don't count.
+    /// The line with the highest version by precedence (SemVer 2.0.0, section 11). Of lines with
+    /// equal versions, it is the first. Build metadata is ignored.
     Highest,
-    /// The one with the lowest version, and the first of those with an equal one.
+    /// The line with the lowest version. Of lines with equal versions, it is the first.
     Lowest,
-    /// All, from the lowest version to the highest, and those of equal versions in their order. A
-    /// line without the byte that ends lines gets it.
+    /// All kept lines, from the lowest version to the highest. Lines with equal versions stay in
+    /// their order. A line without the byte that ends lines gets it.
     Sorted,
     /// The lines of [`Selection::Sorted`], in reverse order.
     Reversed,
 }
 
 impl Selection {
-    /// Whether the lines are sorted: then each gets an end.
+    /// Returns whether the lines are sorted, so that each gets an end.
     pub(crate) fn closes_lines(self) -> bool {
         matches!(self, Selection::Sorted | Selection::Reversed)
     }
 }
 
-/// A kept line, and its index among the kept ones: by that a sort without a buffer keeps lines of
-/// equal versions in their order.
+/// A kept line, and its index among the kept ones. With the index, a sort without a buffer leaves
+/// lines with equal versions in their order.
 #[derive(Clone, Copy)]
 struct IndexedLine<'k> {
     index: usize,
@@ -56,7 +56,7 @@ struct IndexedLine<'k> {
 }
 
 impl IndexedLine<'_> {
-    /// How it compares with another: by precedence, then by the index.
+    /// Compares two lines: first by precedence, then by the index.
     fn compare(&self, other: &IndexedLine<'_>) -> Ordering {
         let versions = self.line.version.compare(&other.line.version);
         versions.then(self.index.cmp(&other.index))
@@ -64,7 +64,7 @@ impl IndexedLine<'_> {
 }
 
 impl Held {
-    /// Holds no line.
+    /// Returns a state that holds no line.
     pub(crate) fn new(selection: Selection) -> Held {
         Held {
             selection,
@@ -72,7 +72,7 @@ impl Held {
         }
     }
 
-    /// Appends a line, or holds it, if it is kept: this is said of it.
+    /// Appends or holds a line, if it was decided to keep it. `Err` means out of memory.
     #[inline(always)]
     pub(crate) fn keep(
         &mut self,
@@ -85,7 +85,7 @@ impl Held {
         Ok(())
     }
 
-    /// Appends a kept line of this outline, or holds it.
+    /// Appends or holds a kept line with this version. `Err` means out of memory.
     #[inline(always)]
     fn keep_line(
         &mut self,
@@ -105,8 +105,8 @@ impl Held {
         }
     }
 
-    /// Holds a line of this outline alone, if it is better than the best so far, in the memory of
-    /// that.
+    /// Holds only this line, if it is better than the best one so far. It reuses the memory of that
+    /// one. `Err` means out of memory.
     fn hold_best(
         &mut self,
         outline: &Outline<'_>,
@@ -127,7 +127,7 @@ impl Held {
         Ok(())
     }
 
-    /// Appends the lines that are held, sorted, and holds none any more.
+    /// Appends the held lines in order, and holds none afterwards. `Err` means out of memory.
     pub(crate) fn finish(&mut self, kept: &mut Vec<u8>) -> Result<(), AllocError> {
         append_sorted(self.lines.as_slice(), self.selection, kept)?;
         self.lines.clear();
@@ -135,8 +135,8 @@ impl Held {
     }
 }
 
-/// Whether the version of an outline is to be held in place of the best so far: there is none, or
-/// it is above that, or, if the lowest is wanted, below it.
+/// Returns whether a version is better than the best one so far: there is none, or the version is
+/// above it, or below it if the lowest is wanted.
 #[inline(always)]
 fn is_better(selection: Selection, outline: &Outline<'_>, held: &[SelectedLine]) -> bool {
     let [best, ..] = held else {
@@ -151,7 +151,8 @@ fn is_better(selection: Selection, outline: &Outline<'_>, held: &[SelectedLine])
     }
 }
 
-/// The lines that are held, sorted by their versions, as they are wanted.
+/// Returns the held lines, sorted by their versions, in the wanted order. `Err` means out of
+/// memory.
 fn sorted<'k>(
     held: &'k [SelectedLine],
     selection: Selection,
@@ -166,7 +167,7 @@ fn sorted<'k>(
     Ok(lines)
 }
 
-/// Puts sorted lines into the order in which they are wanted.
+/// Puts sorted lines into the wanted order.
 fn put_in_order(lines: &mut Vec<IndexedLine<'_>>, selection: Selection) {
     match selection {
         Selection::Reversed => lines.reverse(),
@@ -174,7 +175,8 @@ fn put_in_order(lines: &mut Vec<IndexedLine<'_>>, selection: Selection) {
     }
 }
 
-/// Appends the lines that are held, sorted by their versions, as they are wanted.
+/// Appends the held lines, sorted by their versions, in the wanted order. `Err` means out of
+/// memory.
 fn append_sorted(
     held: &[SelectedLine],
     selection: Selection,
@@ -184,7 +186,7 @@ fn append_sorted(
     append(lines.as_slice(), kept)
 }
 
-/// Appends lines, as they are.
+/// Appends lines as they are. `Err` means out of memory.
 fn append(lines: &[IndexedLine<'_>], kept: &mut Vec<u8>) -> Result<(), AllocError> {
     let begun = kept.len();
     for indexed in lines {

@@ -1,34 +1,36 @@
 // Made by tools/erase.py from crates/semver_texts/src/dotted.rt; not edited by hand.
-//! Parts joined by dots after their mark, as the identifiers of a pre-release and those of a build
-//! are written in version texts and in range texts.
+//! Parts joined by dots after their mark, which is how version and range strings have the
+//! identifiers of a pre-release and of build metadata.
 
 use crate::rattle_std::prelude::*;
 use crate::proved::semver_texts::bytes::count_dots;
 use crate::rattle_std::AllocError;
 
-/// Which hyphens a part may have.
+/// The hyphens that a part may have.
 #[derive(Clone, Copy)]
 pub enum Hyphens {
-    /// Any, as in a range text.
+    /// Any, as in a range string.
     Any,
-    /// Those between letters and digits, as in a version text.
+    /// Those between letters and digits, as in a version string.
     BetweenRuns,
 }
 
-/// Whether the byte goes on with a run: a letter or a digit, and a hyphen where any may be.
+/// Returns whether the byte is part of a sequence without separators: a letter or a digit, or a
+/// hyphen if any hyphen is allowed.
 #[inline(always)]
 fn is_run_byte(byte: u8, hyphens: Hyphens) -> bool {
     byte.is_ascii_alphanumeric() || (byte == b'-' && matches!(hyphens, Hyphens::Any))
 }
 
-/// A hyphen or a dot.
+/// Returns whether the byte is a hyphen or a dot.
 #[inline(always)]
 fn is_between_runs(byte: u8) -> bool {
     matches!(byte, b'-' | b'.')
 }
 
-/// How many bytes at the front are parts joined by dots, up to a byte that can't be in them. For
-/// speed, a letter or a digit is taken without a look at the hyphens.
+/// Returns the length of the parts joined by dots at the beginning, up to a byte that can't be in
+/// them, or `None` if they aren't valid. A letter or a digit is accepted without looking at the
+/// hyphens, for speed.
 #[inline(always)]
 fn parts_len(bytes: &[u8], hyphens: Hyphens) -> Option<usize> {
     let mut in_run = false;
@@ -53,7 +55,7 @@ fn parts_len(bytes: &[u8], hyphens: Hyphens) -> Option<usize> {
     in_run.then_some(bytes.len())
 }
 
-/// What follows the mark, where the bytes begin with it.
+/// Returns what follows the mark, if the bytes begin with it.
 #[inline(always)]
 pub fn strip_mark(bytes: &[u8], mark: u8) -> Option<&[u8]> {
     match bytes {
@@ -62,8 +64,8 @@ pub fn strip_mark(bytes: &[u8], mark: u8) -> Option<&[u8]> {
     }
 }
 
-/// The parts after the mark, and what follows them; where the bytes don't begin with the mark,
-/// nothing and all of them. None where what is after the mark are no parts.
+/// Returns the parts after the mark, and what follows them. If the bytes don't begin with the mark,
+/// there are no parts, and everything follows. Returns `None` if invalid parts follow the mark.
 #[inline(always)]
 pub fn marked_part(bytes: &[u8], mark: u8, hyphens: Hyphens) -> Option<(&[u8], &[u8])> {
     let Some(after) = strip_mark(bytes, mark) else {
@@ -73,13 +75,14 @@ pub fn marked_part(bytes: &[u8], mark: u8, hyphens: Hyphens) -> Option<(&[u8], &
     Some(after.split_at(len))
 }
 
-/// How many bytes parts have with their mark: 5 of `rc.1`, and 0 if there are none.
+/// Returns the length in bytes of parts with their mark: 5 for `rc.1`, and 0 if there are none.
 #[inline(always)]
 pub fn marked_len(parts: &[u8]) -> usize {
     if parts.is_empty() { 0 } else { parts.len() + 1 }
 }
 
-/// The text of parts. Their bytes and the dots between them are ASCII, so they always are a text.
+/// Returns parts as a string. Their bytes and the dots between them are ASCII, so this is always
+/// possible.
 pub(crate) fn text_of_parts(bytes: &[u8]) -> &str {
     match crate::rattle_std::str::from_utf8(bytes) {
         Ok(text) => text,
@@ -87,7 +90,8 @@ pub(crate) fn text_of_parts(bytes: &[u8]) -> &str {
     }
 }
 
-/// What is before the first dot, and what follows it; all, where there is no dot.
+/// Returns what is before the first dot, and what follows it. If there is no dot, it returns
+/// everything and `None`.
 #[inline(always)]
 pub fn split_at_dot(bytes: &[u8]) -> (&[u8], Option<&[u8]>) {
     for at in 0..bytes.len() {
@@ -98,8 +102,8 @@ pub fn split_at_dot(bytes: &[u8]) -> (&[u8], Option<&[u8]>) {
     (bytes, None)
 }
 
-/// Whether none of the parts that are digits alone has a leading zero. For speed, parts of which
-/// none begins with a zero are seen first.
+/// Returns whether no numeric part has a leading zero. It first tests whether any part begins with
+/// a zero at all, for speed.
 #[inline(always)]
 pub fn have_no_leading_zeros(parts: &[u8]) -> bool {
     if parts.is_empty() {
@@ -111,8 +115,8 @@ pub fn have_no_leading_zeros(parts: &[u8]) -> bool {
     each_has_no_leading_zero(parts)
 }
 
-/// Whether a part is empty or begins with a zero. For speed, it is asked only of the bytes that
-/// follow a dot.
+/// Returns whether a part is empty or begins with a zero. Only the bytes after a dot are tested,
+/// for speed.
 #[inline(always)]
 fn begins_oddly(parts: &[u8]) -> bool {
     if is_odd(parts) {
@@ -126,14 +130,13 @@ fn begins_oddly(parts: &[u8]) -> bool {
     false
 }
 
-/// Whether the part at the front is empty or begins with a zero.
+/// Returns whether the first part is empty or begins with a zero.
 #[inline(always)]
 fn is_odd(parts: &[u8]) -> bool {
     matches!(parts, [] | [b'.' | b'0', ..])
 }
 
-/// Whether none of the parts that are digits alone has a leading zero, asked of one after the
-/// other.
+/// Returns whether no numeric part has a leading zero, testing one after the other.
 #[inline(never)]
 fn each_has_no_leading_zero(parts: &[u8]) -> bool {
     let mut rest = Some(parts);
@@ -147,21 +150,21 @@ fn each_has_no_leading_zero(parts: &[u8]) -> bool {
     true
 }
 
-/// Whether a part is a number without leading zeros, where it is digits alone.
+/// Returns whether a part, if it is numeric, has no leading zero.
 #[inline(always)]
 fn has_no_leading_zero(part: &[u8]) -> bool {
     let begins_with_zero = part.is_empty() || (part.len() > 1 && part[0] == b'0');
     !(begins_with_zero && are_digits(part))
 }
 
-/// Whether each byte is a digit.
+/// Returns whether each byte is a digit.
 #[inline(always)]
 pub(crate) fn are_digits(part: &[u8]) -> bool {
     part.iter().all(|byte| byte.is_ascii_digit())
 }
 
-/// What [`split_at_dot`] returns, of a text. For speed, it is cut without a look at its characters:
-/// a dot is one.
+/// Returns the result of [`split_at_dot`] for a string. It is cut without looking at its
+/// characters, for speed, since a dot is one of them.
 #[inline(always)]
 fn split_text_at_dot(text: &str) -> (&str, Option<&str>) {
     let bytes = text.as_bytes();
@@ -173,7 +176,8 @@ fn split_text_at_dot(text: &str) -> (&str, Option<&str>) {
     (text, None)
 }
 
-/// What is made of each part between the dots. Their list is asked for once, at its size.
+/// Returns what `make` returns for each part between the dots. Their list is allocated once, in its
+/// final size. `Err` means out of memory.
 fn cut_parts<T, F: Fn(&str) -> Result<T, AllocError>>(
     text: &str,
     make: F,
@@ -188,7 +192,8 @@ fn cut_parts<T, F: Fn(&str) -> Result<T, AllocError>>(
     Ok(made)
 }
 
-/// What is made of each part between the dots; nothing of an empty text, which does not allocate.
+/// Returns what `make` returns for each part between the dots. For an empty string the result is
+/// empty, and nothing is allocated. `Err` means out of memory.
 #[inline(always)]
 pub(crate) fn of_parts<T, F: Fn(&str) -> Result<T, AllocError>>(
     text: &str,

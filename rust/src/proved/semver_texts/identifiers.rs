@@ -1,5 +1,5 @@
 // Made by tools/erase.py from crates/semver_texts/src/identifiers.rt; not edited by hand.
-//! Pre-releases whose identifiers are compared: lists of identifiers, and texts that join them by
+//! Identifiers of pre-releases for comparing: lists of identifiers, and strings that join them by
 //! dots.
 
 use crate::rattle_std::prelude::*;
@@ -12,7 +12,7 @@ use crate::proved::semver_texts::version::Identifier;
 
 /// A type of identifiers.
 pub trait AsIdentifier {
-    /// The identifier as it is compared.
+    /// Returns the identifier for comparing.
     fn as_identifier(&self) -> IdentifierRef<'_>;
 }
 
@@ -42,13 +42,13 @@ impl<'a, T: AsIdentifier> Identifiers<'a> for &'a [T] {
     }
 }
 
-/// How the texts between the dots are read.
+/// How the strings between the dots are read.
 pub trait Reading: Copy {
-    /// The identifier that a text is, as it is compared.
+    /// Returns the identifier that a string is, for comparing.
     fn read(part: &[u8]) -> IdentifierRef<'_>;
 }
 
-/// A text of identifiers joined by dots, of which the first may have been taken.
+/// A string of identifiers joined by dots, some of which may have been taken.
 #[derive(Clone, Copy)]
 pub struct Joined<'a, R> {
     rest: Option<&'a [u8]>,
@@ -56,7 +56,7 @@ pub struct Joined<'a, R> {
 }
 
 impl<'a, R: Reading> Joined<'a, R> {
-    /// The identifiers of a text. There is none if it is empty.
+    /// Returns the identifiers of a string. An empty string has none.
     #[inline(always)]
     pub fn of(text: &'a [u8], reading: R) -> Joined<'a, R> {
         let rest = if text.is_empty() { None } else { Some(text) };
@@ -78,7 +78,7 @@ impl<'a, R: Reading> Identifiers<'a> for Joined<'a, R> {
     }
 }
 
-/// Identifiers as they are kept, of which those of digits alone are read in one way.
+/// Identifiers as they are kept, and how the numeric ones are read.
 #[derive(Clone, Copy)]
 pub struct ByDigits<I> {
     identifiers: I,
@@ -86,7 +86,7 @@ pub struct ByDigits<I> {
 }
 
 impl<'a, I: Identifiers<'a>> ByDigits<I> {
-    /// These identifiers, read so.
+    /// Returns these identifiers, read as `digits` says.
     #[inline(always)]
     pub fn of(identifiers: I, digits: Digits) -> ByDigits<I> {
         ByDigits {
@@ -109,8 +109,8 @@ impl<'a, I: Identifiers<'a>> Identifiers<'a> for ByDigits<I> {
     }
 }
 
-/// An identifier as it is kept, read so. For speed, a text that begins with no digit but 0 is seen
-/// first.
+/// Returns an identifier as it is kept, read as `digits` says. A string that doesn't begin with a
+/// digit above 0 is recognized first, for speed.
 #[inline(always)]
 fn read_by(digits: Digits, identifier: IdentifierRef<'_>) -> IdentifierRef<'_> {
     match identifier {
@@ -122,7 +122,7 @@ fn read_by(digits: Digits, identifier: IdentifierRef<'_>) -> IdentifierRef<'_> {
     }
 }
 
-/// The number that a text is if it is one of 2^64 or more, or else the text.
+/// Returns the number that a string is, if it is 2^64 or more, or otherwise the string.
 #[inline(never)]
 fn large_or_text(text: &[u8]) -> IdentifierRef<'_> {
     if are_digits(text) && number_of_digits(text).is_none() {

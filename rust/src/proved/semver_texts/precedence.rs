@@ -6,33 +6,33 @@ use crate::proved::semver_texts::large_number::LargeNumber;
 use crate::proved::semver_texts::version::Version;
 use crate::rattle_std::cmp::Ordering;
 
-/// An identifier of a pre-release as it is compared.
+/// An identifier of a pre-release for comparing.
 #[derive(Clone, Copy)]
 pub enum IdentifierRef<'a> {
     /// A number below 2^64.
     Numeric(u64),
-    /// A greater number.
+    /// A number of 2^64 or more.
     LargeNumeric(LargeNumber<'a>),
-    /// Any other text, by its bytes.
+    /// Any other string, as its bytes.
     AlphaNumeric(&'a [u8]),
 }
 
-/// The identifiers of a pre-release, from the first on.
+/// The identifiers of a pre-release, in order.
 pub trait Identifiers<'a>: Copy {
-    /// Whether none is left.
+    /// Returns whether no identifier is left.
     fn is_empty(&self) -> bool;
 
-    /// Takes the first of those that are left.
+    /// Takes the first of the identifiers that are left.
     fn next(&mut self) -> Option<IdentifierRef<'a>>;
 }
 
-/// How two versions compare by precedence (SemVer 2.0.0, section 11): `Less` where the first is
-/// below the other. Builds don't count. It does not allocate.
+/// Compares two versions by precedence (SemVer 2.0.0, section 11). The result is `Less` if the
+/// first version is below the other. Build metadata is ignored. It does not allocate.
 ///
-/// The first difference decides of the three numbers, the first of them first. Where these are
-/// equal, no pre-release is above any, and two go by the first identifiers that differ: numbers as
-/// numbers, texts by their bytes, and a number is below any text. Where there are none, the longer
-/// pre-release is above.
+/// The three numbers are compared first, from left to right. If they are equal, a version without a
+/// pre-release is above each version with one, and two pre-releases are compared by the first
+/// identifiers that differ: numbers numerically, strings by their bytes, and a number is below any
+/// string. If no identifiers differ, the pre-release with more identifiers is above the other.
 ///
 /// ```
 /// use semver_parser::version;
@@ -55,8 +55,8 @@ pub fn cmp_precedence(version: &Version, other: &Version) -> Ordering {
     )
 }
 
-/// How two versions compare by precedence, each of its numbers and the identifiers of its
-/// pre-release. It does not allocate.
+/// Compares two versions by precedence, given by their numbers and the identifiers of their
+/// pre-releases. It does not allocate.
 #[inline(always)]
 pub fn compare<'a, A: Identifiers<'a>, B: Identifiers<'a>>(
     numbers: (u64, u64, u64),
@@ -71,7 +71,8 @@ pub fn compare<'a, A: Identifiers<'a>, B: Identifiers<'a>>(
     compare_pre_releases(pre, other_pre)
 }
 
-/// How two pre-releases compare. None is above any, and two go by their identifiers.
+/// Compares two pre-releases. No pre-release is above any pre-release, and two pre-releases are
+/// compared by their identifiers.
 #[inline(always)]
 pub fn compare_pre_releases<'a, A: Identifiers<'a>, B: Identifiers<'a>>(
     version: A,
@@ -85,7 +86,8 @@ pub fn compare_pre_releases<'a, A: Identifiers<'a>, B: Identifiers<'a>>(
     }
 }
 
-/// The first identifiers that differ decide. Where there are none, the longer list is above.
+/// Compares two lists of identifiers: by the first ones that differ, or if there are none, by
+/// length.
 fn compare_lists<'a, A: Identifiers<'a>, B: Identifiers<'a>>(version: A, other: B) -> Ordering {
     let (mut rest, mut others) = (version, other);
     while let Some(first) = rest.next() {
@@ -104,7 +106,8 @@ fn compare_lists<'a, A: Identifiers<'a>, B: Identifiers<'a>>(version: A, other: 
     }
 }
 
-/// Numbers go as numbers and texts by their bytes, and a number is below any text.
+/// Compares two identifiers: numbers numerically, strings by their bytes, and a number is below any
+/// string.
 #[inline(always)]
 fn compare_identifiers(first: IdentifierRef<'_>, other: IdentifierRef<'_>) -> Ordering {
     match (first, other) {

@@ -1,13 +1,13 @@
 // Made by tools/erase.py from crates/semver_texts/src/printing.rt; not edited by hand.
-//! Lists of values, written one after the other.
+//! Writes lists of values one after the other.
 
 use crate::rattle_std::prelude::*;
 use crate::rattle_std::fmt;
 
-/// Writes the mark and then the items joined by dots; nothing where there are none.
+/// Writes the mark and then the items joined by dots, or nothing if there are no items.
 ///
-/// Of the mark `-` and the items 7 and `"rc"` it writes `-7.rc`. It does not allocate, and its only
-/// error is the writer's.
+/// For the mark `-` and the items 7 and `"rc"` it writes `-7.rc`. It does not allocate, and its
+/// only error is the writer's.
 pub fn write_part<T: fmt::Display>(
     f: &mut fmt::Formatter<'_>,
     mark: &str,
@@ -20,9 +20,9 @@ pub fn write_part<T: fmt::Display>(
     write_joined(f, ".", items)
 }
 
-/// Writes the items with the separator between each two.
+/// Writes the items, separated by the separator.
 ///
-/// Of the separator `.` and the items 7 and `"rc"` it writes `7.rc`. It does not allocate, and its
+/// For the separator `.` and the items 7 and `"rc"` it writes `7.rc`. It does not allocate, and its
 /// only error is the writer's.
 pub fn write_joined<T: fmt::Display>(
     f: &mut fmt::Formatter<'_>,

@@ -1,20 +1,20 @@
 // Made by tools/erase.py from crates/semver_texts/src/version.rt; not edited by hand.
-//! Versions as plain data, and their printed texts.
+//! Versions as plain data, and how they are printed.
 //!
-//! What is printed are three numbers separated by dots, then where there is a pre-release `-` and
-//! its identifiers, then where there is a build `+` and its identifiers, each list separated by
-//! dots: `1.2.3-rc.1+5aedf`.
+//! A version is printed as three numbers separated by dots, such as `1.2.3-rc.1+5aedf`. If there is
+//! a pre-release, `-` and its identifiers follow; if there is build metadata, `+` and its
+//! identifiers follow. Identifiers are separated by dots.
 
 use crate::rattle_std::prelude::*;
 use crate::proved::semver_texts::printing::write_part;
 use crate::rattle_std::AllocError;
 use crate::rattle_std::fmt;
 
-/// A version: three numbers, a pre-release and a build.
+/// A version: three numbers, a pre-release and build metadata.
 ///
-/// The derived order goes by the fields in the order written. It isn't the precedence of the
-/// standard, which `cmp_precedence` returns: it reads the build, and puts a release below its
-/// pre-releases.
+/// The derived order compares the fields in the order in which they are declared. It isn't the
+/// precedence of SemVer, which `cmp_precedence` returns: it compares build metadata, and a release
+/// is below its pre-releases.
 ///
 /// ```
 /// use semver_parser::version;
@@ -32,10 +32,11 @@ pub struct Version {
     pub minor: u64,
     /// The third number: 3 in `1.2.3-rc.4+5aedf`.
     pub patch: u64,
-    /// The identifiers after `-`, none where there is no pre-release: `"rc"` and 4 in
-    /// `1.2.3-rc.4+5aedf`.
+    /// The identifiers of the pre-release, after `-`: `"rc"` and 4 in `1.2.3-rc.4+5aedf`. Empty if
+    /// there is no pre-release.
     pub pre: Vec<Identifier>,
-    /// The identifiers after `+`, none where there is no build: `"5aedf"` in `1.2.3-rc.4+5aedf`.
+    /// The identifiers of the build metadata, after `+`: `"5aedf"` in `1.2.3-rc.4+5aedf`. Empty if
+    /// there is no build metadata.
     pub build: Vec<Identifier>,
 }
 
@@ -47,10 +48,10 @@ impl crate::rattle_std::FallibleClone for Version {
     }
 }
 
-/// An identifier of a pre-release or a build.
+/// An identifier of a pre-release or of build metadata.
 ///
-/// A text is read as `Numeric` only where it is the canonical decimal of a number up to
-/// 18446744073709551615, so each identifier prints as it was read.
+/// A string is read as `Numeric` only if it is the canonical decimal of a number up to 2^64 - 1, so
+/// each identifier is printed as it was read.
 ///
 /// ```
 /// use semver_parser::version::{self, Identifier};
@@ -63,9 +64,9 @@ impl crate::rattle_std::FallibleClone for Version {
 /// ```
 #[derive(Clone, PartialOrd, Ord, Hash, Debug, PartialEq, Eq)]
 pub enum Identifier {
-    /// A number, as `7`.
+    /// A number, such as `7`.
     Numeric(u64),
-    /// Any other text, as `rc` or `07`.
+    /// Any other string, such as `rc` or `07`.
     AlphaNumeric(String),
 }
 
@@ -79,10 +80,11 @@ impl crate::rattle_std::FallibleClone for Identifier {
 }
 
 impl Identifier {
-    /// The text of the identifier followed by `add_str`, as `AlphaNumeric` whatever the texts are.
+    /// Returns the identifier as a string followed by `add_str`, always as `AlphaNumeric`.
     ///
-    /// It allocates once, for all of the new text, and not at all if an empty text is added to an
-    /// `AlphaNumeric`. `Err` is out of memory, and gives the unchanged identifier back.
+    /// It allocates once, for the whole new string. If an empty string is added to an
+    /// `AlphaNumeric`, it doesn't allocate. `Err` means out of memory, and returns the identifier
+    /// unchanged.
     ///
     /// ```
     /// use semver_parser::version::Identifier;
@@ -108,7 +110,7 @@ impl Identifier {
     }
 }
 
-/// The number's decimal and then the text, in one allocation.
+/// Returns the decimal of a number followed by a string, in one allocation.
 fn number_and(number: u64, text: &str) -> Result<String, AllocError> {
     let digits = number
         .checked_ilog10()
@@ -119,10 +121,10 @@ fn number_and(number: u64, text: &str) -> Result<String, AllocError> {
 }
 
 impl fmt::Display for Identifier {
-    /// Writes the decimal, or the text itself. It does not allocate, and its only error is the
-    /// writer's.
+    /// Writes the decimal number, or the string itself. It does not allocate, and its only error is
+    /// the writer's.
     ///
-    /// `Numeric(7)` is written as `7`, `AlphaNumeric("alpha1")` as `alpha1`.
+    /// `Numeric(7)` is written as `7`, and `AlphaNumeric("alpha1")` as `alpha1`.
     fn fmt(&self, f: &mut fmt::Formatter<'_>) -> fmt::Result {
         match self {
             Identifier::Numeric(number) => {
@@ -135,8 +137,8 @@ impl fmt::Display for Identifier {
 }
 
 impl fmt::Display for Version {
-    /// Writes `major.minor.patch`; then, where there is a pre-release, `-` and its identifiers
-    /// joined by dots; then, where there is a build, `+` and its identifiers joined by dots. It
+    /// Writes `major.minor.patch`. If there is a pre-release, `-` and its identifiers joined by
+    /// dots follow; if there is build metadata, `+` and its identifiers joined by dots follow. It
     /// does not allocate, and its only error is the writer's.
     ///
     /// The version read from ` 1.2.3-alpha1.9+build5 ` is written as `1.2.3-alpha1.9+build5`.

@@ -1,14 +1,15 @@
 // Made by tools/erase.py from crates/semver_texts/src/white_space.rt; not edited by hand.
-//! What JavaScript calls white space, and npm takes around versions and between comparators.
+//! The characters that JavaScript calls white space, which npm allows around versions and between
+//! comparators.
 
 use crate::rattle_std::prelude::*;
-/// Whether the byte is white space of ASCII: U+0009 to U+000D, or a space.
+/// Returns whether the byte is ASCII white space: U+0009 to U+000D, or a space.
 #[inline(always)]
 pub fn is_ascii_white_space(byte: u8) -> bool {
     matches!(byte, 9..=13 | 32)
 }
 
-/// Whether a character beyond ASCII is white space.
+/// Returns whether a non-ASCII character is white space.
 #[inline(always)]
 pub fn is_white_space_beyond_ascii(character: char) -> bool {
     matches!(
@@ -23,8 +24,8 @@ pub fn is_white_space_beyond_ascii(character: char) -> bool {
     )
 }
 
-/// How many bytes the character at the front has in UTF-8 if it is white space, or else 0: 2 of
-/// U+00A0.
+/// Returns the length in UTF-8 of the character at the beginning if it is white space, otherwise 0:
+/// 2 for U+00A0.
 #[inline(always)]
 pub fn white_space_len(bytes: &[u8]) -> usize {
     match bytes {

@@ -1,14 +1,16 @@
 // Made by tools/erase.py from crates/semver_tokens/src/lexer.rt; not edited by hand.
-//! The tokens of a text: its signs, its white space, and its runs of ASCII letters and digits.
+//! The tokens of a string: its signs, its white space, and its sequences of ASCII letters and
+//! digits.
 //!
-//! The text is read by bytes, from the left; a character past ASCII is decoded only to be named in
-//! an error. Nothing here allocates: each token that has a text borrows it from the input.
+//! The string is read as bytes, from the left. A non-ASCII character is decoded only to be named in
+//! an error. Nothing here allocates: tokens with a string borrow it from the input.
 
 use crate::rattle_std::prelude::*;
 use crate::proved::semver_texts::bytes::{is_space, run_len, space_len};
 use crate::proved::semver_texts::decimals::whole_number;
 
-/// A token. Those of two characters are taken before those of one.
+/// A token. If both are possible, a token of two characters is preferred to one of a single
+/// character.
 ///
 /// ```
 /// use semver_parser::lexer::{Lexer, Token};
@@ -44,19 +46,19 @@ pub enum Token<'input> {
     Plus,
     /// `||`
     Or,
-    /// A longest run of spaces, tabs, line feeds and carriage returns: the byte where it begins,
-    /// and the byte after it.
+    /// Spaces, tabs, line feeds and carriage returns, as many as there are: the offset of the first
+    /// byte, and the offset after the last.
     Whitespace(usize, usize),
-    /// A longest run of ASCII letters and digits that is the canonical decimal of a number up to
-    /// 2^64 - 1: `0`, or digits that don't begin with `0`.
+    /// ASCII letters and digits, as many as there are, if they are the canonical decimal of a
+    /// number up to 2^64 - 1: `0`, or digits that don't begin with `0`.
     Numeric(u64),
-    /// Any other longest run of ASCII letters and digits, as the slice of the input: `beta2`, `01`,
-    /// `18446744073709551616`.
+    /// Any other ASCII letters and digits, as many as there are, as a slice of the input: `beta2`,
+    /// `01`, `18446744073709551616`.
     AlphaNumeric(&'input str),
 }
 
 impl<'input> Token<'input> {
-    /// Whether the token is white space, of any length.
+    /// Returns whether the token is white space of any length.
     ///
     /// ```
     /// use semver_parser::lexer::Token;
@@ -70,7 +72,7 @@ impl<'input> Token<'input> {
         matches!(self, Token::Whitespace(_, _))
     }
 
-    /// Whether the token is a wildcard: `*`, `x` or `X`.
+    /// Returns whether the token is a wildcard: `*`, `x` or `X`.
     ///
     /// ```
     /// use semver_parser::lexer::Token;
@@ -85,7 +87,7 @@ impl<'input> Token<'input> {
     }
 }
 
-/// Why a text has no further token.
+/// Why a string has no further token.
 ///
 /// ```
 /// use semver_parser::lexer::{Error, Lexer};
@@ -94,11 +96,11 @@ impl<'input> Token<'input> {
 /// ```
 #[derive(Clone, Copy, Debug, PartialEq, Eq, PartialOrd, Ord)]
 pub enum Error {
-    /// A character that opens no token; also a `|` that no second `|` follows.
+    /// A character that begins no token. This includes a `|` that isn't followed by a second one.
     UnexpectedChar(char),
 }
 
-/// The sign that two bytes begin with, and its length.
+/// Returns the sign with which two bytes begin, and its length.
 #[inline(always)]
 fn sign<'input>(first: u8, second: u8) -> Option<(Token<'input>, usize)> {
     match (first, second) {
@@ -119,7 +121,7 @@ fn sign<'input>(first: u8, second: u8) -> Option<(Token<'input>, usize)> {
     }
 }
 
-/// The token of a run of letters and digits.
+/// Returns the token of a sequence of letters and digits.
 #[inline(always)]
 fn component<'input>(run: &'input str) -> Token<'input> {
     match whole_number(run) {
@@ -128,8 +130,8 @@ fn component<'input>(run: &'input str) -> Token<'input> {
     }
 }
 
-/// The token at the front of what is left of a text from `start` on, if one is there, and its
-/// length.
+/// Returns the token at the beginning of the rest of a string, if there is one, and its length.
+/// `start` is the offset of the rest.
 #[inline(always)]
 fn front_token<'input>(rest: &'input str, start: usize) -> Option<(Token<'input>, usize)> {
     let bytes = rest.as_bytes();
@@ -146,10 +148,10 @@ fn front_token<'input>(rest: &'input str, start: usize) -> Option<(Token<'input>
     sign(first, second)
 }
 
-/// Gives the tokens of a text one after the other, then at most one error, and then nothing for
-/// good.
+/// Returns the tokens of a string one after the other, then at most one error, and then only
+/// `None`.
 ///
-/// It holds the text, the byte where it is, and whether its error was given.
+/// It stores the string, the offset, and whether the error was returned.
 ///
 /// ```
 /// use semver_parser::lexer::{Error, Lexer, Token};
@@ -168,7 +170,7 @@ pub struct Lexer<'input> {
 }
 
 impl<'input> Lexer<'input> {
-    /// A lexer at the start of the text. Any text will do.
+    /// Returns a lexer at the beginning of a string, which can be any string.
     ///
     /// ```
     /// use semver_parser::lexer::{Lexer, Token};
@@ -190,10 +192,11 @@ impl<'input> Lexer<'input> {
 impl<'input> Iterator for Lexer<'input> {
     type Item = Result<Token<'input>, Error>;
 
-    /// The next token; where no token begins, the error that names the character there, once; at
-    /// the end, and after the error, `None`. It does not allocate.
+    /// Returns the next token. If no token begins there, it returns the error with the character,
+    /// once. At the end, and after the error, it returns `None`. It does not allocate.
     ///
-    /// On `1é2` it gives `Ok(Numeric(1))`, `Err(UnexpectedChar('é'))`, and then `None` each time.
+    /// For `1é2` it returns `Ok(Numeric(1))`, `Err(UnexpectedChar('é'))`, and then `None` each
+    /// time.
     #[inline(always)]
     fn next(&mut self) -> Option<Result<Token<'input>, Error>> {
         if self.failed {
@@ -210,7 +213,7 @@ impl<'input> Iterator for Lexer<'input> {
     }
 }
 
-/// A lexer that has the same items left.
+/// Returns a lexer that has the same items left.
 #[must_use]
 #[inline(always)]
 pub fn copy<'input>(lexer: &Lexer<'input>) -> Lexer<'input> {
@@ -221,8 +224,8 @@ pub fn copy<'input>(lexer: &Lexer<'input>) -> Lexer<'input> {
     }
 }
 
-/// Returns the text from the first remaining token on, up to the end of the input; empty once the
-/// error was returned. On `1.2`, after the first token, it is `.2`.
+/// Returns the string from the first remaining token to the end of the input. It is empty after the
+/// error was returned. For `1.2`, after the first token, it is `.2`.
 #[must_use]
 #[inline(always)]
 pub fn rest<'input>(lexer: &Lexer<'input>) -> &'input str {
@@ -232,8 +235,8 @@ pub fn rest<'input>(lexer: &Lexer<'input>) -> &'input str {
     &lexer.input[lexer.position..]
 }
 
-/// How many tokens are left, and a lexer after the last of them: on `1.2/` these are 3, and a
-/// lexer whose next item is the error.
+/// Returns the number of tokens that are left, and a lexer after the last of them. For `1.2/` the
+/// number is 3, and the next item of the lexer is the error.
 #[must_use]
 pub fn count_tokens<'input>(lexer: &Lexer<'input>) -> (usize, Lexer<'input>) {
     let mut end = copy(lexer);

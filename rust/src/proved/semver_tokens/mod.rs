@@ -1,6 +1,7 @@
 // Made by tools/erase.py from crates/semver_tokens/src/lib.rt; not edited by hand.
-//! Version texts as tokens: signs, white space, numbers, and other runs of letters and digits; and
-//! a parser of one token ahead, which takes numbers, components, identifiers and versions.
+//! Version strings as tokens: signs, white space, numbers, and other sequences of letters and
+//! digits; and a parser with one token of lookahead, which reads numbers, components, identifiers
+//! and versions.
 
 use crate::rattle_std::prelude::*;
 pub mod lexer;

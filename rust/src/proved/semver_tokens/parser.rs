@@ -1,11 +1,11 @@
 // Made by tools/erase.py from crates/semver_tokens/src/parser.rt; not edited by hand.
-//! Numbers, components, identifiers and versions, read from the tokens of a text with one token
-//! ahead.
+//! Reads numbers, components, identifiers and versions from the tokens of a string, with one token
+//! of lookahead.
 //!
-//! The state of a parser is the list of tokens that remain, and a pending character where the text
-//! goes on with one that opens no token. Taking a token reads the next one first: so the last token
-//! before a bad character is never given, and what is refused as `Lexer` or `UnexpectedEnd` leaves
-//! the parser as it stood. An unexpected token is consumed.
+//! The state of a parser is the list of the remaining tokens, and a pending character if the string
+//! continues with one that begins no token. Taking a token first reads the next one. So the last
+//! token before a bad character is never returned, and the errors `Lexer` and `UnexpectedEnd` leave
+//! the parser as it was. An unexpected token is consumed.
 
 use crate::rattle_std::prelude::*;
 use crate::proved::semver_tokens::lexer::{self, Lexer, Token, copy, count_tokens, rest};
@@ -14,7 +14,7 @@ use crate::proved::semver_texts::version::{Identifier, Version};
 use crate::rattle_std::AllocError;
 use crate::rattle_std::fmt;
 
-/// Why a call of a parser, or of `version::parse`, gives no value. It borrows the input.
+/// The error of a method of a parser, or of `version::parse`. It borrows the input.
 ///
 /// ```
 /// use semver_parser::parser::Error;
@@ -26,24 +26,24 @@ use crate::rattle_std::fmt;
 /// ```
 #[derive(Debug, PartialEq, Eq, PartialOrd, Ord)]
 pub enum Error<'input> {
-    /// A token was needed, and the text is at its end.
+    /// A token is missing at the end of the string.
     UnexpectedEnd,
-    /// This token is none that can be here. It has been consumed.
+    /// This token isn't allowed here. It has been consumed.
     UnexpectedToken(Token<'input>),
-    /// The text goes on with a character that opens no token.
+    /// The string continues with a character that begins no token.
     Lexer(lexer::Error),
-    /// These tokens are after the version.
+    /// These tokens follow the version.
     MoreInput(Vec<Token<'input>>),
-    /// Kept for its name: no call answers it.
+    /// Never returned. The variant exists because the Rust crate has it.
     EmptyPredicate,
-    /// Kept for its name: no call answers it.
+    /// Never returned. The variant exists because the Rust crate has it.
     EmptyRange,
     /// An allocation failed.
     OutOfMemory,
 }
 
 impl<'input> From<lexer::Error> for Error<'input> {
-    /// The error of the lexer, as `Lexer`.
+    /// Returns the error of the lexer as `Lexer`.
     #[inline(always)]
     fn from(value: lexer::Error) -> Self {
         Error::Lexer(value)
@@ -51,8 +51,8 @@ impl<'input> From<lexer::Error> for Error<'input> {
 }
 
 impl<'input> fmt::Display for Error<'input> {
-    /// Writes a sentence for a person, as `expected more input`. It does not allocate, and its only
-    /// error is the writer's.
+    /// Writes a sentence for people, such as `expected more input`. It does not allocate, and its
+    /// only error is the writer's.
     fn fmt(&self, f: &mut fmt::Formatter<'_>) -> fmt::Result {
         match self {
             Error::UnexpectedEnd => f.write_str("expected more input"),
@@ -67,9 +67,10 @@ impl<'input> fmt::Display for Error<'input> {
 }
 
 impl<'input> Error<'input> {
-    /// The text that `Display` writes, for use where the Rust crate turns an error into a `String`.
+    /// Returns the string that `Display` writes, for use where the Rust crate converts an error
+    /// into a `String`.
     ///
-    /// `Err` is out of memory; the error itself stays as it was.
+    /// `Err` means out of memory; the error itself isn't changed.
     ///
     /// ```
     /// use semver_parser::parser::Error;
@@ -82,7 +83,7 @@ impl<'input> Error<'input> {
     }
 }
 
-/// Reads a text token by token, one token ahead.
+/// Reads a string token by token, with one token of lookahead.
 ///
 /// ```
 /// use semver_parser::lexer::Token;
@@ -97,17 +98,19 @@ impl<'input> Error<'input> {
 #[derive(Debug)]
 pub struct Parser<'input> {
     lexer: Lexer<'input>,
-    // The first of the tokens that remain.
+    // The first of the remaining tokens.
     lookahead: Option<Token<'input>>,
-    // The text from that token on.
+    // The string from that token on.
     rest: &'input str,
 }
 
 impl<'input> Parser<'input> {
-    /// A parser at the start of the text: all its tokens remain, and where it ends in a character
-    /// that opens no token, that character is pending. It does not allocate.
+    /// Returns a parser at the beginning of a string: all its tokens remain. If the string ends in
+    /// a character that begins no token, that character is pending. It does not allocate.
     ///
-    /// `Lexer` exactly where the text begins with such a character.
+    /// # Errors
+    ///
+    /// `Lexer` if and only if the string begins with such a character.
     ///
     /// ```
     /// use semver_parser::lexer;
@@ -127,7 +130,7 @@ impl<'input> Parser<'input> {
         })
     }
 
-    /// Takes the first token. The one after it is read first, so an error changes nothing.
+    /// Takes the first token. The token after it is read first, so an error changes nothing.
     #[inline(always)]
     fn pop(&mut self) -> Result<Token<'input>, Error<'input>> {
         let rest = rest(&self.lexer);
@@ -144,8 +147,10 @@ impl<'input> Parser<'input> {
 
     /// Takes a number.
     ///
-    /// `UnexpectedToken` of any other token, which is consumed; `UnexpectedEnd` where no token
-    /// remains, and `Lexer` where a character is pending after at most one token: both leave the
+    /// # Errors
+    ///
+    /// `UnexpectedToken` for any other token, which is consumed. `UnexpectedEnd` if no token
+    /// remains, and `Lexer` if a character is pending after at most one token; both leave the
     /// parser as it was. It does not allocate.
     ///
     /// ```
@@ -165,14 +170,14 @@ impl<'input> Parser<'input> {
         }
     }
 
-    /// The first token, which stays.
+    /// Returns the first token without taking it.
     fn peek(&self) -> Option<&Token<'input>> {
         self.lookahead.as_ref()
     }
 
-    /// Takes a number, or a wildcard as `None`.
+    /// Takes a number, or a wildcard, which is returned as `None`.
     ///
-    /// It refuses as `numeric` does, and does not allocate.
+    /// Its errors are those of `numeric`. It does not allocate.
     ///
     /// ```
     /// use semver_parser::lexer::Token;
@@ -197,11 +202,12 @@ impl<'input> Parser<'input> {
         }
     }
 
-    /// Where a dot comes next, takes it and a component: `(Some(n), false)` for a number, `(None,
-    /// true)` for a wildcard. Where none comes next, it answers `(None, false)` and takes nothing.
+    /// Takes a dot and a component, if a dot is next. Returns `(Some(n), false)` for a number, and
+    /// `(None, true)` for a wildcard. If no dot is next, it returns `(None, false)` and takes
+    /// nothing.
     ///
-    /// It refuses as `component` does; the dot is then consumed, but where it is itself the last
-    /// token before a pending character. It does not allocate.
+    /// Its errors are those of `component`. After an error the dot has been consumed, unless the
+    /// dot itself is the last token before a pending character. It does not allocate.
     ///
     /// ```
     /// use semver_parser::parser::Parser;
@@ -224,7 +230,7 @@ impl<'input> Parser<'input> {
 
     /// Takes a dot and a number.
     ///
-    /// It refuses as `numeric` does, of either token; what it took before the refusal stays
+    /// Its errors are those of `numeric`, for either token. What it took before the error stays
     /// consumed. It does not allocate.
     ///
     /// ```
@@ -241,7 +247,7 @@ impl<'input> Parser<'input> {
         }
     }
 
-    /// Whether no token remains. A character may still be pending. It changes nothing.
+    /// Returns whether no token remains. A character may still be pending. It changes nothing.
     ///
     /// ```
     /// use semver_parser::parser::Parser;
@@ -258,7 +264,7 @@ impl<'input> Parser<'input> {
         self.lookahead.is_none()
     }
 
-    /// Takes a run of letters and digits, and returns its number where it is one.
+    /// Takes letters and digits, and returns their number if they are one.
     #[inline(always)]
     fn run(&mut self) -> Result<Option<u64>, Error<'input>> {
         match self.pop()? {
@@ -268,26 +274,25 @@ impl<'input> Parser<'input> {
         }
     }
 
-    /// A hyphen comes next.
+    /// Returns whether a hyphen is next.
     #[inline(always)]
     fn at_hyphen(&self) -> bool {
         matches!(self.peek(), Some(Token::Hyphen))
     }
 
-    /// A plus comes next.
+    /// Returns whether a plus is next.
     #[inline(always)]
     fn at_plus(&self) -> bool {
         matches!(self.peek(), Some(Token::Plus))
     }
 
-    /// A dot comes next.
+    /// Returns whether a dot is next.
     #[inline(always)]
     fn at_dot(&self) -> bool {
         matches!(self.peek(), Some(Token::Dot))
     }
 
-    /// Takes the runs of an identifier and the hyphens between them, and returns its number if it
-    /// is one number alone.
+    /// Takes the tokens of an identifier, and returns its number if it is only a number.
     fn pass_identifier(&mut self) -> Result<Option<u64>, Error<'input>> {
         let mut number = self.run()?;
         while self.at_hyphen() {
@@ -298,20 +303,20 @@ impl<'input> Parser<'input> {
         Ok(number)
     }
 
-    /// An identifier of a version: one or more runs of ASCII letters and digits, joined by single
-    /// hyphens. A lone run that is the canonical decimal of a number up to 18446744073709551615 is
-    /// given as `Numeric`, anything else as `AlphaNumeric` with its text. Its tokens are taken, and
-    /// no more.
+    /// Reads an identifier of a version: one or more sequences of ASCII letters and digits, joined
+    /// by single hyphens. A single sequence that is the canonical decimal of a number up to 2^64 -
+    /// 1 is returned as `Numeric`, anything else as `AlphaNumeric` with its string. Only the
+    /// identifier's tokens are taken.
     ///
-    /// Refusals, and the tokens that remain then:
+    /// # Errors
     ///
-    /// - `UnexpectedToken`: another token comes where a run has to, at the start or after a
-    ///   hyphen. It is taken too.
-    /// - `UnexpectedEnd`: no token remains there. What came before stays taken.
+    /// - `UnexpectedToken`: letters or digits are missing, at the beginning or after a hyphen, and
+    ///   another token is there. It is taken, too.
+    /// - `UnexpectedEnd`: no token remains there. The tokens before stay taken.
     /// - `Lexer`: a bad character is pending and at most one token remains. That token stays, since
     ///   it isn't known whether the identifier ends with it.
-    /// - `OutOfMemory`: there is no memory for the text, which is taken at once. Its tokens stay
-    ///   taken, and no more. A number does not allocate.
+    /// - `OutOfMemory`: the allocation of the string, which is made at once, failed. Only its
+    ///   tokens stay taken. A number isn't allocated.
     ///
     /// ```
     /// use semver_parser::parser::Parser;
@@ -335,7 +340,7 @@ impl<'input> Parser<'input> {
         Ok(Identifier::AlphaNumeric(kept))
     }
 
-    /// Takes what comes next and an identifier after it, and so on at each dot.
+    /// Takes the next token and an identifier after it, and repeats this at each dot.
     fn identifiers(&mut self) -> Result<Vec<Identifier>, Error<'input>> {
         let mut identifiers = Vec::new();
         loop {
@@ -350,7 +355,8 @@ impl<'input> Parser<'input> {
         }
     }
 
-    /// The identifiers of a part whose mark comes next, if it is there, and else none.
+    /// Reads the identifiers of a part, whose mark is next, if the part is there. Otherwise it
+    /// returns none.
     #[inline(always)]
     fn part(&mut self, there: bool) -> Result<Vec<Identifier>, Error<'input>> {
         if there {
@@ -360,7 +366,7 @@ impl<'input> Parser<'input> {
         }
     }
 
-    /// Takes white space, if it comes next.
+    /// Takes white space, if it is next.
     #[inline(always)]
     fn skip_whitespace(&mut self) -> Result<(), Error<'input>> {
         if self.peek().is_some_and(|token| token.is_whitespace()) {
@@ -369,7 +375,7 @@ impl<'input> Parser<'input> {
         Ok(())
     }
 
-    /// Takes white space, if it comes next, and three numbers joined by dots.
+    /// Takes white space, if it is next, and three numbers joined by dots.
     #[inline(always)]
     fn numbers(&mut self) -> Result<(u64, u64, u64), Error<'input>> {
         self.skip_whitespace()?;
@@ -379,17 +385,18 @@ impl<'input> Parser<'input> {
         Ok((major, minor, patch))
     }
 
-    /// A version and the white space round it. It ends where no further token fits, and the tokens
-    /// after it remain.
+    /// Reads a version and the white space around it. It ends before the first token that doesn't
+    /// fit; that token and all after it remain.
     ///
-    /// Refusals, and the tokens that remain then:
+    /// # Errors
     ///
-    /// - `UnexpectedToken`: another token comes where a number, a dot or an identifier has to. It
-    ///   is taken too.
-    /// - `UnexpectedEnd`: no token remains there. What came before stays taken.
+    /// - `UnexpectedToken`: a number, a dot or an identifier is missing, and another token is
+    ///   there. It is taken, too.
+    /// - `UnexpectedEnd`: no token remains there. The tokens before stay taken.
     /// - `Lexer`: a bad character is pending and at most one token remains. That token stays.
-    /// - `OutOfMemory`: an allocation failed for an identifier's text or for a list of identifiers.
-    ///   What was taken stays taken. A version without pre-release and build does not allocate.
+    /// - `OutOfMemory`: an allocation failed, for the string of an identifier or for a list of
+    ///   identifiers. What was taken stays taken. Nothing is allocated for a version without a
+    ///   pre-release and build metadata.
     ///
     /// ```
     /// use semver_parser::lexer::Token;
@@ -416,12 +423,13 @@ impl<'input> Parser<'input> {
         })
     }
 
-    /// All tokens that remain, in order; then none remains.
+    /// Takes and returns all remaining tokens, in order.
     ///
-    /// With a character pending it answers `Lexer` of it: no token remains then, and the character
-    /// stays pending. `OutOfMemory` if its one allocation failed: nothing is changed then. It
-    /// allocates only if tokens remain and no character is pending, once, for exactly
-    /// their number.
+    /// # Errors
+    ///
+    /// - `Lexer` if a character is pending. No token remains then, and the character stays pending.
+    /// - `OutOfMemory` if its one allocation failed. Nothing is changed then. It allocates only if
+    ///   tokens remain and no character is pending, once, for exactly their number.
     ///
     /// ```
     /// use semver_parser::lexer::Token;
@@ -458,13 +466,13 @@ impl<'input> Parser<'input> {
     }
 }
 
-/// The longest front of letters, digits and hyphens.
+/// Returns the longest prefix of letters, digits and hyphens.
 fn identifier_front(text: &str) -> &str {
     let len = part_len(text.as_bytes());
     &text[..len]
 }
 
-/// Appends where there is capacity.
+/// Appends a token to a vector that has capacity for it.
 fn push_within<'input>(tokens: &mut Vec<Token<'input>>, token: Token<'input>) {
     let Ok(()) = tokens.fallible_push(token) else {
         unreachable!()
