@@ -1,11 +1,11 @@
 //! Pages with the grammars, the tables and the definitions.
 //!
-//! | page | what it has |
+//! | page | content |
 //! |---|---|
 //! | [`ranges`] | the dialects, the releases of each form of range, the rules for pre-releases, versions |
-//! | [`meaning`] | the definitions: which versions satisfy a range of Cargo or npm, and sets of versions |
-//! | [`grammar`] | which strings Cargo and npm read, where and why a string is invalid |
-//! | [`original_crate`] | grammar, meaning and comparators of the original crate, and how this one differs |
+//! | [`meaning`] | the definitions: versions that satisfy a range in Cargo or npm, sets of versions |
+//! | [`grammar`] | which strings Cargo and npm accept, and where and why a string is invalid |
+//! | [`original_crate`] | grammar, meaning and comparators of the original crate; differences |
 
 #[doc = include_str!("docs/ranges.md")]
 pub mod ranges {}

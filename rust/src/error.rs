@@ -1,4 +1,4 @@
-//! The error of strings that aren't a version or a range of a dialect.
+//! The error of a string that is an invalid version, or not a range in a dialect.
 
 use crate::layers::{explain_range, explain_version};
 use crate::original::printed;
@@ -8,7 +8,7 @@ use alloc::string::String;
 use core::fmt::{self, Display, Formatter};
 use core::str;
 
-/// What is wrong with a string.
+/// The kind of an [`Error`].
 ///
 /// ```
 /// use semver_parser::{satisfies, Dialect, ErrorKind};
@@ -21,19 +21,20 @@ use core::str;
 #[derive(Clone, Copy, Debug, PartialEq, Eq, Hash)]
 #[non_exhaustive]
 pub enum ErrorKind {
-    /// It isn't a version of the dialect.
+    /// The string is an invalid version in the dialect.
     InvalidVersion,
-    /// It isn't a range of the dialect.
+    /// The string is not a range in the dialect.
     InvalidRange,
-    /// It is a range of the dialect, but a number of it, or a number that has to be raised by one,
-    /// is too large: in npm's dialect above 2^53 - 1, and in the others above 2^64 - 1.
+    /// The string is a range in the dialect, but one of its numbers, or a number that has to be
+    /// raised by one, is too large: above 2^53 - 1 in npm's dialect, and above 2^64 - 1 in the
+    /// others.
     NumberTooLarge,
     /// An allocation failed.
     OutOfMemory,
 }
 
 impl ErrorKind {
-    /// Returns its sentence, such as `invalid range`.
+    /// Returns the sentence of the kind, such as `invalid range`.
     fn sentence(self) -> &'static str {
         match self {
             ErrorKind::InvalidVersion => "invalid version",
@@ -44,9 +45,10 @@ impl ErrorKind {
     }
 }
 
-/// A string that isn't a version or a range of a dialect: which string, where it is wrong, and why.
+/// The error of a string that is an invalid version, or not a range in a dialect: the string, where
+/// it is wrong, and why.
 ///
-/// `{}` prints one line, and `{:#}` the string with a caret below the offset:
+/// `{}` prints one line, and `{:#}` also prints the string with a caret below the offset:
 ///
 /// ```
 /// use semver_parser::{Dialect, ErrorKind, Reason, VersionRange};
@@ -71,7 +73,7 @@ pub struct Error {
 }
 
 impl Error {
-    /// Returns what is wrong.
+    /// Returns the kind of the error.
     ///
     /// ```
     /// use semver_parser::{check_range, Dialect, ErrorKind};
@@ -96,8 +98,8 @@ impl Error {
         &self.string
     }
 
-    /// Returns the offset in bytes of the first character that can't be there, or the length of the
-    /// string if something is missing at its end. If a number of a range is too large, it is
+    /// Returns the byte offset of the first character that isn't allowed there, or the length of
+    /// the string if something is missing at its end. If a number of a range is too large, it is
     /// the offset of the first such number. Returns `None` if an allocation failed.
     ///
     /// ```
@@ -151,7 +153,7 @@ impl Error {
         Error::new(kind, String::fallible_from_str(range), found)
     }
 
-    /// Returns the error of a string. If an allocation failed, that is the error.
+    /// Returns the error of a string, or the out-of-memory error if an allocation failed.
     fn new(
         kind: ErrorKind,
         string: Result<String, AllocError>,
@@ -168,7 +170,7 @@ impl Error {
     }
 }
 
-/// Returns what `String::from_utf8_lossy` does, or an error if an allocation failed.
+/// Returns the result of `String::from_utf8_lossy`, or an error if an allocation failed.
 fn lossy(mut bytes: &[u8]) -> Result<String, AllocError> {
     let mut string = String::new();
     loop {

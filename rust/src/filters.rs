@@ -1,4 +1,5 @@
-//! Which versions or lines a range selects, the highest of them, or all sorted.
+//! Selects versions or lines by a range: the ones that match, the highest or lowest of them, or all
+//! of them sorted.
 //!
 //! ```
 //! use semver_parser::filters::{LineOptions, Lines};

@@ -1,4 +1,4 @@
-//! Calls for the layers for C and JavaScript: their errors are plain values and copy no string.
+//! Functions for the C and JavaScript layers. Their errors are plain values and copy no string.
 
 use crate::proved::{invalid_strings, tool_ranges};
 use crate::version::Outline;
@@ -7,11 +7,11 @@ use crate::{AllocError, Dialect, Meaning, PartialVersion, PreReleases, RangeErro
 pub use crate::proved::invalid_strings::refusals::Refusal as VersionRefusal;
 pub use crate::proved::tool_ranges::refusals::Refusal as RangeRefusal;
 
-/// Returns where and why bytes aren't a version of a dialect, or `None` if they are one.
+/// Returns where and why bytes are an invalid version in a dialect, or `None` if they are valid.
 ///
 /// # Errors
 ///
-/// [`AllocError`] if an allocation failed. It allocates only if the bytes aren't a version.
+/// [`AllocError`] if an allocation failed. It allocates only if the bytes are an invalid version.
 ///
 /// ```
 /// use semver_parser::layers::explain_version;
@@ -28,7 +28,7 @@ pub fn explain_version(
     invalid_strings::refusals::explain(version, dialect.grammar())
 }
 
-/// Returns where and why a string isn't a range of a dialect, or `None` if it is one.
+/// Returns where and why a string isn't a range in a dialect, or `None` if it is one.
 ///
 /// # Errors
 ///
@@ -46,7 +46,7 @@ pub fn explain_range(range: &str, dialect: Dialect) -> Result<Option<RangeRefusa
     tool_ranges::refusals::refused(dialect, range)
 }
 
-/// Checks that a string is a range of a dialect whose numbers fit. It does not allocate.
+/// Checks that a string is a range in a dialect and that its numbers fit. It does not allocate.
 ///
 /// # Errors
 ///
@@ -62,11 +62,11 @@ pub fn check_range(range: &str, dialect: Dialect) -> Result<(), RangeError> {
     tool_ranges::meaning::check(dialect.into(), range)
 }
 
-/// Rewrites a range string of a dialect into plain comparators with exact bounds.
+/// Rewrites a range string in a dialect into plain comparators with exact bounds.
 ///
 /// # Errors
 ///
-/// Those of [`check_range`], and [`RangeError::OutOfMemory`] if an allocation failed.
+/// The errors of [`check_range`], and [`RangeError::OutOfMemory`] if an allocation failed.
 ///
 /// ```
 /// use semver_parser::layers::comparators;
@@ -108,7 +108,7 @@ pub fn comparators_of_meaning(range: &str, meaning: Meaning) -> Result<RangeSet,
 ///
 /// # Errors
 ///
-/// Those of [`check_range`].
+/// The errors of [`check_range`].
 ///
 /// ```
 /// use semver_parser::layers::replace_version;

@@ -1,6 +1,6 @@
-//! Version strings and range strings of Cargo and npm as plain data: the crate
-//! [`semver-parser`](https://docs.rs/semver-parser/0.10.3) 0.10.3 under its own names, and what
-//! release tools need beyond it.
+//! Parses versions (`1.2.3-rc.1`) and ranges (`^1.2 || 3.x`) of Cargo and npm into plain data. It
+//! is a port of the crate [`semver-parser`](https://docs.rs/semver-parser/0.10.3) 0.10.3 with the
+//! same names, extended by what release tools need.
 //!
 //! ```
 //! use semver_parser::{version, Compat, RangeSet};
@@ -12,7 +12,7 @@
 //! # Ok::<(), String>(())
 //! ```
 //!
-//! What a range means to Cargo and npm themselves, [`satisfies`] decides:
+//! [`satisfies`] decides whether a version satisfies a range in Cargo or npm:
 //!
 //! ```
 //! use semver_parser::{satisfies, Dialect};
@@ -22,7 +22,7 @@
 //! # Ok::<(), semver_parser::Error>(())
 //! ```
 //!
-//! A range that is used often is read once, as a [`VersionRange`], which has set operations too:
+//! A range that is used often is read once, as a [`VersionRange`], which also has set operations:
 //!
 //! ```
 //! use semver_parser::{Dialect, VersionRange};
@@ -35,16 +35,17 @@
 //! # Ok::<(), semver_parser::Error>(())
 //! ```
 //!
-//! An [`Error`] says where and why a string is invalid. [`sets`] has the sets of versions below a
-//! range, and [`filters`] what selects versions and lines.
+//! An [`Error`] says where and why a string is invalid. [`sets`] has the sets of versions that
+//! ranges stand for, and [`filters`] selects versions and lines.
 //!
 //! # Coming from `semver-parser` 0.10
 //!
-//! Names and signatures are the original's. A `match` over [`parser::Error`] needs one more arm, for
-//! `OutOfMemory`. These results differ; [`docs::original_crate`] lists every difference in ranges:
+//! Names and signatures are the original's. A `match` over [`parser::Error`] needs one more arm,
+//! for `OutOfMemory`. The results below differ; [`docs::original_crate`] lists every difference in
+//! ranges:
 //!
-//! - [`RangeSet::parse`] rejects commas. The original accepts one after a comparator, and `semver` 0.9
-//!   to 0.11 rely on it. Spaces instead of commas keep the original's meaning, and
+//! - [`RangeSet::parse`] rejects commas. The original accepts one comma after a comparator, and
+//!   `semver` 0.9 to 0.11 rely on it. Spaces instead of commas keep the original's meaning, and
 //!   [`Dialect::Cargo`] reads commas as Cargo does today, where `1.2` is `^1.2`:
 //!
 //!   ```
@@ -57,15 +58,17 @@
 //!   assert_eq!(comparators(range, Dialect::Cargo)?.to_string(), ">=1.2.0 <2.0.0");
 //!   # Ok::<(), String>(())
 //!   ```
-//! - A number that doesn't fit is an error, and not a panic.
+//! - A number that doesn't fit is an error, not a panic.
 //! - [`lexer::Lexer`] returns its error once, and then `None`.
 //!
 //! # Pages
 //!
-//! - [`docs::ranges`]: the dialects, each form of range, the rules for pre-releases
+//! - [`docs::ranges`]: the dialects, each form of range, and the rules for pre-releases
 //! - [`docs::meaning`]: the definitions of Cargo's and npm's ranges, and of sets of versions
-//! - [`docs::grammar`]: which strings are versions and ranges, where and why one is invalid
-//! - [`docs::original_crate`]: the grammar and the comparators of `semver-parser`, and what differs
+//! - [`docs::grammar`]: which strings are valid versions and ranges, and where and why one is
+//!   invalid
+//! - [`docs::original_crate`]: the grammar and the comparators of `semver-parser`, and the
+//!   differences
 //!
 //! Elsewhere: [SemVer 2.0.0](https://semver.org/spec/v2.0.0.html), [requirements in the Cargo
 //! book](https://doc.rust-lang.org/cargo/reference/specifying-dependencies.html), Cargo's crate
@@ -74,11 +77,11 @@
 //!
 //! # What is proved
 //!
-//! The code is written in Rattle, Rust with contracts, and proved there for every input; `src/proved`
-//! is that code without its contracts. It allocates by `try_reserve`. A call whose error has a case
-//! for it returns that an allocation failed, and any other ends the process, as std does.
+//! The code is written in Rattle, which is Rust with contracts, and proved there for every input;
+//! `src/proved` is that code without its contracts. It allocates by `try_reserve`. Calls whose
+//! error has an out-of-memory case return it; all others abort the process, like std.
 //!
-//! Without the feature `std` (default) the crate needs only `alloc`, and there are no programs.
+//! Without the feature `std` (default) the crate needs only `alloc`, and has no programs.
 #![no_std]
 #![forbid(unsafe_code)]
 #![warn(missing_docs)]
@@ -87,7 +90,7 @@ extern crate alloc;
 #[cfg(feature = "std")]
 extern crate std;
 
-// rustdoc lists methods in the order of the modules: `parse` comes before `try_parse`.
+// rustdoc lists methods in the order of the modules, and `parse` has to come before `try_parse`.
 mod original;
 mod version_range;
 

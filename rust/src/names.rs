@@ -5,7 +5,7 @@ use alloc::string::String;
 use core::fmt::{self, Display, Formatter};
 use core::str::FromStr;
 
-/// A string isn't the name of a dialect or of a rule for pre-releases.
+/// The error of a string that isn't the name of a dialect or of a rule for pre-releases.
 ///
 /// ```
 /// use semver_parser::Dialect;
@@ -45,7 +45,7 @@ impl Display for Dialect {
 impl FromStr for Dialect {
     type Err = UnknownName;
 
-    /// Returns the dialect of which [`Dialect::name`] is the string.
+    /// Returns the dialect whose [`Dialect::name`] is the string.
     fn from_str(name: &str) -> Result<Dialect, UnknownName> {
         (0..)
             .map_while(Dialect::from_number)
@@ -67,7 +67,7 @@ impl Display for PreReleases {
 impl FromStr for PreReleases {
     type Err = UnknownName;
 
-    /// Returns the rule of which [`PreReleases::name`] is the string.
+    /// Returns the rule whose [`PreReleases::name`] is the string.
     fn from_str(name: &str) -> Result<PreReleases, UnknownName> {
         (0..)
             .map_while(PreReleases::from_number)

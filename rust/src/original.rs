@@ -1,5 +1,5 @@
-//! The signatures of the Rust crate `semver-parser` 0.10.3 that the proved calls don't have: they
-//! report a failed allocation, and these end the process, as all of Rust does.
+//! The signatures of the Rust crate `semver-parser` 0.10.3 that the proved functions don't have.
+//! Proved functions return an error if an allocation fails; these end the process, like std.
 
 use crate::rattle_std::FallibleToString;
 use crate::version;
@@ -10,13 +10,14 @@ use alloc::string::String;
 use core::fmt::{self, Display, Formatter};
 use core::str::FromStr;
 
-/// What Rust does if an allocation fails.
+/// Ends the process as Rust does if an allocation fails.
 #[cold]
 pub(crate) fn out_of_memory() -> ! {
     handle_alloc_error(Layout::new::<u64>())
 }
 
-/// The text of an error or a version. `to_string` of std would panic if `Display` returned an error.
+/// Returns an error or a version as a string. `to_string` of std would panic if `Display` returned
+/// an error.
 pub(crate) fn printed(value: impl Display) -> String {
     value
         .fallible_to_string()
@@ -25,7 +26,7 @@ pub(crate) fn printed(value: impl Display) -> String {
 
 impl RangeSet {
     /// Reads a range string into plain comparators, as the original crate does. Its error is a
-    /// sentence; [`RangeSet::try_parse`] has an error that a program can match.
+    /// sentence; [`RangeSet::try_parse`] returns an error that a program can match.
     ///
     /// A comma is an error. The original accepts one comma after a comparator, and `semver` 0.9 to
     /// 0.11 rely on it. `range.replace(',', " ")` keeps that meaning;
@@ -34,7 +35,8 @@ impl RangeSet {
     ///
     /// # Errors
     ///
-    /// The sentence of [`RangeError`], if the string isn't a range, or a number of it is too large.
+    /// The sentence of [`RangeError`], if the string isn't a range, or one of its numbers is too
+    /// large.
     ///
     /// ```
     /// use semver_parser::{Compat, RangeSet};
@@ -56,7 +58,7 @@ impl RangeSet {
 impl FromStr for RangeSet {
     type Err = String;
 
-    /// As [`RangeSet::parse`] does in Cargo mode.
+    /// Reads a range string like [`RangeSet::parse`] in Cargo mode.
     fn from_str(input: &str) -> Result<RangeSet, String> {
         RangeSet::parse(input, Compat::Cargo)
     }
@@ -72,8 +74,8 @@ impl From<RangeError> for String {
 }
 
 impl version::Identifier {
-    /// The identifier followed by `add_str`, as `AlphaNumeric` whatever both are.
-    /// [`version::Identifier::try_concat`] gives the identifier back if an allocation fails.
+    /// Returns the identifier as a string followed by `add_str`, always as `AlphaNumeric`.
+    /// [`version::Identifier::try_concat`] returns the identifier if an allocation fails.
     ///
     /// ```
     /// use semver_parser::version::Identifier;
@@ -123,7 +125,7 @@ impl std::error::Error for lexer::Error {}
 
 #[cfg(feature = "std")]
 impl std::error::Error for parser::Error<'_> {
-    /// Returns the error of the lexer, if it is one.
+    /// Returns the error of the lexer, if the error is one.
     fn source(&self) -> Option<&(dyn std::error::Error + 'static)> {
         match self {
             Self::Lexer(error) => Some(error),

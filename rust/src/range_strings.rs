@@ -1,4 +1,4 @@
-//! Calls on range strings: whether a version satisfies one, whether one is valid, and its
+//! Functions for range strings: whether a version satisfies one, whether one is valid, and its
 //! comparators.
 
 use crate::proved::semver_versions;
@@ -7,16 +7,17 @@ use crate::{layers, Dialect, Error, Meaning, PreReleases, RangeSet};
 
 pub use crate::proved::tool_ranges::satisfying::SatisfiesError;
 
-/// Returns whether a version satisfies a range as Cargo, npm or the crate in one of its modes reads
-/// both. For many versions and one range, read the range once, as a
-/// [`VersionRange`](crate::VersionRange).
+/// Returns whether a version satisfies a range. Both are read in the same dialect: Cargo's, npm's,
+/// or that of the crate in one of its modes. To check many versions against one range, read the
+/// range once, as a [`VersionRange`](crate::VersionRange).
 ///
-/// The third argument is a [`Dialect`], or a [`Meaning`], which says also which pre-releases count.
+/// The third argument is a [`Dialect`], or a [`Meaning`], which also says which pre-releases count.
 /// It allocates only if it returns an error.
 ///
 /// # Errors
 ///
-/// An [`Error`] of the version if it is invalid in the dialect, or else of the range.
+/// An [`Error`] for the version if it is invalid in the dialect, otherwise for the range if that is
+/// invalid.
 ///
 /// ```
 /// use semver_parser::{satisfies, Dialect, ErrorKind, Meaning, PreReleases};
@@ -45,13 +46,13 @@ pub fn satisfies(version: &str, range: &str, meaning: impl Into<Meaning>) -> Res
     })
 }
 
-/// Returns what [`satisfies`] does, of a version in bytes, which needn't be UTF-8. It never
-/// allocates, so its error says only which of both is invalid.
+/// Returns the result of [`satisfies`] for a version in bytes, which needn't be UTF-8. It never
+/// allocates, so its error says only whether the version or the range is invalid.
 ///
 /// # Errors
 ///
-/// [`SatisfiesError::InvalidVersion`] if the version isn't one in the dialect, or else
-/// [`SatisfiesError::InvalidRange`] if the range isn't.
+/// [`SatisfiesError::InvalidVersion`] if the version is invalid in the dialect, otherwise
+/// [`SatisfiesError::InvalidRange`] if the range is invalid.
 ///
 /// ```
 /// use semver_parser::{satisfies_bytes, Dialect, SatisfiesError};
@@ -70,11 +71,11 @@ pub fn satisfies_bytes(
     satisfying::satisfies(version, range, meaning.into())
 }
 
-/// Checks that a string is a version of a dialect. It allocates only if it returns an error.
+/// Checks that a string is a valid version in a dialect. It allocates only if it returns an error.
 ///
 /// # Errors
 ///
-/// An [`Error`] of the kind [`InvalidVersion`](crate::ErrorKind::InvalidVersion) if it isn't.
+/// An [`Error`] of the kind [`InvalidVersion`](crate::ErrorKind::InvalidVersion) if it is invalid.
 ///
 /// ```
 /// use semver_parser::{check_version, Dialect, Reason};
@@ -89,14 +90,14 @@ pub fn check_version(version: &str, dialect: Dialect) -> Result<(), Error> {
         .ok_or_else(|| Error::from_version(version.as_bytes(), dialect))
 }
 
-/// Checks that a string is a range of a dialect whose numbers fit. It allocates only if it returns
-/// an error.
+/// Checks that a string is a range in a dialect and that its numbers fit. It allocates only if it
+/// returns an error.
 ///
 /// # Errors
 ///
-/// An [`Error`] of the kind [`InvalidRange`](crate::ErrorKind::InvalidRange) if the dialect has no
-/// such range, or [`NumberTooLarge`](crate::ErrorKind::NumberTooLarge) if a number of it is above
-/// the limit of the dialect.
+/// An [`Error`] of the kind [`InvalidRange`](crate::ErrorKind::InvalidRange) if the string is not a
+/// range in the dialect, or [`NumberTooLarge`](crate::ErrorKind::NumberTooLarge) if it is one, but
+/// one of its numbers, or a bound that is raised by one, is above the limit of the dialect.
 ///
 /// ```
 /// use semver_parser::{check_range, Dialect, Reason};
@@ -109,12 +110,12 @@ pub fn check_range(range: &str, dialect: Dialect) -> Result<(), Error> {
     layers::check_range(range, dialect).map_err(|error| Error::from_range(error, range, dialect))
 }
 
-/// Rewrites a range string of a dialect into plain comparators with exact bounds: a release
+/// Rewrites a range string in a dialect into plain comparators with exact bounds. A release
 /// satisfies them if and only if it satisfies the range.
 ///
 /// # Errors
 ///
-/// Those of [`VersionRange::parse`](crate::VersionRange::parse).
+/// The errors of [`VersionRange::parse`](crate::VersionRange::parse).
 ///
 /// ```
 /// use semver_parser::{comparators, Dialect, Error};
@@ -129,7 +130,7 @@ pub fn comparators(range: &str, dialect: Dialect) -> Result<RangeSet, Error> {
 }
 
 impl From<Dialect> for Meaning {
-    /// The dialect with its default rule for pre-releases.
+    /// Returns the dialect with its default rule for pre-releases.
     fn from(dialect: Dialect) -> Meaning {
         Meaning {
             dialect,

@@ -1,6 +1,7 @@
-//! What the erased sources call of Rattle's std, over Rust's. `Vec`, `String` and all else are
-//! Rust's own; what returns an error there if an allocation fails is a method of a trait here, with
-//! the prefix `fallible_`, over `try_reserve`.
+//! Implements the functions of Rattle's std that the erased sources call, with Rust's std. `Vec`,
+//! `String` and the other types are Rust's own. A function that returns an error in Rattle if an
+//! allocation fails is a method of a trait here, with the prefix `fallible_`, and uses
+//! `try_reserve`.
 
 pub use alloc::vec;
 pub use core::{cmp, fmt, mem, str};
@@ -67,7 +68,7 @@ impl<T> FalliblePush<T> for Vec<T> {
     }
 }
 
-/// Drops an item that wasn't pushed.
+/// Drops an item that couldn't be pushed.
 #[cold]
 #[inline(never)]
 fn refused<T>(item: T) -> AllocError {
@@ -83,7 +84,7 @@ impl FalliblePush<char> for String {
     }
 }
 
-/// What else of a `Vec` allocates.
+/// The other functions of a `Vec` that allocate.
 pub trait FallibleVec<T>: Sized {
     fn fallible_with_capacity(size: usize) -> Made<Self>;
     fn fallible_from_slice(items: &[T]) -> Made<Self>
@@ -95,7 +96,7 @@ pub trait FallibleVec<T>: Sized {
     fn fallible_extend_from_slice(&mut self, items: &[T]) -> Made<()>
     where
         T: Copy;
-    /// Appends an item for which there is capacity, which is proved.
+    /// Appends an item. The proof shows that there is capacity for it.
     fn push_reserved(&mut self, item: T);
 }
 
@@ -135,9 +136,9 @@ impl<T> FallibleVec<T> for Vec<T> {
         Ok(())
     }
 
-    /// The test leaves the growth of `push` out. With a call that may grow the vector, the compiler
-    /// keeps the item in memory and copies it from there, which took a sixth of the time of reading
-    /// `^1.2.3`; with a panic for the case that isn't, too.
+    /// With the test, `push` can't grow the vector. If a call might grow it, the compiler keeps the
+    /// item in memory and copies it from there, which took a sixth of the time of reading `^1.2.3`;
+    /// so does a panic for the impossible case.
     #[inline(always)]
     fn push_reserved(&mut self, item: T) {
         debug_assert!(self.len() < self.capacity());
@@ -151,13 +152,13 @@ impl<T> FallibleVec<T> for Vec<T> {
 
 // ---------------------------------------------------------------- texts
 
-/// What of a `String` allocates.
+/// The functions of a `String` that allocate.
 pub trait FallibleString: Sized {
     fn fallible_with_capacity(size: usize) -> Made<Self>;
     fn fallible_from_str(text: &str) -> Made<Self>;
     fn fallible_push_str(&mut self, text: &str) -> Made<()>;
     fn fallible_reserve_exact(&mut self, more: usize) -> Made<()>;
-    /// What `write!` calls; its one error is out of memory.
+    /// Called by `write!`. Its only error is out of memory.
     fn write_fmt(&mut self, text: fmt::Arguments<'_>) -> Made<()>;
 }
 
@@ -172,7 +173,7 @@ impl FallibleString for String {
     fn fallible_from_str(text: &str) -> Made<String> {
         let mut made = String::new();
         made.try_reserve_exact(text.len())?;
-        // As in `push_reserved`: it always is.
+        // As in `push_reserved`, the condition always holds.
         if text.len() <= made.capacity() {
             made.push_str(text);
         }
@@ -242,7 +243,7 @@ impl<T: FallibleClone> FallibleClone for Vec<T> {
 
 // ---------------------------------------------------------------- macros
 
-/// `vec![in alloc; ..]` of items, or of an item so many times.
+/// `vec![in alloc; ..]` of items, or of an item repeated a number of times.
 #[doc(hidden)]
 #[macro_export]
 macro_rules! fallible_vec {
@@ -294,7 +295,7 @@ pub use crate::{fallible_eprintln, fallible_format, fallible_println, fallible_v
 
 // ---------------------------------------------------------------- what programs are given
 
-/// What the runtime of a program gives it.
+/// The parts of the environment that the runtime gives to a program.
 #[cfg(feature = "std")]
 #[derive(Clone, Copy)]
 pub struct HostRuntime;
@@ -318,7 +319,7 @@ impl HostRuntime {
     }
 }
 
-/// What a function of a program may be given in place of the whole runtime.
+/// The traits of the parts of the runtime, which a function can take instead of the whole runtime.
 #[cfg(feature = "std")]
 pub mod rt {
     use core::fmt::Display;
@@ -347,7 +348,7 @@ pub mod rt {
 
 #[cfg(feature = "std")]
 pub mod env {
-    /// The arguments, if each is text.
+    /// Returns the arguments, if each is UTF-8.
     pub fn args(_: &impl super::rt::Env) -> std::io::Result<std::vec::IntoIter<String>> {
         let texts: Result<Vec<String>, _> = std::env::args_os()
             .map(|argument| argument.into_string())
@@ -373,7 +374,7 @@ pub mod fs {
 pub mod io {
     pub use std::io::*;
 
-    /// Rust's, made by a call that returns a `Result` as Rattle's does.
+    /// Rust's type, created by a function that returns a `Result`, as in Rattle.
     pub struct BufReader;
     pub struct BufWriter;
 
@@ -396,7 +397,7 @@ pub mod io {
     }
 }
 
-/// What each erased file has in scope.
+/// The names that each erased file has in scope.
 pub mod prelude {
     #[cfg(feature = "std")]
     pub use super::{

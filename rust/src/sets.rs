@@ -1,4 +1,5 @@
-//! Sets of versions: what a range means, read once, and what two ranges share, lose and gain.
+//! Sets of versions. A range is read once into the set of the versions that satisfy it, and two
+//! sets can be compared and combined.
 //!
 //! ```
 //! use semver_parser::sets;
@@ -24,7 +25,7 @@ pub use crate::proved::version_sets::{Comparison, Release, SetError, SetRanges, 
 ///
 /// # Errors
 ///
-/// An [`Error`], which says where and why the string isn't a range of the dialect.
+/// An [`Error`], which says where and why the string isn't a range in the dialect.
 ///
 /// ```
 /// use semver_parser::{sets, version, Dialect};
@@ -50,7 +51,7 @@ impl Clone for VersionSet {
 }
 
 impl Hash for VersionSet {
-    /// Equal sets have the same boundaries, and so the same numbers in them.
+    /// Hashes the boundaries. Equal sets have the same boundaries, and these have the same numbers.
     fn hash<H: Hasher>(&self, state: &mut H) {
         self.releases.hash(state);
         self.digits.hash(state);
@@ -61,7 +62,7 @@ impl Hash for VersionSet {
 }
 
 impl From<AllocError> for RangeError {
-    /// [`RangeError::OutOfMemory`], so that `?` serves a range and the sets of it alike.
+    /// Returns [`RangeError::OutOfMemory`], so that `?` works for reading a range and for its sets.
     fn from(_: AllocError) -> RangeError {
         RangeError::OutOfMemory
     }

@@ -9,11 +9,12 @@ use core::ops::Range;
 pub use crate::proved::range_terms::term::{Component, Operator, PartialVersion, Span, Term};
 pub use crate::proved::range_terms::terms::Terms;
 
-/// Returns the terms of a range string of a dialect, one after the other, as they are written: the
-/// operator, each version with its components, and where each part is in the string. It allocates
-/// only if it returns an error.
+/// Returns an iterator over the terms of a range string in a dialect, as they are written: the
+/// operator, each version with its components, and the position of each part in the string. It
+/// allocates only if it returns an error.
 ///
-/// A tool that edits a requirement replaces the span of a version, and keeps everything else:
+/// A tool that edits a requirement can replace the span of a version, and leave everything else as
+/// it is:
 ///
 /// ```
 /// use semver_parser::{check_range, terms, Dialect};
@@ -28,7 +29,7 @@ pub use crate::proved::range_terms::terms::Terms;
 ///
 /// # Errors
 ///
-/// An [`Error`], which says where and why the string isn't a range of the dialect.
+/// An [`Error`], which says where and why the string isn't a range in the dialect.
 pub fn terms(range: &str, dialect: Dialect) -> Result<Terms<'_>, Error> {
     Terms::try_parse(range, dialect).map_err(|error| Error::from_range(error, range, dialect))
 }
@@ -42,7 +43,7 @@ impl Clone for Terms<'_> {
 impl FusedIterator for Terms<'_> {}
 
 impl Span {
-    /// Returns the span as a range of indices: `&string[span.range()]` is what is there.
+    /// Returns the span as a range of indices: `&string[span.range()]` is the part of the string.
     ///
     /// ```
     /// use semver_parser::Span;

@@ -1,4 +1,4 @@
-//! What Rust has of ranges beside the proved calls: strings and operators.
+//! Functions of ranges that only Rust has: with strings, and operators.
 
 use crate::original::out_of_memory;
 use crate::{Error, Meaning, OperationError, VersionRange};
@@ -6,13 +6,14 @@ use core::hash::{Hash, Hasher};
 use core::ops::{BitAnd, BitOr, Sub};
 
 impl VersionRange {
-    /// Reads a range string of a [`Dialect`](crate::Dialect), or of a [`Meaning`], which says also
-    /// which pre-releases count.
+    /// Reads a range string. The second argument is a [`Dialect`](crate::Dialect), or a
+    /// [`Meaning`], which also says which pre-releases count.
     ///
     /// # Errors
     ///
-    /// An [`Error`], which says where and why the string isn't a range of the dialect.
-    /// [`VersionRange::try_parse`] has an error that a program can match, and that doesn't allocate.
+    /// An [`Error`], which says where and why the string isn't a range in the dialect.
+    /// [`VersionRange::try_parse`] returns an error that a program can match, and that doesn't
+    /// allocate.
     ///
     /// ```
     /// use semver_parser::{Dialect, VersionRange};
@@ -32,13 +33,13 @@ impl VersionRange {
             .map_err(|error| Error::from_range(error, range, meaning.dialect))
     }
 
-    /// Returns whether the range contains a version, which is read in its dialect. Build metadata
-    /// is ignored. It allocates only if it returns an error.
+    /// Returns whether the range contains a version, which is read in the range's dialect. Build
+    /// metadata is ignored. It allocates only if it returns an error.
     ///
     /// # Errors
     ///
     /// An [`Error`] of the kind [`InvalidVersion`](crate::ErrorKind::InvalidVersion) if the version
-    /// isn't one in the dialect.
+    /// is invalid in the dialect.
     ///
     /// ```
     /// use semver_parser::{Dialect, VersionRange};
@@ -54,9 +55,9 @@ impl VersionRange {
             .map_err(|_| Error::from_version(version.as_bytes(), self.meaning().dialect))
     }
 
-    /// Returns the highest of the versions that the range contains, by precedence, and the first of
-    /// equal ones, or `None` if it contains none of them. Strings that aren't versions of the
-    /// dialect are skipped.
+    /// Returns the highest of the given versions that the range contains, or `None` if it contains
+    /// none of them. Versions are compared by precedence, and the first of equal versions is
+    /// returned. Strings that are invalid versions in the range's dialect are skipped.
     ///
     /// ```
     /// use semver_parser::{Dialect, VersionRange};
@@ -71,8 +72,8 @@ impl VersionRange {
         self.highest_among(versions.into_iter())
     }
 
-    /// Returns the lowest of the versions that the range contains, as [`VersionRange::highest`] the
-    /// highest.
+    /// Returns the lowest of the given versions that the range contains. It is otherwise like
+    /// [`VersionRange::highest`].
     ///
     /// ```
     /// use semver_parser::{Dialect, VersionRange};
@@ -103,7 +104,7 @@ impl Hash for VersionRange {
     }
 }
 
-/// What operators return: they end as Rust does if an allocation fails.
+/// Returns the result of an operator. If an allocation failed, it ends the process, like std.
 fn combined(result: Result<VersionRange, OperationError>) -> VersionRange {
     match result {
         Ok(range) => range,
@@ -115,7 +116,7 @@ fn combined(result: Result<VersionRange, OperationError>) -> VersionRange {
 impl BitOr for &VersionRange {
     type Output = VersionRange;
 
-    /// [`VersionRange::union`].
+    /// Returns the result of [`VersionRange::union`].
     ///
     /// # Panics
     ///
@@ -128,7 +129,7 @@ impl BitOr for &VersionRange {
 impl BitAnd for &VersionRange {
     type Output = VersionRange;
 
-    /// [`VersionRange::intersection`].
+    /// Returns the result of [`VersionRange::intersection`].
     ///
     /// # Panics
     ///
@@ -141,7 +142,7 @@ impl BitAnd for &VersionRange {
 impl Sub for &VersionRange {
     type Output = VersionRange;
 
-    /// [`VersionRange::difference`].
+    /// Returns the result of [`VersionRange::difference`].
     ///
     /// # Panics
     ///

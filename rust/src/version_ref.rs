@@ -1,4 +1,4 @@
-//! Versions that are borrowed from their string, and conversions of versions and strings.
+//! Versions that borrow their string, and conversions between versions and strings.
 
 use crate::original::{out_of_memory, printed};
 use crate::proved::semver_versions::version::outline_in;
@@ -10,7 +10,7 @@ use core::str::FromStr;
 pub use crate::proved::semver_versions::version::Outline as VersionRef;
 
 impl<'t> VersionRef<'t> {
-    /// Reads a version string of a dialect. The result borrows the string, and nothing is allocated
+    /// Reads a version string in a dialect. The result borrows the string, and nothing is allocated
     /// unless the string is invalid.
     ///
     /// # Errors
@@ -30,11 +30,11 @@ impl<'t> VersionRef<'t> {
         VersionRef::parse_bytes(string.as_bytes(), dialect)
     }
 
-    /// Returns what [`VersionRef::parse`] does, of bytes, which needn't be UTF-8.
+    /// Returns the result of [`VersionRef::parse`] for bytes, which needn't be UTF-8.
     ///
     /// # Errors
     ///
-    /// Those of [`VersionRef::parse`].
+    /// The errors of [`VersionRef::parse`].
     ///
     /// ```
     /// use semver_parser::{Dialect, VersionRef};
@@ -47,8 +47,8 @@ impl<'t> VersionRef<'t> {
         outline_in(bytes, dialect.grammar()).ok_or_else(|| Error::from_version(bytes, dialect))
     }
 
-    /// Returns the version with strings of its own. [`VersionRef::version`] returns an error if an
-    /// allocation fails.
+    /// Returns the version with strings of its own. [`VersionRef::version`] instead returns an
+    /// error if an allocation fails.
     ///
     /// ```
     /// use semver_parser::{Dialect, VersionRef};
@@ -72,7 +72,8 @@ impl Clone for VersionRef<'_> {
 }
 
 impl PartialEq for VersionRef<'_> {
-    /// Whether both have the same numbers, pre-release and build metadata, by their bytes.
+    /// Returns whether both have the same numbers, pre-release and build metadata, compared as
+    /// bytes.
     fn eq(&self, other: &VersionRef<'_>) -> bool {
         (
             self.major(),
@@ -95,7 +96,7 @@ impl Eq for VersionRef<'_> {}
 impl FromStr for Version {
     type Err = Error;
 
-    /// Reads a version as [`version::parse`] does. Its error owns the string.
+    /// Reads a version like [`version::parse`]. Its error owns the string.
     fn from_str(string: &str) -> Result<Version, Error> {
         version::parse(string)
             .map_err(|_| Error::from_version(string.as_bytes(), Dialect::CrateCargo))

@@ -41,7 +41,7 @@ pub fn identifiers(alloc: Global, bytes: &[u8]) -> Result<Vec<Identifier>, Alloc
 }
 
 // Answer: equation.
-/// Returns the result of [`identifiers`] for a string.
+/// Returns the result of `identifiers` for a string.
 #[inline(always)]
 pub fn identifiers_of_text(alloc: Global, text: &str) -> Result<Vec<Identifier>, AllocError>
     ensures kept { IfOk result (λ ids.

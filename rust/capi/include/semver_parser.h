@@ -13,25 +13,27 @@
  *     }
  *
  * Compile with `pkg-config --cflags --libs semver_parser`. Each type and each function has a page
- * of the manual (man semver_parser_range, man semver_parser_satisfies); semver-ranges(7) says what
- * a range means. C99 or later, or C++11.
+ * of the manual (man semver_parser_range, man semver_parser_satisfies); semver-ranges(7) explains
+ * ranges. C99 or later, or C++11.
  *
- * STRINGS are UTF-8 with a length in bytes, and need no terminating zero; `data` may be null if
- * `length` is 0, and so may an array if `count` is. A `char *` that a function makes is
+ * STRINGS are UTF-8 with a length in bytes, and need no terminating zero. `data` may be null if
+ * `length` is 0, and an array may be null if its `count` is 0. A `char *` that a function makes is
  * zero-terminated; semver_parser_free frees it.
  *
  * ERRORS. A function returns SEMVER_PARSER_OK or the status of an error. After an error its outputs
- * are as they were, and `error`, which may be null, says more; after OK it is as it was, too.
- * INVALID_ARGUMENT comes first, then the errors of the arguments from left to right. OUT_OF_MEMORY
- * comes only from a function that allocates: one that makes or prints something, combines ranges,
- * or fills `error` for an invalid string, whose error it then replaces. The others don't allocate.
+ * are unchanged, and `error`, which may be null, has the details; after OK, `error` is unchanged,
+ * too. INVALID_ARGUMENT comes first, then the errors of the arguments from left to right.
+ * OUT_OF_MEMORY is returned only by a function that allocates: one that makes or prints something,
+ * combines ranges, or fills `error` for an invalid string, in which case it replaces that string's
+ * error. The others don't allocate.
  *
- * THE CALLER MUST pass valid pointers, not null except where it is said, and not change what they
- * point to during a call. Threads may call concurrently, and read one range or list at once. In the
- * forked child of a process with several threads POSIX doesn't allow malloc, so no call either.
+ * THE CALLER MUST pass valid pointers, not null unless that is allowed, and not change what they
+ * point to during a call. Threads may call concurrently, and read one range or list at once. Don't
+ * call this library in a forked child of a multithreaded process, since it uses malloc, which POSIX
+ * doesn't allow there.
  *
  * COMPATIBILITY. A minor version may add functions, statuses, reasons, dialects and rules, and give
- * a meaning to reserved fields; a caller treats a number that it doesn't know as an unknown error.
+ * a meaning to reserved fields. Treat a number that you don't know as an unknown error.
  * semver_parser_string, semver_parser_version and semver_parser_comparator never change.
  */
 #ifndef SEMVER_PARSER_H
@@ -72,19 +74,19 @@ typedef struct {
     size_t length;
 } semver_parser_string;
 
-/* Makes a string of a zero-terminated one, which it doesn't copy. */
+/* Returns a string for a zero-terminated one, which it doesn't copy. */
 SEMVER_PARSER_NONNULL(1)
 static inline semver_parser_string semver_parser_str(const char *zero_terminated) {
     semver_parser_string string = {zero_terminated, strlen(zero_terminated)};
     return string;
 }
 
-/* Frees a `char *` that a function made; null is fine. */
+/* Frees a `char *` that a function returned; null is allowed. */
 void semver_parser_free(void *string);
 
 /* ---- options */
 
-/* Whose rules apply (semver-ranges(7)). */
+/* The dialect in which strings are read (semver-ranges(7)). */
 typedef int32_t semver_parser_dialect;
 enum {
     /* Cargo: `1.2` is `>=1.2.0 <2.0.0`. Versions are those of SemVer 2.0.0. */
@@ -103,7 +105,7 @@ typedef int32_t semver_parser_pre_releases;
 enum {
     /* Those that Cargo and npm match by default: `^1.2.3-rc` contains 1.2.3-rc.1, not 1.3.0-rc. */
     SEMVER_PARSER_PRE_RELEASES_DEFAULT = 0,
-    /* Each within the bounds of the range. */
+    /* Every one within the bounds of the range. */
     SEMVER_PARSER_PRE_RELEASES_INCLUDED = 1,
     /* None. */
     SEMVER_PARSER_PRE_RELEASES_EXCLUDED = 2
@@ -112,11 +114,11 @@ enum {
 typedef struct {
     semver_parser_dialect dialect;
     semver_parser_pre_releases pre_releases;
-    /* Has to be zero, or it is INVALID_ARGUMENT. */
+    /* Must be zero; otherwise functions return INVALID_ARGUMENT. */
     int32_t reserved[6];
 } semver_parser_options;
 
-/* Returns the options of a dialect with the pre-releases that it matches by default. */
+/* Returns the options of a dialect with its default rule for pre-releases. */
 static inline semver_parser_options semver_parser_options_of(semver_parser_dialect dialect) {
     semver_parser_options options;
     memset(&options, 0, sizeof options);
@@ -124,8 +126,9 @@ static inline semver_parser_options semver_parser_options_of(semver_parser_diale
     return options;
 }
 
-/* Returns the name of a dialect or of a rule for pre-releases: "cargo", "npm", "crate-cargo",
- * "crate-npm"; "default", "included", "excluded". Numbers count from 0; null if there is none. */
+/* Returns the name of a dialect or of a rule for pre-releases, or null if there is no such number.
+ * The names are "cargo", "npm", "crate-cargo", "crate-npm"; "default", "included", "excluded".
+ * Numbers count from 0. */
 const char *semver_parser_dialect_name(semver_parser_dialect dialect);
 const char *semver_parser_pre_releases_name(semver_parser_pre_releases pre_releases);
 
@@ -133,32 +136,32 @@ const char *semver_parser_pre_releases_name(semver_parser_pre_releases pre_relea
 
 typedef int32_t semver_parser_status;
 enum {
-    /* There is no error. */
+    /* No error. */
     SEMVER_PARSER_OK = 0,
-    /* The string is not a range of the dialect. */
+    /* The string is not a range in the dialect. */
     SEMVER_PARSER_INVALID_RANGE = 1,
-    /* The string is a range of the dialect, but a number or a raised bound is above 2^64 - 1, to
-     * npm above 2^53 - 1. */
+    /* The string is a range in the dialect, but a number or a raised bound is above 2^64 - 1, or
+     * above 2^53 - 1 in npm's dialect. */
     SEMVER_PARSER_NUMBER_TOO_LARGE = 2,
     /* The string is an invalid version in the dialect. */
     SEMVER_PARSER_INVALID_VERSION = 3,
     /* An allocation failed. */
     SEMVER_PARSER_OUT_OF_MEMORY = 4,
-    /* There is no such option, a reserved field isn't zero, or an index is too large. */
+    /* An option doesn't exist, a reserved field isn't zero, or an index is too large. */
     SEMVER_PARSER_INVALID_ARGUMENT = 5,
-    /* The second of two ranges has another dialect than the first. */
+    /* The second of two ranges has a different dialect than the first. */
     SEMVER_PARSER_DIFFERENT_DIALECTS = 6,
-    /* The second of two ranges has the same dialect, and another rule for pre-releases. */
+    /* The second of two ranges has the same dialect, but a different rule for pre-releases. */
     SEMVER_PARSER_DIFFERENT_PRE_RELEASES = 7
 };
 
-/* Why a string is refused, as a version or as a range. From CARGO_COMMAS to CRATE_V another dialect
- * takes what is refused. */
+/* Why a string is an invalid version or range. From CARGO_COMMAS to CRATE_V, another dialect allows
+ * what is invalid. */
 typedef int32_t semver_parser_reason;
 enum {
-    /* No string is refused: the status is OK, or that of an error that isn't about a string. */
+    /* No string is invalid: the status is OK, or that of an error that isn't about a string. */
     SEMVER_PARSER_REASON_NONE = 0,
-    /* The string is empty, or white space that the dialect takes there. */
+    /* The string is empty, or only white space that the dialect allows there. */
     SEMVER_PARSER_REASON_EMPTY = 1,
     /* There are fewer than three numbers: the version `1.2`, the range `1.2-rc`. */
     SEMVER_PARSER_REASON_NOT_THREE_NUMBERS = 2,
@@ -166,15 +169,15 @@ enum {
     SEMVER_PARSER_REASON_LEADING_ZERO = 3,
     /* An identifier is empty: `1.2.3-`, `1.2.3-a..b`. */
     SEMVER_PARSER_REASON_EMPTY_IDENTIFIER = 4,
-    /* No version, or range, has this character there: `1.x` as a version, `1.2.3.4`. */
+    /* This character isn't allowed there in a version or range: `1.x` as a version, `1.2.3.4`. */
     SEMVER_PARSER_REASON_UNEXPECTED_CHARACTER = 5,
     /* A number is above 2^64 - 1. */
     SEMVER_PARSER_REASON_TOO_LARGE = 6,
-    /* A version is longer than npm's 256 characters, or a build identifier than 250. */
+    /* A version is longer than npm's 256 characters, or a build identifier longer than 250. */
     SEMVER_PARSER_REASON_TOO_LONG = 7,
-    /* Text follows a version: `1.2.3 x`. */
+    /* A version is followed by something else: `1.2.3 x`. */
     SEMVER_PARSER_REASON_TEXT_AFTER = 8,
-    /* A range isn't UTF-8: `offset` is that of the first byte that isn't. */
+    /* A range isn't UTF-8: `offset` is that of the first invalid byte. */
     SEMVER_PARSER_REASON_NOT_UTF8 = 9,
     /* A number is expected: `>=`, `^1..2`. */
     SEMVER_PARSER_REASON_NUMBER_EXPECTED = 10,
@@ -182,56 +185,57 @@ enum {
     SEMVER_PARSER_REASON_UNEXPECTED_END = 11,
     /* Cargo separates comparators by commas: `>=1.2.3 <2`. */
     SEMVER_PARSER_REASON_CARGO_COMMAS = 12,
-    /* Cargo takes `*` without numbers before it only alone: `1, *`. */
+    /* Cargo allows `*` without a number before it only as the whole requirement: `1, *`. */
     SEMVER_PARSER_REASON_CARGO_WILDCARD = 13,
-    /* Cargo takes no `||`: `1 || 2`. */
+    /* Cargo doesn't allow `||`: `1 || 2`. */
     SEMVER_PARSER_REASON_CARGO_BARS = 14,
-    /* Cargo takes no leading `v`, of a version or of a range: `v1.2.3`, `^v1`. */
+    /* Cargo doesn't allow a leading `v`, before a version or in a range: `v1.2.3`, `^v1`. */
     SEMVER_PARSER_REASON_CARGO_V = 15,
-    /* Cargo takes no hyphen ranges: `1.2.3 - 2`. */
+    /* Cargo doesn't have hyphen ranges: `1.2.3 - 2`. */
     SEMVER_PARSER_REASON_CARGO_HYPHEN = 16,
     /* npm separates comparators by spaces: `>=1.2.3, <2`. */
     SEMVER_PARSER_REASON_NPM_COMMA = 17,
-    /* The crate takes no commas: `1.2.3,`. */
+    /* The crate doesn't allow commas: `1.2.3,`. */
     SEMVER_PARSER_REASON_CRATE_COMMA = 18,
-    /* The crate takes no leading `v`, of a version or of a range. */
+    /* The crate doesn't allow a leading `v`, before a version or in a range. */
     SEMVER_PARSER_REASON_CRATE_V = 19,
-    /* To npm, a number is above 2^53 - 1. */
+    /* In npm's dialect, a number is above 2^53 - 1. */
     SEMVER_PARSER_REASON_NPM_TOO_LARGE = 20,
-    /* Cargo takes at most 32 comparators. */
+    /* Cargo allows at most 32 comparators. */
     SEMVER_PARSER_REASON_TOO_MANY_COMPARATORS = 21,
-    /* The bound of a range above a number is above 2^64 - 1: `>1.18446744073709551615`. */
+    /* The bound above a number of a range is above 2^64 - 1: `>1.18446744073709551615`. */
     SEMVER_PARSER_REASON_BOUND_TOO_LARGE = 22,
-    /* To npm, the bound of a range above a number is above 2^53 - 1. */
+    /* In npm's dialect, the bound above a number of a range is above 2^53 - 1. */
     SEMVER_PARSER_REASON_NPM_BOUND_TOO_LARGE = 23
 };
 
-/* Where and why a call was refused. */
+/* Where and why a call failed. */
 typedef struct {
     semver_parser_status status;
     semver_parser_reason reason;
-    /* The offset in bytes of the first character that no version or range has there, or the length
-     * of the string if something is missing at its end. After NUMBER_TOO_LARGE, that of the number
-     * that is too large. */
+    /* The byte offset of the first character that isn't allowed there, or the length of the string
+     * if something is missing at its end. After NUMBER_TOO_LARGE, the offset of the number that is
+     * too large. */
     size_t offset;
-    /* Which string or range of the call it is about: 0 for the first, 1 for the second; of an
-     * array, its index there. */
+    /* The index of the string or range of the call that the error is about: 0 for the first, 1 for
+     * the second; for an array, the index in it. */
     size_t index;
-    /* Are zero. */
+    /* Zero. */
     uint64_t reserved[4];
 } semver_parser_error;
 
-/* Makes an English sentence of an error: `invalid range "1 || 2" at offset 2: Cargo takes no ||;
- * npm does`. `string` is the string of the call that `error->index` names. With `caret` it has
- * two lines more, indented by four spaces: the string, shortened if it is long and with U+FFFD
- * for control characters, and a caret under the character. An error that isn't about a string, such
- * as DIFFERENT_DIALECTS, is its semver_parser_status_text alone, whatever `string` is.
- * semver_parser_free frees the sentence. */
+/* Makes an English sentence for an error:
+ * `invalid range "1 || 2" at offset 2: Cargo takes no ||; npm does`. `string` is the string of the
+ * call that `error->index` refers to. With `caret`, two more lines follow, indented by four spaces:
+ * the string, shortened if it is long and with U+FFFD for control characters, and a caret under the
+ * character. For an error that isn't about a string, such as DIFFERENT_DIALECTS, the sentence is
+ * only its semver_parser_status_text, whatever `string` is. semver_parser_free frees the
+ * sentence. */
 SEMVER_PARSER_CHECKED(1, 4)
 semver_parser_status semver_parser_error_message(
     const semver_parser_error *error, semver_parser_string string, bool caret, char **message);
 
-/* Returns the name of a status or of a reason, or an English phrase for it; null if there is no
+/* Returns the name of a status or of a reason, or an English phrase for it, or null if there is no
  * such number. Names are for programs and logs, and never change: "invalid-range", "leading-zero".
  * Phrases are for people, and may change. */
 const char *semver_parser_status_name(semver_parser_status status);
@@ -239,20 +243,20 @@ const char *semver_parser_status_text(semver_parser_status status);
 const char *semver_parser_reason_name(semver_parser_reason reason);
 const char *semver_parser_reason_text(semver_parser_reason reason);
 
-/* Returns the version of the loaded library: "1.0.0", and 1000000 for it. */
+/* Returns the version of the loaded library: "1.0.0", or 1000000 as a number. */
 const char *semver_parser_library_version(void);
 uint32_t semver_parser_library_version_number(void);
 
-/* ---- versions, and a version and a range */
+/* ---- versions, and whether one satisfies a range */
 
-/* Whether a version satisfies a range: 1.9.0 satisfies `^1.2`. Build metadata is ignored.
+/* Checks whether a version satisfies a range: 1.9.0 satisfies `^1.2`. Build metadata is ignored.
  * INVALID_VERSION, INVALID_RANGE, NUMBER_TOO_LARGE. */
 SEMVER_PARSER_CHECKED(4)
 semver_parser_status semver_parser_satisfies(
     semver_parser_string version, semver_parser_string range, semver_parser_options options,
     bool *satisfies, semver_parser_error *error);
 
-/* Whether a string is a range: OK, INVALID_RANGE or NUMBER_TOO_LARGE. */
+/* Checks that a string is a range. INVALID_RANGE, NUMBER_TOO_LARGE. */
 SEMVER_PARSER_USED
 semver_parser_status semver_parser_check_range(
     semver_parser_string range, semver_parser_dialect dialect, semver_parser_error *error);
@@ -273,8 +277,8 @@ semver_parser_status semver_parser_parse_version(
     semver_parser_string version, semver_parser_dialect dialect, semver_parser_version *parsed,
     semver_parser_error *error);
 
-/* Compares two versions by precedence (SemVer 2.0.0, section 11): `order` is -1, 0 or 1, and -1 of
- * 1.0.0-rc and 1.0.0. INVALID_VERSION. */
+/* Compares two versions by precedence (SemVer 2.0.0, section 11): `order` is -1, 0 or 1. It is -1
+ * for 1.0.0-rc and 1.0.0. INVALID_VERSION. */
 SEMVER_PARSER_CHECKED(4)
 semver_parser_status semver_parser_compare_versions(
     semver_parser_string version, semver_parser_string other, semver_parser_dialect dialect,
@@ -290,30 +294,31 @@ semver_parser_status semver_parser_range_parse(
     semver_parser_string string, semver_parser_options options, semver_parser_range **range,
     semver_parser_error *error);
 
-/* Frees a range; null is fine. */
+/* Frees a range; null is allowed. */
 void semver_parser_range_free(semver_parser_range *range);
 
-/* Returns the options that the range was read by, by which its versions are read. */
+/* Returns the options with which the range was read. Versions are read in their dialect. */
 SEMVER_PARSER_NONNULL(1)
 semver_parser_options semver_parser_range_options(const semver_parser_range *range);
 
-/* Whether a version is in the range, as semver_parser_satisfies says. INVALID_VERSION. */
+/* Checks whether a version is in the range, like semver_parser_satisfies. INVALID_VERSION. */
 SEMVER_PARSER_CHECKED(1, 3)
 semver_parser_status semver_parser_range_contains(
     const semver_parser_range *range, semver_parser_string version, bool *contains,
     semver_parser_error *error);
 
-/* Whether each of `count` versions is in the range. `statuses`, which may be null, gets OK or
- * INVALID_VERSION for each; an invalid version isn't contained. It does not allocate, and the
- * status is always OK. */
+/* Checks for each of `count` versions whether it is in the range. `statuses`, which may be null,
+ * gets OK or INVALID_VERSION for each; an invalid version isn't contained. It does not allocate,
+ * and the status is always OK. */
 SEMVER_PARSER_CHECKED(1)
 semver_parser_status semver_parser_range_contains_each(
     const semver_parser_range *range, const semver_parser_string *versions, size_t count,
     bool *contains, semver_parser_status *statuses);
 
-/* Finds the highest or lowest of `count` versions that are in the range, the first of equal ones:
- * `index` becomes its index, or `count` if none is. Invalid versions are skipped if `skip_invalid`;
- * else the first is INVALID_VERSION, with its index in `error`. */
+/* Finds the highest or lowest of `count` versions that are in the range. Of equal versions it is
+ * the first. `index` is set to its index, or to `count` if none is in the range. With
+ * `skip_invalid`, invalid versions are skipped; without it, the first one is INVALID_VERSION, with
+ * its index in `error`. */
 SEMVER_PARSER_CHECKED(1, 5)
 semver_parser_status semver_parser_range_highest_of(
     const semver_parser_range *range, const semver_parser_string *versions, size_t count,
@@ -323,7 +328,7 @@ semver_parser_status semver_parser_range_lowest_of(
     const semver_parser_range *range, const semver_parser_string *versions, size_t count,
     bool skip_invalid, size_t *index, semver_parser_error *error);
 
-/* Makes the range of the versions that are in one or the other, in both, or in the first alone: the
+/* Makes the range of the versions that are in either range, in both, or only in the first: the
  * difference of `^1.2` and `>=1.4` contains 1.2.0 and not 1.4.0. semver_parser_range_free frees it.
  * Both ranges must have the same options. DIFFERENT_DIALECTS, DIFFERENT_PRE_RELEASES. */
 SEMVER_PARSER_CHECKED(1, 2, 3)
@@ -339,9 +344,9 @@ semver_parser_status semver_parser_range_difference(
     const semver_parser_range *range, const semver_parser_range *other,
     semver_parser_range **made, semver_parser_error *error);
 
-/* Whether two ranges have the same versions, whether each version of the first is in the other, and
- * whether no version is in both. Both ranges must have the same options. These don't allocate, with
- * or without `error`. DIFFERENT_DIALECTS, DIFFERENT_PRE_RELEASES. */
+/* Checks whether two ranges contain the same versions, whether every version in the first is in the
+ * other, and whether no version is in both. Both ranges must have the same options. These functions
+ * don't allocate, with or without `error`. DIFFERENT_DIALECTS, DIFFERENT_PRE_RELEASES. */
 SEMVER_PARSER_CHECKED(1, 2, 3)
 semver_parser_status semver_parser_range_equal(
     const semver_parser_range *range, const semver_parser_range *other, bool *equal,
@@ -355,26 +360,26 @@ semver_parser_status semver_parser_range_is_disjoint(
     const semver_parser_range *range, const semver_parser_range *other, bool *is_disjoint,
     semver_parser_error *error);
 
-/* Returns whether a range has no version: `>2.0.0 <1.0.0` has none. */
+/* Returns whether a range contains no version: `>2.0.0 <1.0.0` contains none. */
 SEMVER_PARSER_NONNULL(1)
 bool semver_parser_range_is_empty(const semver_parser_range *range);
 
-/* Makes a string of the lowest version of all that are in the range, null if it is empty: `^1.2.0`
- * has 1.2.0. semver_parser_free frees it. */
+/* Makes a string of the lowest version in the range, or null if the range is empty: for `^1.2.0` it
+ * is 1.2.0. semver_parser_free frees it. */
 SEMVER_PARSER_CHECKED(1, 2)
 semver_parser_status semver_parser_range_lowest_version(
     const semver_parser_range *range, char **version);
 
-/* Makes a string of the releases of a range, or of its pre-releases: `>=1.2.0 <2.0.0`, `*` for all,
- * `<0.0.0-0` for none. Its syntax is npm's in each dialect. In SEMVER_PARSER_DIALECT_CRATE_NPM that
- * of releases reads back with PRE_RELEASES_EXCLUDED, and that of pre-releases with
- * PRE_RELEASES_INCLUDED, where only the pre-releases count; but `*`, all of them, begins with 0.0.0
- * there. semver_parser_free frees it. */
+/* Makes a string of the releases in a range, or of the pre-releases in it: `>=1.2.0 <2.0.0`, `*`
+ * for all, `<0.0.0-0` for none. Its syntax is npm's, whatever the dialect. It can be read in
+ * SEMVER_PARSER_DIALECT_CRATE_NPM: the string of the releases with PRE_RELEASES_EXCLUDED, and that
+ * of the pre-releases with PRE_RELEASES_INCLUDED, where only the pre-releases count. But `*`, which
+ * means all pre-releases, begins with 0.0.0 there. semver_parser_free frees it. */
 SEMVER_PARSER_CHECKED(1, 3)
 semver_parser_status semver_parser_range_to_string(
     const semver_parser_range *range, bool pre_releases, char **string);
 
-/* ---- comparators: what a range is rewritten to */
+/* ---- comparators: the result of rewriting a range */
 
 typedef struct semver_parser_comparators semver_parser_comparators;
 
@@ -392,8 +397,8 @@ enum {
     SEMVER_PARSER_OP_EQUAL = 4
 };
 
-/* A comparator. Those of one `range` all have to hold; ranges count from 0. `pre` is valid as long
- * as the list that it is of. */
+/* A comparator. A version has to satisfy all comparators with the same `range`; ranges count from
+ * 0. `pre` is valid as long as the list is. */
 typedef struct {
     size_t range;
     semver_parser_op op;
@@ -404,22 +409,22 @@ typedef struct {
 } semver_parser_comparator;
 
 /* Rewrites a range to plain comparators: `^1.2` gives `>=` 1.2.0 and `<` 2.0.0-0. In the crate's
- * dialects the second is `<` 2.0.0, unless `exact`. They say which releases satisfy the range; for
- * pre-releases use semver_parser_range. semver_parser_comparators_free frees them. INVALID_RANGE,
- * NUMBER_TOO_LARGE. */
+ * dialects the second is `<` 2.0.0, unless `exact`. They determine which releases satisfy the
+ * range; for pre-releases use semver_parser_range. semver_parser_comparators_free frees them.
+ * INVALID_RANGE, NUMBER_TOO_LARGE. */
 SEMVER_PARSER_CHECKED(4)
 semver_parser_status semver_parser_comparators_of_range(
     semver_parser_string range, semver_parser_dialect dialect, bool exact,
     semver_parser_comparators **comparators, semver_parser_error *error);
 
-/* Frees comparators; null is fine. */
+/* Frees comparators; null is allowed. */
 void semver_parser_comparators_free(semver_parser_comparators *comparators);
 
-/* Returns how many comparators a list has. */
+/* Returns the number of comparators in a list. */
 SEMVER_PARSER_NONNULL(1)
 size_t semver_parser_comparators_count(const semver_parser_comparators *comparators);
 
-/* Gives the comparator of an index. An index that is too large is INVALID_ARGUMENT. */
+/* Gets the comparator at an index. An index that is too large is INVALID_ARGUMENT. */
 SEMVER_PARSER_CHECKED(1, 3)
 semver_parser_status semver_parser_comparators_get(
     const semver_parser_comparators *comparators, size_t index,
@@ -431,9 +436,9 @@ SEMVER_PARSER_CHECKED(1, 2)
 semver_parser_status semver_parser_comparators_to_string(
     const semver_parser_comparators *comparators, char **string);
 
-/* ---- terms: what a range has, as it is written */
+/* ---- terms: the parts of a range as they are written */
 
-/* The operators of comparators have the numbers of semver_parser_op. */
+/* The operator of a term. Those of comparators have the numbers of semver_parser_op. */
 typedef int32_t semver_parser_operator;
 enum {
     /* `<` */
@@ -450,7 +455,7 @@ enum {
     SEMVER_PARSER_OPERATOR_TILDE = 5,
     /* `^` */
     SEMVER_PARSER_OPERATOR_CARET = 6,
-    /* Nothing: `1.2` */
+    /* No operator: `1.2` */
     SEMVER_PARSER_OPERATOR_BARE = 7,
     /* The hyphen between two versions: `1.2 - 2.3` */
     SEMVER_PARSER_OPERATOR_HYPHEN = 8
@@ -466,15 +471,16 @@ enum {
     SEMVER_PARSER_COMPONENT_WILDCARD = 2
 };
 
-/* A component of a version. `number` is the number; one above 2^64 - 1, which can only be after a
- * wildcard, is 2^64 - 1. For a WILDCARD it is the character 'x', 'X' or '*', and for NONE it is 0. */
+/* A component of a version. `number` is the number; a number above 2^64 - 1, which is possible only
+ * after a wildcard, is given as 2^64 - 1. For a WILDCARD it is the character 'x', 'X' or '*', and
+ * for NONE it is 0. */
 typedef struct {
     semver_parser_component_kind kind;
     uint64_t number;
 } semver_parser_component;
 
-/* A version as a term states it: the bytes from `start` to before `end`, with the `v` if it has one.
- * `pre` and `build` are parts of the range's string, without `-` and `+`. */
+/* The version of a term: the bytes from `start` to before `end`, including a `v`. `pre` and `build`
+ * are parts of the range's string, without `-` and `+`. */
 typedef struct {
     size_t start;
     size_t end;
@@ -487,7 +493,7 @@ typedef struct {
 } semver_parser_partial_version;
 
 /* A term: the bytes from `start` to before `end`. `range` is the number of `||` before it. `upper`
- * is the version after the hyphen of a hyphen range; other terms have none, and it is zero. */
+ * is the version after the hyphen of a hyphen range, and zero for other terms. */
 typedef struct {
     size_t range;
     semver_parser_operator op;
@@ -497,28 +503,30 @@ typedef struct {
     semver_parser_partial_version upper;
 } semver_parser_term;
 
-/* Reads the terms of a range in their order: `^1.2 || 3.x` has two. `count` is how many there are;
- * as many of them as `capacity` are written to `terms`, which may be null if `capacity` is 0.
- * Another partial version of the dialect's grammar may replace the bytes of one, and the string is in
- * the grammar again; in Cargo's dialect it must state a number. INVALID_RANGE, NUMBER_TOO_LARGE. */
+/* Reads the terms of a range in order: `^1.2 || 3.x` has two. `count` is set to their number. At
+ * most `capacity` of them are written to `terms`, which may be null if `capacity` is 0. If the
+ * bytes of a version are replaced by another partial version of the dialect's grammar, the string
+ * is still in the grammar; in Cargo's dialect the replacement must have a number. INVALID_RANGE,
+ * NUMBER_TOO_LARGE. */
 SEMVER_PARSER_CHECKED(5)
 semver_parser_status semver_parser_terms_of_range(
     semver_parser_string range, semver_parser_dialect dialect, semver_parser_term *terms,
     size_t capacity, size_t *count, semver_parser_error *error);
 
-/* Makes the string of a range in which a version has the numbers of another one. The version is the
- * one of a term that begins at `start`. Its form is kept: how many components it has, its wildcards
- * and its `v`. The pre-release of the other version is written if three numbers are stated, and its
- * build metadata isn't: `^1.x || v2` becomes `^1.x || v3` by 3.1.4 at offset 8. Check the result with
- * semver_parser_check_range, since a raised bound may be too large. semver_parser_free frees it.
- * INVALID_RANGE, NUMBER_TOO_LARGE, INVALID_VERSION; INVALID_ARGUMENT if no version begins there. */
+/* Makes the string of a range in which one version has the numbers of another. It is the version of
+ * a term that begins at `start`. Its form is kept: the number of its components, its wildcards and
+ * its `v`. The pre-release of the other version is written if the version in the range has three
+ * numbers, and its build metadata isn't: `^1.x || v2` becomes `^1.x || v3` with 3.1.4 at offset 8.
+ * Check the result with semver_parser_check_range, since a raised bound may be too large.
+ * semver_parser_free frees it. INVALID_RANGE, NUMBER_TOO_LARGE, INVALID_VERSION; INVALID_ARGUMENT
+ * if no version begins there. */
 SEMVER_PARSER_CHECKED(5)
 semver_parser_status semver_parser_replace_version(
     semver_parser_string range, size_t start, semver_parser_string version,
     semver_parser_dialect dialect, char **replaced, semver_parser_error *error);
 
-/* Returns how an operator is written, an empty string for BARE; null if there is no such number.
- * It may be the operator of a term or of a comparator. */
+/* Returns how an operator is written, or null if there is no such number. BARE is written as an
+ * empty string. It may be the operator of a term or of a comparator. */
 const char *semver_parser_operator_sign(semver_parser_operator op);
 
 #ifdef __cplusplus

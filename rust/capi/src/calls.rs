@@ -1,4 +1,4 @@
-//! The calls of the proved crate that answer the functions.
+//! The calls of the proved crate behind the functions.
 
 use crate::errors::Problem;
 use crate::heap::moved;
@@ -14,13 +14,14 @@ use proved::{Compat, Dialect, Op, RangeError, RangeSet, Terms};
 
 type Answer<'a, T> = Result<T, Problem<'a>>;
 
-/// Reads the version that is the string of this index.
+/// Reads a version. `index` says which string of the call it is.
 #[inline(always)]
 fn version(bytes: &[u8], dialect: Dialect, index: usize) -> Answer<'_, Outline<'_>> {
     outline_in(bytes, dialect.grammar()).ok_or(Problem::Version { bytes, dialect, index })
 }
 
-/// The text of the range that is the string of this index. For speed it is first tried as ASCII.
+/// Returns a range string as UTF-8. It is first tried as ASCII, for speed. `index` says which
+/// string of the call it is.
 #[inline(always)]
 fn text(bytes: &[u8], index: usize) -> Answer<'_, &str> {
     if bytes.is_ascii() {
@@ -30,7 +31,7 @@ fn text(bytes: &[u8], index: usize) -> Answer<'_, &str> {
     str::from_utf8(bytes).map_err(|error| Problem::NotUtf8 { offset: error.valid_up_to(), index })
 }
 
-/// What is wrong with the range that is the string of this index.
+/// Returns the problem with a range. `index` says which string of the call it is.
 fn refused<'a>(
     range: &'a str,
     dialect: Dialect,
@@ -56,14 +57,15 @@ pub fn check_range(range: &[u8], number: i32) -> Answer<'_, ()> {
     layers::check_range(range, dialect).map_err(refused(range, dialect, 0))
 }
 
-/// The terms of a range, of which each has been checked.
+/// Returns the terms of a range, each of which has been checked.
 pub fn terms(range: &[u8], number: i32) -> Answer<'_, Terms<'_>> {
     let dialect = dialect(number)?;
     let range = text(range, 0)?;
     Terms::try_parse(range, dialect).map_err(refused(range, dialect, 0))
 }
 
-/// A range with another version at an offset, at which one of a term begins.
+/// Returns a range with the numbers of another version at an offset, if a version of a term begins
+/// there.
 pub fn replace_version<'a>(
     range: &'a [u8],
     start: usize,
@@ -114,11 +116,12 @@ pub fn range_to_string(range: &VersionRange, pre_releases: bool) -> Answer<'_, *
     printed(if pre_releases { set.pre_release_ranges()? } else { set.release_ranges()? })
 }
 
-/// How many versions are compared at once, beside the one that was found before.
+/// How many versions are compared at once, in addition to the best one so far.
 const AT_ONCE: usize = 32;
 
-/// The index of the highest or lowest version that is in a range. It does not allocate: the one
-/// that was found comes first among the next ones, and what isn't filled is an invalid version.
+/// Returns the index of the highest or lowest version that is in a range. It does not allocate: the
+/// best version so far is compared first with the next ones, and what isn't filled is an invalid
+/// version.
 pub fn outermost<'a>(
     range: &VersionRange,
     strings: &'a [StringView],
@@ -140,7 +143,7 @@ pub fn outermost<'a>(
     Ok(index)
 }
 
-/// Compares two ranges of the same options.
+/// Compares two ranges with the same options.
 pub fn compare<'a>(
     range: &'a VersionRange,
     other: &'a VersionRange,
@@ -164,7 +167,7 @@ pub fn combine<'a>(
     }
 }
 
-/// What differs between two ranges: their dialects, or else which pre-releases count.
+/// Returns how two ranges differ: in their dialects, or otherwise in which pre-releases count.
 fn different<'a>(range: &VersionRange, other: &VersionRange) -> Problem<'a> {
     if range.meaning().dialect != other.meaning().dialect {
         return Problem::Dialects;
@@ -172,7 +175,7 @@ fn different<'a>(range: &VersionRange, other: &VersionRange) -> Problem<'a> {
     Problem::PreReleases
 }
 
-/// semver_parser_comparators: ranges, their comparators, and each as it is printed.
+/// semver_parser_comparators: ranges, their comparators, and the printed form of each.
 pub struct Comparators {
     set: RangeSet,
     pub listed: Vec<Comparator>,
@@ -191,7 +194,7 @@ pub fn comparators(bytes: &[u8], number: i32, exact: bool) -> Answer<'_, *mut Co
     let (mut listed, mut printed) = (Vec::new(), Vec::new());
     for (range, one) in set.ranges.iter().enumerate() {
         for it in &one.comparator_set {
-            // A pre-release is what is printed after the first hyphen.
+            // The pre-release is what is printed after the first hyphen.
             let text = it.fallible_to_string()?;
             let pre = text.split_once('-').map_or("", |(_, pre)| pre);
             let (op, pre) = (number_of(&it.op), StringView::of(pre.as_bytes()));

@@ -1,4 +1,4 @@
-//! Why a call ends without an answer, and how it is reported.
+//! Why a call returns no result, and how this is reported.
 
 use proved::layers::{explain_range, explain_version};
 use proved::Reason;
@@ -25,8 +25,8 @@ pub struct Error {
     reserved: [u64; 4],
 }
 
-/// What is wrong with a call; `index` says which of its strings it is about. Of two ranges of
-/// different options it is the second one.
+/// What is wrong with a call. `index` says which of its strings is wrong. If two ranges have
+/// different options, it is the second one.
 pub enum Problem<'a> {
     Argument,
     Memory,
@@ -58,7 +58,8 @@ impl Problem<'_> {
         }
     }
 
-    /// What is reported. The reason and the offset are found only if they are asked for.
+    /// Returns the error to report. The reason and the offset are found only if the caller asks for
+    /// them.
     fn error(&self) -> Result<Error, AllocError> {
         let (found, index) = match *self {
             Problem::Version { bytes, dialect, index } => {
@@ -78,29 +79,29 @@ impl Problem<'_> {
     }
 }
 
-/// Writes what a call made, or what is wrong with it, and returns its status. SAFETY: `out` may be
-/// written, and so may `error` if it isn't null.
+/// Writes the result of a call, or the error, and returns the status. SAFETY: `out` may be written,
+/// and so may `error` if it isn't null.
 #[inline(always)]
 pub unsafe fn finish<T>(made: Result<T, Problem<'_>>, out: *mut T, error: *mut Error) -> Status {
     match made {
         Ok(made) => {
-            // SAFETY: as the caller must see to.
+            // SAFETY: the caller ensures it.
             unsafe { out.write(made) };
             OK
         }
         Err(problem) if error.is_null() => problem.status(),
-        // SAFETY: as the caller must see to.
+        // SAFETY: the caller ensures it.
         Err(problem) => unsafe { report(problem, error) },
     }
 }
 
-/// SAFETY: the error may be written.
+/// Writes an error and returns its status. SAFETY: `error` may be written.
 #[cold]
 unsafe fn report(problem: Problem<'_>, error: *mut Error) -> Status {
     let memory = Error { status: OUT_OF_MEMORY, ..Error::default() };
     let found = problem.error().unwrap_or(memory);
     let status = found.status;
-    // SAFETY: as the caller must see to.
+    // SAFETY: the caller ensures it.
     unsafe { error.write(found) };
     status
 }

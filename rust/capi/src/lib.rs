@@ -1,5 +1,5 @@
-//! The C API: the functions of include/semver_parser.h, which says what each does and what its
-//! caller must do. They decide nothing: each calls the proved crate.
+//! The C API: the functions of include/semver_parser.h, which documents what each does and what its
+//! caller must do. They contain no logic: each calls the proved crate.
 #![no_std]
 #![deny(unsafe_op_in_unsafe_fn)]
 #![allow(clippy::missing_safety_doc)]
@@ -19,9 +19,9 @@ use message::c_text;
 use proved::VersionRange as Range;
 use types::{items, Comparator, Options, StringView, Term, Version};
 
-/// Defines functions of the header: `name(arguments) -> output = call`, with `error` if it has one;
-/// `name(arguments) => type = call` if it returns what the call does; `name(made) = call` if it
-/// frees. An array has its count.
+/// Defines functions of the header. `name(arguments) -> output = call` has an output, and `error`
+/// if it is listed; `name(arguments) => type = call` returns what the call returns;
+/// `name(made) = call` frees its argument. An array is followed by its count.
 macro_rules! functions {
     ($name:ident($($it:ident: $(&$of:ident)? $($type:ident)? $([$count:ident])?),*)
         -> $out:ident: $made:ty $(, $error:ident)? = $call:expr; $($rest:tt)*) => {
@@ -31,7 +31,7 @@ macro_rules! functions {
             $out: *mut $made, $($error: *mut Error)?
         ) -> Status {
             let (call, error) = ($call, [$($error,)? core::ptr::null_mut()][0]);
-            // SAFETY: the header requires valid arguments, and for outputs that may be written.
+            // SAFETY: the header requires valid arguments, and outputs that may be written.
             unsafe { finish(call($(given!($it $(&$of)? $($type)? $($count)?)),*), $out, error) }
         }
         functions! { $($rest)* }
@@ -50,7 +50,8 @@ macro_rules! functions {
     ($name:ident($it:ident: *mut $type:ident) = $call:expr; $($rest:tt)*) => {
         #[no_mangle]
         pub unsafe extern "C" fn $name($it: *mut $type) {
-            // SAFETY: the header requires what was made, or null, that isn't used any more.
+            // SAFETY: the header requires a value that was made here, or null, and that isn't used
+            // any more.
             unsafe { $call($it) }
         }
         functions! { $($rest)* }
@@ -58,7 +59,7 @@ macro_rules! functions {
     () => {};
 }
 
-/// What an argument is in Rust.
+/// Converts an argument to its type in Rust.
 #[rustfmt::skip]
 macro_rules! given {
     ($it:ident StringView) => { $it.bytes() };
@@ -188,7 +189,7 @@ pub unsafe extern "C" fn semver_parser_terms_of_range(
         let mut read = 0;
         for term in found {
             if read < capacity {
-                // SAFETY: as in `functions`; the array holds `capacity` terms.
+                // SAFETY: as in `functions`; the array has capacity for `capacity` terms.
                 unsafe { terms.add(read).write(Term::of(&term)) };
             }
             read += 1;

@@ -1,4 +1,4 @@
-//! Strings that C gets: the texts of numbers, and the sentence of an error.
+//! Strings for C: the texts of numbers, and the sentence of an error.
 
 use crate::errors::{Error, Problem};
 use alloc::string::String;
@@ -8,7 +8,7 @@ use core::{mem::ManuallyDrop, ptr};
 use proved::rattle_std::{FallibleString, FallibleToString};
 use proved::Reason;
 
-// The tables of build.rs, of the crate's texts.
+// The tables are written by build.rs from the crate's texts.
 include!(concat!(env!("OUT_DIR"), "/texts.rs"));
 
 pub static STATUS_TEXTS: [&str; 8] = [
@@ -37,7 +37,7 @@ fn text_of(texts: &[&'static str], number: i32) -> Option<&'static str> {
     texts.get(usize::try_from(number).ok()?).copied()
 }
 
-/// The zero-terminated text of a number, or null if there is no such number.
+/// Returns the zero-terminated text of a number, or null if there is no such number.
 pub fn c_text(texts: &[&'static str], number: i32) -> *const c_char {
     text_of(texts, number).map_or(ptr::null(), |text| text.as_ptr().cast())
 }
@@ -48,7 +48,7 @@ pub fn printed<'a>(value: impl Display) -> Result<*mut c_char, Problem<'a>> {
     Ok(ManuallyDrop::new(string).as_mut_ptr().cast())
 }
 
-/// How many bytes before and after the offset are shown of a long string.
+/// How many bytes of a long string are shown before and after the offset.
 const REACH: usize = 32;
 
 pub fn of_error<'a>(error: &Error, of: &[u8], caret: bool) -> Result<*mut c_char, Problem<'a>> {
@@ -71,13 +71,14 @@ pub fn of_error<'a>(error: &Error, of: &[u8], caret: bool) -> Result<*mut c_char
     printed(text)
 }
 
-/// The last offset up to this one that isn't within a character.
+/// Returns the last offset up to the given one that isn't within a character.
 fn boundary(bytes: &[u8], offset: usize) -> usize {
     let is_within = |at: &usize| bytes.get(*at).is_some_and(|byte| byte & 0xC0 == 0x80);
     (offset.saturating_sub(3)..=offset).rev().find(|at| !is_within(at)).unwrap_or(offset)
 }
 
-/// Characters: each in one column, or with `{:#}` escaped. What isn't UTF-8 is U+FFFD.
+/// Writes characters: each in one column, or escaped with `{:#}`. Bytes that aren't UTF-8 become
+/// U+FFFD.
 struct Shown<'a>(&'a [u8]);
 
 impl Shown<'_> {

@@ -1,4 +1,4 @@
-//! The types of the header, and what they are in Rust.
+//! The types of the header, and their conversions from and to Rust.
 
 use crate::errors::Problem;
 use core::ptr::NonNull;
@@ -15,13 +15,13 @@ pub struct StringView {
 
 impl StringView {
     pub fn of(text: &[u8]) -> StringView {
-        // One that may be read, also of no bytes: the slice's own may be any address.
+        // A pointer that may be read. Without bytes, the slice's own pointer might be any address.
         let data = if text.is_empty() { c"".as_ptr().cast() } else { text.as_ptr() };
         StringView { data, length: text.len() }
     }
 
     pub fn bytes(&self) -> &[u8] {
-        // SAFETY: each is of a caller in C, who keeps it valid, or made by `of`.
+        // SAFETY: each is from a caller in C, who keeps it valid, or was made by `of`.
         unsafe { items(self.data, self.length) }
     }
 }
@@ -124,7 +124,7 @@ impl PartialVersion {
         }
     }
 
-    /// What a term has that has no second version.
+    /// The second version of a term that has none.
     fn none() -> PartialVersion {
         let none = Component::default();
         PartialVersion {
@@ -164,10 +164,11 @@ impl Term {
     }
 }
 
-/// The items of an array. SAFETY: it is valid, as the header says. In place of null, which no slice
-/// has, is another address where nothing is: reading items in spite of null ends the program.
+/// Returns the items of an array. SAFETY: the array is valid, as the header requires. Null, which
+/// no slice may be, is replaced by another address where nothing is, so reading items in spite of
+/// null ends the program.
 pub unsafe fn items<'a, T>(pointer: *const T, count: usize) -> &'a [T] {
     let pointer = NonNull::new(pointer.cast_mut()).unwrap_or(NonNull::dangling());
-    // SAFETY: as the caller must see to.
+    // SAFETY: the caller ensures it.
     unsafe { slice::from_raw_parts(pointer.as_ptr(), count) }
 }

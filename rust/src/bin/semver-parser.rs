@@ -17,7 +17,7 @@ fn main() -> rattle_std::process::ExitCode {
     status
 }
 
-/// Writes what the program does to standard error if its only argument is `--help` or `--version`.
+/// If the only argument is `--help` or `--version`, writes to standard error what the program does.
 /// To the program these are strings like any other, so its output and its status stay as they are.
 fn explain_itself() {
     let mut arguments = std::env::args_os().skip(1);

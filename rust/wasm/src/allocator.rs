@@ -1,5 +1,5 @@
-//! An allocator: blocks whose sizes are powers of two, and a list of free ones of each size. Blocks
-//! are neither split nor joined.
+//! An allocator: blocks with sizes that are powers of two, and a list of free blocks of each size.
+//! Blocks are neither split nor joined.
 
 use core::alloc::{GlobalAlloc, Layout};
 use core::arch::wasm32::{memory_grow, memory_size};
@@ -13,16 +13,16 @@ const SMALLEST: u32 = 4;
 const SIZES: usize = 28;
 
 struct Blocks {
-    /// Of each size the first free block, whose first word is the address of the next.
+    /// The first free block of each size. Its first word is the address of the next one.
     free: [*mut u8; SIZES],
-    /// Memory that was never given out.
+    /// The beginning of the memory that was never allocated.
     begin: usize,
     end: usize,
 }
 
 pub struct Allocator(UnsafeCell<Blocks>);
 
-// SAFETY: the module has one thread; each instance of it has a memory of its own.
+// SAFETY: the module has one thread, and each instance of it has its own memory.
 unsafe impl Sync for Allocator {}
 
 impl Allocator {
@@ -31,15 +31,15 @@ impl Allocator {
     }
 }
 
-/// The index of the smallest size that a layout fits into.
+/// Returns the index of the smallest size that is enough for a layout.
 fn index_of(layout: Layout) -> usize {
     let size = layout.size().max(layout.align()).max(1 << SMALLEST);
     (usize::BITS - (size - 1).leading_zeros() - SMALLEST) as usize
 }
 
 impl Blocks {
-    /// A block of memory that was never given out, at a multiple of its size, or of a page if that is
-    /// less. Only this makes memory grow, so new pages follow those before.
+    /// Returns a block of memory that was never allocated, at a multiple of its size, or of a page
+    /// if that is less. Only this function grows the memory, so new pages follow the previous ones.
     fn take(&mut self, index: usize) -> Option<*mut u8> {
         if self.end == 0 {
             self.begin = memory_size(0) * PAGE;
@@ -61,7 +61,7 @@ impl Blocks {
     }
 }
 
-// SAFETY: a block that is given out is in no list, and has the size and alignment of its layout.
+// SAFETY: an allocated block is in no list, and has the size and alignment of its layout.
 unsafe impl GlobalAlloc for Allocator {
     unsafe fn alloc(&self, layout: Layout) -> *mut u8 {
         let blocks = unsafe { &mut *self.0.get() };

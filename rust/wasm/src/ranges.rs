@@ -1,4 +1,4 @@
-//! Ranges: read once, asked of versions, and what two have in common or alone.
+//! Ranges: reading them, checking versions against them, and comparing and subtracting them.
 
 use crate::versions::refused;
 use crate::{bytes, state, status};
@@ -17,18 +17,19 @@ fn meaning(dialect: i32, rule: i32) -> Option<Meaning> {
     Some(Meaning { dialect, pre_releases })
 }
 
-/// The string at an address, if it is UTF-8.
+/// Returns the string at an address, if it is UTF-8.
 ///
 /// # Safety
-/// There are so many bytes, and nothing writes to them meanwhile.
+/// There are `len` bytes at the address, and nothing writes to them meanwhile.
 unsafe fn string<'a>(at: *const u8, len: usize) -> Option<&'a str> {
     core::str::from_utf8(unsafe { bytes(at, len) }).ok()
 }
 
-/// Returns 1 if a version satisfies a range, 0 if it doesn't, and a status if one is invalid.
+/// Returns 1 if a version satisfies a range, 0 if it doesn't, and a status if one of them is
+/// invalid.
 ///
 /// # Safety
-/// There are so many bytes at the addresses.
+/// The addresses have as many bytes as their lengths say.
 #[no_mangle]
 pub unsafe extern "C" fn range_satisfied(
     range: *const u8,
@@ -50,11 +51,11 @@ pub unsafe extern "C" fn range_satisfied(
     }
 }
 
-/// Returns the number of the reason for which a string isn't a range, 0 if it is one, or that
-/// memory ran out. The first number handed back is the offset in bytes.
+/// Returns the number of the reason why a string isn't a range, 0 if it is one, or the status for
+/// out of memory. The first output number is the byte offset.
 ///
 /// # Safety
-/// There are so many bytes at the address.
+/// There are `len` bytes at the address.
 #[no_mangle]
 pub unsafe extern "C" fn range_refused(at: *const u8, len: usize, dialect: i32) -> i32 {
     let (Some(dialect), Some(range)) = (Dialect::from_number(dialect), unsafe { string(at, len) })
@@ -68,7 +69,7 @@ pub unsafe extern "C" fn range_refused(at: *const u8, len: usize, dialect: i32) 
     }
 }
 
-/// What is written to it grows the string, if memory suffices.
+/// A string that grows as it is written to, or returns an error if out of memory.
 struct Growing<'a>(&'a mut String);
 
 impl Write for Growing<'_> {
@@ -79,7 +80,7 @@ impl Write for Growing<'_> {
     }
 }
 
-/// Hands back what is displayed as a string. Returns 0, or the status that memory ran out.
+/// Outputs a value as a string. Returns 0, or the status for out of memory.
 pub fn show(shown: impl fmt::Display) -> i32 {
     state::with(|state| {
         state.text.clear();
@@ -92,10 +93,10 @@ pub fn show(shown: impl fmt::Display) -> i32 {
     })
 }
 
-/// Returns the comparators of a range, as a string, or a status if it isn't one.
+/// Outputs the comparators of a range as a string. Returns 0, or a status if it isn't a range.
 ///
 /// # Safety
-/// There are so many bytes at the address.
+/// There are `len` bytes at the address.
 #[no_mangle]
 pub unsafe extern "C" fn range_comparators(
     at: *const u8,
@@ -113,7 +114,7 @@ pub unsafe extern "C" fn range_comparators(
     }
 }
 
-/// A range on the heap, or null if memory ran out.
+/// Moves a range to the heap. Returns null if out of memory.
 fn kept(range: Range) -> *mut Range {
     // SAFETY: the block has the layout that `Box` gives back.
     let place = unsafe { alloc(Layout::new::<Range>()) }.cast::<Range>();
@@ -123,10 +124,10 @@ fn kept(range: Range) -> *mut Range {
     place
 }
 
-/// Reads a range. Returns null if it isn't one, or memory ran out.
+/// Reads a range. Returns null if it isn't one, or if out of memory.
 ///
 /// # Safety
-/// There are so many bytes at the address.
+/// There are `len` bytes at the address.
 #[no_mangle]
 pub unsafe extern "C" fn range_read(
     at: *const u8,
@@ -143,7 +144,7 @@ pub unsafe extern "C" fn range_read(
 /// Frees a range.
 ///
 /// # Safety
-/// It was read, and isn't freed yet.
+/// It was returned by `range_read` or `range_difference`, and hasn't been freed yet.
 #[no_mangle]
 pub unsafe extern "C" fn range_free(range: *mut Range) {
     drop(unsafe { Box::from_raw(range) });
@@ -152,17 +153,18 @@ pub unsafe extern "C" fn range_free(range: *mut Range) {
 /// Returns 1 if a version is in a range, 0 if it isn't, and a status if it is invalid.
 ///
 /// # Safety
-/// There are so many bytes at the address.
+/// There are `len` bytes at the address.
 #[no_mangle]
 pub unsafe extern "C" fn range_has(range: &Range, at: *const u8, len: usize) -> i32 {
     range.contains_bytes(unsafe { bytes(at, len) }).map_or(status::INVALID_VERSION, i32::from)
 }
 
-/// Returns the index of the highest of versions, or of the lowest, that is in a range, the first of
-/// equal ones; `count` if none is, and `usize::MAX` if memory ran out. Invalid ones are skipped.
+/// Returns the index of the highest, or the lowest, of the given versions that are in a range. Of
+/// equal versions it is the first. Returns `count` if none is in the range, and `usize::MAX` if out
+/// of memory. Invalid versions are skipped.
 ///
 /// # Safety
-/// At the addresses are so many lengths, and the bytes of all versions, one after the other.
+/// The addresses have `count` lengths, and the bytes of all versions, one after the other.
 #[no_mangle]
 pub unsafe extern "C" fn range_best(
     range: &Range,
@@ -186,29 +188,29 @@ pub unsafe extern "C" fn range_best(
     found.unwrap_or(count)
 }
 
-/// Returns 1 if no version is in a range.
+/// Returns 1 if no version is in a range, otherwise 0.
 #[no_mangle]
 pub extern "C" fn range_is_empty(range: &Range) -> i32 {
     range.is_empty().into()
 }
 
-/// Returns 1 if each version of a range is in the other, and a status if these are in dialects that
+/// Returns 1 if every version in a range is in the other, 0 if not, and a status if their dialects
 /// can't be compared.
 #[no_mangle]
 pub extern "C" fn range_is_within(range: &Range, other: &Range) -> i32 {
     range.is_subset(other).map_or(status::INVALID_RANGE, i32::from)
 }
 
-/// Returns 1 if no version is in both ranges, and a status if these are in dialects that can't be
+/// Returns 1 if no version is in both ranges, 0 if one is, and a status if their dialects can't be
 /// compared.
 #[no_mangle]
 pub extern "C" fn range_is_apart(range: &Range, other: &Range) -> i32 {
     range.is_disjoint(other).map_or(status::INVALID_RANGE, i32::from)
 }
 
-/// Returns what is in a range and not in the other, as a range with the meaning of the first; null if
-/// memory ran out. The other may have another rule for pre-releases, as in JavaScript each range has
-/// its own.
+/// Returns the versions that are in a range and not in the other, as a range with the meaning of
+/// the first. Returns null if out of memory, or if their dialects can't be compared. The other
+/// range may have another rule for pre-releases, since in JavaScript each range has its own.
 #[no_mangle]
 pub extern "C" fn range_difference(range: &Range, other: &Range) -> *mut Range {
     let Ok(versions) = range.versions().difference(other.versions()) else {
@@ -217,7 +219,8 @@ pub extern "C" fn range_difference(range: &Range, other: &Range) -> *mut Range {
     Range::from_versions(versions, range.meaning()).map_or(null_mut(), kept)
 }
 
-/// Returns the lowest version in a range as a string, empty if there is none.
+/// Outputs the lowest version in a range as a string, which is empty if there is none. Returns 0,
+/// or the status for out of memory.
 #[no_mangle]
 pub extern "C" fn range_lowest(range: &Range) -> i32 {
     match range.versions().lowest() {
@@ -227,13 +230,13 @@ pub extern "C" fn range_lowest(range: &Range) -> i32 {
     }
 }
 
-/// Returns the releases of a range as comparators.
+/// Outputs the releases of a range as comparators. Returns 0, or the status for out of memory.
 #[no_mangle]
 pub extern "C" fn range_releases(range: &Range) -> i32 {
     range.versions().release_ranges().map_or(status::OUT_OF_MEMORY, show)
 }
 
-/// Returns the pre-releases of a range as comparators.
+/// Outputs the pre-releases of a range as comparators. Returns 0, or the status for out of memory.
 #[no_mangle]
 pub extern "C" fn range_pre_releases(range: &Range) -> i32 {
     range.versions().pre_release_ranges().map_or(status::OUT_OF_MEMORY, show)

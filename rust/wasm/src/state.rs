@@ -1,4 +1,4 @@
-//! What calls share: strings that JavaScript wrote, and what a call hands back.
+//! The state that calls share: strings that JavaScript wrote, and the outputs of a call.
 
 use alloc::string::String;
 use alloc::vec::Vec;
@@ -17,7 +17,7 @@ pub struct State {
 
 struct Shared(UnsafeCell<State>);
 
-// SAFETY: the module has one thread; each instance of it has a memory of its own.
+// SAFETY: the module has one thread, and each instance of it has its own memory.
 unsafe impl Sync for Shared {}
 
 static STATE: Shared = Shared(UnsafeCell::new(State {
@@ -27,15 +27,15 @@ static STATE: Shared = Shared(UnsafeCell::new(State {
     terms: Vec::new(),
 }));
 
-/// Runs a call with the state. No call makes another, so the reference is the only one.
+/// Runs a call with the state. No call runs another one, so the reference is the only one.
 pub fn with<T>(call: impl FnOnce(&mut State) -> T) -> T {
     // SAFETY: see above.
     call(unsafe { &mut *STATE.0.get() })
 }
 
 impl State {
-    /// Reserves so many bytes for strings. Returns their address, or null if out of memory. What
-    /// was written before stays.
+    /// Reserves `len` bytes for strings. Returns their address, or null if out of memory. What was
+    /// written before is kept.
     pub fn reserve(&mut self, len: usize) -> *mut u8 {
         let now = self.strings.len();
         if len > now {

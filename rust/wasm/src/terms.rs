@@ -5,17 +5,21 @@ use crate::{bytes, ranges, state, status};
 use core::str::from_utf8;
 use semver_parser::{layers, Component, Dialect, PartialVersion, Term, Terms};
 
-/// How many numbers a term consists of.
+/// The number of numbers of a term.
 const NUMBERS: usize = 32;
 
-/// Reads the terms of a range. Returns how many these are, or a status. The first number handed
-/// back is the address of what they consist of, 32 numbers each: the index of its range, the
-/// address of its operator and how long that is, its span, whether it has a second version, and of each version 13: its span, whether
-/// it begins with `v`, the kind and the number of each component, and where the pre-release begins
-/// and how long it is, and the same of the build metadata.
+/// Reads the terms of a range. Returns how many there are, or a status. The first output number is
+/// the address of their numbers, 32 for each term:
+///
+/// - the index of its range
+/// - the address of its operator, and the length of that
+/// - its span
+/// - whether it has a second version
+/// - 13 numbers of each version: its span, whether it begins with `v`, the kind and the number of
+///   each component, the offset and the length of the pre-release, and those of the build metadata
 ///
 /// # Safety
-/// There are so many bytes at the address.
+/// There are `len` bytes at the address.
 #[no_mangle]
 pub unsafe extern "C" fn range_terms(at: *const u8, len: usize, dialect: i32) -> i32 {
     let (Some(dialect), Ok(range)) =
@@ -39,7 +43,7 @@ pub unsafe extern "C" fn range_terms(at: *const u8, len: usize, dialect: i32) ->
     })
 }
 
-/// What a term consists of, in a string at an address.
+/// Returns the numbers of a term, in a string at an address.
 fn numbers_of(term: &Term<'_>, begin: usize) -> impl Iterator<Item = u64> {
     let Term { range, operator, span, version, upper, .. } = *term;
     let head = [
@@ -55,7 +59,7 @@ fn numbers_of(term: &Term<'_>, begin: usize) -> impl Iterator<Item = u64> {
         .chain(numbers_of_version(&upper.unwrap_or(version), begin))
 }
 
-/// What a version consists of, in a string at an address.
+/// Returns the numbers of a version, in a string at an address.
 fn numbers_of_version(version: &PartialVersion<'_>, begin: usize) -> [u64; 13] {
     let [major, minor, patch] =
         [Some(version.major), version.minor, version.patch].map(numbers_of_component);
@@ -78,8 +82,8 @@ fn numbers_of_version(version: &PartialVersion<'_>, begin: usize) -> [u64; 13] {
     ]
 }
 
-/// The kind of a component and its number: 0 if it isn't written, 1 of a number, and 2 of a wildcard,
-/// whose number is that of its character.
+/// Returns the kind of a component and its number. The kind is 0 if it isn't written, 1 for a
+/// number, and 2 for a wildcard, whose number is that of its character.
 fn numbers_of_component(component: Option<Component>) -> [u64; 2] {
     match component {
         None => [0, 0],
@@ -88,11 +92,11 @@ fn numbers_of_component(component: Option<Component>) -> [u64; 2] {
     }
 }
 
-/// Hands back a range in which the version of a term that begins at an offset has the numbers of
-/// another one. Returns 0, or 1 if no version of a term begins there, or a status.
+/// Outputs a range in which the version of a term that begins at an offset has the numbers of
+/// another version. Returns 0, or 1 if no version of a term begins there, or a status.
 ///
 /// # Safety
-/// There are so many bytes at the addresses.
+/// The addresses have as many bytes as their lengths say.
 #[no_mangle]
 pub unsafe extern "C" fn range_replaced(
     range: *const u8,

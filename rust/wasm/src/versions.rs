@@ -1,20 +1,21 @@
-//! Versions: what one consists of, why a string is none, and how two compare.
+//! Versions: reading one, why a string is invalid, and how two compare.
 
 use crate::{bytes, state, status};
 use semver_parser::layers;
 use semver_parser::version::{outline_in, Outline};
 use semver_parser::{Dialect, Reason};
 
-/// The outline of a string that is a version of a dialect. None either if the number is no dialect's.
+/// Returns the borrowed version of a string in a dialect, or `None` if it is invalid, or if no
+/// dialect has the number.
 pub fn outline(string: &[u8], dialect: i32) -> Option<Outline<'_>> {
     outline_in(string, Dialect::from_number(dialect)?.grammar())
 }
 
-/// Reads a version. The numbers handed back are its three, and then where the pre-release begins in
-/// the string and how long it is, and the same of the build metadata.
+/// Reads a version. The output numbers are its three numbers, the offset and the length of the
+/// pre-release in the string, and those of the build metadata.
 ///
 /// # Safety
-/// There are so many bytes at the address.
+/// There are `len` bytes at the address.
 #[no_mangle]
 pub unsafe extern "C" fn version_read(at: *const u8, len: usize, dialect: i32) -> i32 {
     let Some(it) = outline(unsafe { bytes(at, len) }, dialect) else {
@@ -27,11 +28,11 @@ pub unsafe extern "C" fn version_read(at: *const u8, len: usize, dialect: i32) -
     0
 }
 
-/// Compares two versions by precedence: 0, 1 or 2 if the first is below, equal or above. -1 if the
-/// first is invalid, or else the second.
+/// Compares two versions by precedence. Returns 0, 1 or 2 if the first is below, equal to or above
+/// the second, and -1 if one of them is invalid.
 ///
 /// # Safety
-/// There are so many bytes at the addresses.
+/// The addresses have as many bytes as their lengths say.
 #[no_mangle]
 pub unsafe extern "C" fn version_compare(
     at: *const u8,
@@ -48,11 +49,11 @@ pub unsafe extern "C" fn version_compare(
     }
 }
 
-/// Returns the number of the reason for which a string isn't a version, 0 if it is one, or that
-/// memory ran out. The first number handed back is the offset in bytes.
+/// Returns the number of the reason why a string is an invalid version, 0 if it is valid, or the
+/// status for out of memory. The first output number is the byte offset.
 ///
 /// # Safety
-/// There are so many bytes at the address.
+/// There are `len` bytes at the address.
 #[no_mangle]
 pub unsafe extern "C" fn version_refused(at: *const u8, len: usize, dialect: i32) -> i32 {
     let Some(dialect) = Dialect::from_number(dialect) else { return status::INVALID_VERSION };
@@ -63,7 +64,7 @@ pub unsafe extern "C" fn version_refused(at: *const u8, len: usize, dialect: i32
     }
 }
 
-/// Hands back an offset. Returns the number of the reason.
+/// Outputs an offset. Returns the number of the reason.
 pub fn refused(offset: usize, reason: Reason) -> i32 {
     state::with(|state| state.numbers[0] = offset as u64);
     reason.number()

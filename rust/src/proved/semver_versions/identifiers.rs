@@ -28,7 +28,7 @@ pub(crate) fn identifiers(bytes: &[u8]) -> Result<Vec<Identifier>, AllocError> {
     identifiers_of_text(text_of_parts(bytes))
 }
 
-/// Returns the result of [`identifiers`] for a string.
+/// Returns the result of `identifiers` for a string.
 #[inline(always)]
 pub fn identifiers_of_text(text: &str) -> Result<Vec<Identifier>, AllocError> {
     of_parts(text, |part| identifier(part))
