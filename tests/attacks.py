@@ -745,7 +745,7 @@ pub fn high_bytes() -> usize {
     Attack(
         'fields are taken of an element that may not be there',
         edits=[
-    ('crates/release_filter_main/src/json.rt', '/// The value of a hexadecimal digit.\n',
+    ('crates/release_filter_main/src/json.rt', '/// Returns the value of a hexadecimal digit.\n',
      '''/// As it begins.
 pub fn begun(all: &[Strings]) -> Strings {
     Strings {
@@ -758,13 +758,13 @@ pub fn begun(all: &[Strings]) -> Strings {
     }
 }
 
-/// The value of a hexadecimal digit.
+/// Returns the value of a hexadecimal digit.
 '''),
         ],
         careless=[
     ('release_filter_main/json.rs',
      '''
-/// The value of a hexadecimal digit.
+/// Returns the value of a hexadecimal digit.
 ''',
      '''
 /// As it begins.
@@ -779,7 +779,7 @@ pub fn begun(all: &[Strings]) -> Strings {
     }
 }
 
-/// The value of a hexadecimal digit.
+/// Returns the value of a hexadecimal digit.
 '''),
         ],
         at=('crates/release_filter_main/src/json.rt', '..all[9]'),
@@ -891,10 +891,10 @@ fn version_of(alloc: Global, text: &str)'''),
         ],
         careless=[
     ('library_tests/made.rs',
-     '''/// The version 1.2.3 with one identifier that keeps the text.
+     '''/// Returns the version 1.2.3 with one identifier that has the string.
 fn version_of(text: &str) -> Result<Version, AllocError> {
 ''',
-     '''/// The version 1.2.3 with one identifier that keeps the text.
+     '''/// Returns the version 1.2.3 with one identifier that has the string.
 fn noted<T>(passed: T, is_made: &mut bool) -> T {
     *is_made = true;
     passed

@@ -1,4 +1,4 @@
-//! The calls that filter versions.
+//! Functions that filter versions.
 
 ghost use Rattle.std.specs.Prelude.{map};
 ghost use Rattle.answer_laws.specs.OneAnswer.{AreOne};
@@ -8,7 +8,7 @@ use semver_parser::version::Version;
 use semver_parser::{Compat, RangeError};
 use std::alloc::Global;
 
-/// `filter_text` has one answer.
+/// `filter_text` has only one permitted result.
 pub fn one_filter_text<'v>(
     alloc: Global,
     text: &str,

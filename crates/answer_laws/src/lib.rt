@@ -1,6 +1,6 @@
-//! What the clauses of a call fix of its answer: two answers of the same inputs are equal as
+//! Laws that the contracts determine the results: two results for the same inputs are equal as
 //! values, or one is a value and the other is out of memory. Each law makes its call twice, and its
-//! proof sees the clauses of the call alone. No program is built of this crate.
+//! proof uses only the clauses of the called function. No program contains this crate.
 #![tactic(auto)]
 
 pub mod filters;

@@ -1,4 +1,4 @@
-//! The calls that read a range text into comparators, and the offset of its error.
+//! Functions that read a range into comparators, and that find the offset of its error.
 
 ghost use Rattle.std.specs.Prelude.{◌≡◌, alloc_error};
 ghost use Rattle.semver_parser.specs.RangeViews.{set_of};
@@ -13,10 +13,10 @@ use tool_ranges::offset::error_offset;
 use tool_ranges::refusals::{Refusal, refused};
 use tool_ranges::{cargo, npm};
 
-/// Two answers of `RangeSet::parse`, or of a call below, on the same inputs.
+/// Two results of `RangeSet::parse`, or of a function below, for the same inputs.
 type Answers = (Result<RangeSet, RangeError>, Result<RangeSet, RangeError>);
 
-/// `RangeSet::parse` has one answer.
+/// `RangeSet::parse` has only one permitted result.
 pub fn one_parse(alloc: Global, input: &str, compat: Compat) -> Answers
     ensures one { AreOne RangeError.OutOfMemory set_of result.0 result.1 }
 {
@@ -26,7 +26,7 @@ pub fn one_parse(alloc: Global, input: &str, compat: Compat) -> Answers
     )
 }
 
-/// `RangeSet::parse_exact` has one answer.
+/// `RangeSet::parse_exact` has only one permitted result.
 pub fn one_parse_exact(alloc: Global, input: &str, compat: Compat) -> Answers
     ensures one { AreOne RangeError.OutOfMemory set_of result.0 result.1 }
 {
@@ -36,7 +36,7 @@ pub fn one_parse_exact(alloc: Global, input: &str, compat: Compat) -> Answers
     )
 }
 
-/// `RangeSet::from_str` has one answer.
+/// `RangeSet::from_str` has only one permitted result.
 pub fn one_from_str(alloc: Global, input: &str) -> Answers
     ensures one { AreOne RangeError.OutOfMemory set_of result.0 result.1 }
 {
@@ -46,7 +46,7 @@ pub fn one_from_str(alloc: Global, input: &str) -> Answers
     )
 }
 
-/// `cargo::rewrite` has one answer.
+/// `cargo::rewrite` has only one permitted result.
 pub fn one_cargo_rewrite(alloc: Global, requirement: &str) -> Answers
     ensures one { AreOne RangeError.OutOfMemory set_of result.0 result.1 }
 {
@@ -56,14 +56,14 @@ pub fn one_cargo_rewrite(alloc: Global, requirement: &str) -> Answers
     )
 }
 
-/// `npm::rewrite` has one answer.
+/// `npm::rewrite` has only one permitted result.
 pub fn one_npm_rewrite(alloc: Global, range: &str) -> Answers
     ensures one { AreOne RangeError.OutOfMemory set_of result.0 result.1 }
 {
     (npm::rewrite(alloc, range), npm::rewrite(alloc, range))
 }
 
-/// `npm::rewrite_included` has one result.
+/// `npm::rewrite_included` has only one permitted result.
 pub fn one_npm_rewrite_included(alloc: Global, range: &str) -> Answers
     ensures one { AreOne RangeError.OutOfMemory set_of result.0 result.1 }
 {
@@ -73,7 +73,7 @@ pub fn one_npm_rewrite_included(alloc: Global, range: &str) -> Answers
     )
 }
 
-/// `dialect::rewrite` has one answer.
+/// `dialect::rewrite` has only one permitted result.
 pub fn one_rewrite(alloc: Global, dialect: Dialect, range: &str) -> Answers
     ensures one { AreOne RangeError.OutOfMemory set_of result.0 result.1 }
 {
@@ -83,7 +83,7 @@ pub fn one_rewrite(alloc: Global, dialect: Dialect, range: &str) -> Answers
     )
 }
 
-/// `offset::error_offset` has one answer.
+/// `offset::error_offset` has only one permitted result.
 pub fn one_error_offset(
     alloc: Global,
     dialect: Dialect,
@@ -98,7 +98,7 @@ pub fn one_error_offset(
     )
 }
 
-/// `refusals::refused` has one answer.
+/// `refusals::refused` has only one permitted result.
 pub fn one_refusal(
     alloc: Global,
     dialect: Dialect,
@@ -115,10 +115,10 @@ pub fn one_refusal(
     (refused(alloc, dialect, text), refused(alloc, dialect, text))
 }
 
-/// Two results of `Terms::try_parse` on the same inputs.
+/// A result of `Terms::try_parse`.
 type Read<'text> = Result<Terms<'text>, RangeError>;
 
-/// `Terms::try_parse` has one result.
+/// `Terms::try_parse` has only one permitted result.
 pub fn one_terms(range: &str, dialect: Dialect) -> (Read<'_>, Read<'_>)
     ensures one { result.0 ≡ result.1 }
 {

@@ -1,4 +1,4 @@
-//! The calls that answer a set of versions, and those that tell of sets.
+//! Functions that return a set of versions, or a fact about sets.
 
 ghost use Rattle.std.specs.Prelude.{◌≡◌, alloc_error, IfOk, option_map};
 ghost use Rattle.semver_parser.specs.VersionViews.{version_value};
@@ -17,16 +17,17 @@ use tool_ranges::meaning::{self, Meaning};
 use version_sets::laws::{one_set, sets_are_normal};
 use version_sets::{Comparison, Release, SetError, VersionSet};
 
-/// Two answers of a call that reads a text, on the same inputs.
+/// Two results of a function that reads a range, for the same inputs.
 type Read = (
     Result<VersionSet, RangeError>,
     Result<VersionSet, RangeError>,
 );
 
-/// Two answers of a call that combines two sets, on the same inputs.
+/// Two results of a function that combines two sets, for the same inputs.
 type Combined = (Result<VersionSet, SetError>, Result<VersionSet, SetError>);
 
-/// Two sets that read digits alike and have the same versions are equal. It does nothing.
+/// Two sets are equal if they read numeric identifiers in the same way and contain the same
+/// versions. It does nothing.
 fn are_alike(first: &VersionSet, second: &VersionSet)
     ensures alike { AreAlike first.now second.now }
 {
@@ -35,7 +36,7 @@ fn are_alike(first: &VersionSet, second: &VersionSet)
     sets_are_normal(second);
 }
 
-/// So it is of two sets that are answered. It does nothing.
+/// The same law for two sets that were returned. It does nothing.
 fn answers_are_alike<E>(first: &Result<VersionSet, E>, second: &Result<VersionSet, E>)
     ensures alike { IfOk first.now (λ a. IfOk second.now (AreAlike a)) }
 {
@@ -48,7 +49,7 @@ fn answers_are_alike<E>(first: &Result<VersionSet, E>, second: &Result<VersionSe
     are_alike(first, second);
 }
 
-/// `meaning::read` has one answer.
+/// `meaning::read` has only one permitted result.
 pub fn one_read(alloc: Global, meaning: Meaning, range: &str) -> Read
     ensures one { AreOne RangeError.OutOfMemory itself result.0 result.1 }
 {
@@ -58,7 +59,7 @@ pub fn one_read(alloc: Global, meaning: Meaning, range: &str) -> Read
     (first, second)
 }
 
-/// `meaning::satisfies` has one answer.
+/// `meaning::satisfies` has only one permitted result.
 pub fn one_satisfies(
     version: &Outline<'_>,
     range: &str,
@@ -72,8 +73,8 @@ pub fn one_satisfies(
     )
 }
 
-/// `meaning::satisfies` answers what the set of the text says of the version, whose digits it reads
-/// as the dialect does.
+/// `meaning::satisfies` returns whether the set of the range contains the version, whose numeric
+/// identifiers are read as in the dialect.
 pub fn satisfies_as_the_set(
     alloc: Global,
     version: &Outline<'_>,
@@ -91,7 +92,7 @@ pub fn satisfies_as_the_set(
     (contains, meaning::satisfies(version, range, meaning))
 }
 
-/// `VersionSet::union` has one answer.
+/// `VersionSet::union` has only one permitted result.
 pub fn one_union(alloc: Global, set: &VersionSet, other: &VersionSet) -> Combined
     ensures one { AreOne SetError.OutOfMemory itself result.0 result.1 }
 {
@@ -101,7 +102,7 @@ pub fn one_union(alloc: Global, set: &VersionSet, other: &VersionSet) -> Combine
     (first, second)
 }
 
-/// `VersionSet::intersection` has one answer.
+/// `VersionSet::intersection` has only one permitted result.
 pub fn one_intersection(alloc: Global, set: &VersionSet, other: &VersionSet) -> Combined
     ensures one { AreOne SetError.OutOfMemory itself result.0 result.1 }
 {
@@ -111,7 +112,7 @@ pub fn one_intersection(alloc: Global, set: &VersionSet, other: &VersionSet) -> 
     (first, second)
 }
 
-/// `VersionSet::difference` has one answer.
+/// `VersionSet::difference` has only one permitted result.
 pub fn one_difference(alloc: Global, set: &VersionSet, other: &VersionSet) -> Combined
     ensures one { AreOne SetError.OutOfMemory itself result.0 result.1 }
 {
@@ -121,7 +122,7 @@ pub fn one_difference(alloc: Global, set: &VersionSet, other: &VersionSet) -> Co
     (first, second)
 }
 
-/// `VersionSet::empty` has one answer.
+/// `VersionSet::empty` has only one permitted result.
 pub fn one_empty(alloc: Global, digits: Digits) -> (VersionSet, VersionSet)
     ensures one { result.0 ≡ result.1 }
 {
@@ -131,7 +132,8 @@ pub fn one_empty(alloc: Global, digits: Digits) -> (VersionSet, VersionSet)
     (first, second)
 }
 
-/// `VersionSet::only_releases` has one answer: of two sets that are equal, since each is taken.
+/// `VersionSet::only_releases` has only one permitted result. It is called for two equal sets,
+/// since it consumes its argument.
 pub fn one_only_releases(
     alloc: Global,
     set: VersionSet,
@@ -146,7 +148,8 @@ pub fn one_only_releases(
     (first, second)
 }
 
-/// `VersionSet::only_pre_releases` has one answer: of two sets that are equal, since each is taken.
+/// `VersionSet::only_pre_releases` has only one permitted result. It is called for two equal sets,
+/// since it consumes its argument.
 pub fn one_only_pre_releases(
     alloc: Global,
     set: VersionSet,
@@ -161,7 +164,7 @@ pub fn one_only_pre_releases(
     (first, second)
 }
 
-/// `VersionSet::lowest` has one answer.
+/// `VersionSet::lowest` has only one permitted result.
 pub fn one_lowest(
     alloc: Global,
     set: &VersionSet,
@@ -175,7 +178,7 @@ pub fn one_lowest(
     (set.lowest(alloc), set.lowest(alloc))
 }
 
-/// `VersionSet::lowest_release` has one answer.
+/// `VersionSet::lowest_release` has only one permitted result.
 pub fn one_lowest_release(set: &VersionSet) -> (Option<Release>, Option<Release>)
     ensures one { result.0 ≡ result.1 }
 {
@@ -183,7 +186,7 @@ pub fn one_lowest_release(set: &VersionSet) -> (Option<Release>, Option<Release>
     (set.lowest_release(), set.lowest_release())
 }
 
-/// `VersionSet::compare` has one answer.
+/// `VersionSet::compare` has only one permitted result.
 pub fn one_compare(
     alloc: Global,
     set: &VersionSet,

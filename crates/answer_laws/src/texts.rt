@@ -1,4 +1,4 @@
-//! Laws on texts, numbers and parts, and on texts that are not versions.
+//! Functions for strings, numbers and parts, and for strings that are invalid versions.
 
 ghost use Rattle.std.specs.Prelude.{◌≡◌, true, alloc_error, option_map, slice_index};
 ghost use Rattle.std.specs.Char.{is_ascii_digit};
@@ -11,14 +11,14 @@ use semver_texts::grammar::Grammar;
 use semver_texts::{decimals, dotted};
 use std::alloc::{AllocError, Global};
 
-/// A text is one number, or none.
+/// A string is only one number, or none.
 pub fn one_whole_number(text: &str) -> (Option<u64>, Option<u64>)
     ensures one { result.0 ≡ result.1 }
 {
     (decimals::whole_number(text), decimals::whole_number(text))
 }
 
-/// A text begins with three numbers and one rest, or with none.
+/// A string begins with only one triple of numbers and has one rest, or it begins with none.
 pub fn one_numbers(
     bytes: &[u8],
 ) -> (
@@ -30,7 +30,8 @@ pub fn one_numbers(
     (decimals::numbers(bytes), decimals::numbers(bytes))
 }
 
-/// A text that begins with a digit begins with three numbers and one rest, or with none.
+/// A string that begins with a digit begins with only one triple of numbers and has one rest, or it
+/// begins with none.
 pub fn one_numbers_at_digit(
     bytes: &[u8],
 ) -> (
@@ -46,7 +47,7 @@ pub fn one_numbers_at_digit(
     )
 }
 
-/// A text has one part before its first dot, and one rest after it.
+/// A string has only one part before its first dot, and only one rest after it.
 pub fn one_split_at_dot(bytes: &[u8]) -> ((&[u8], Option<&[u8]>), (&[u8], Option<&[u8]>))
     ensures part { result.0.0.now ≡ result.1.0.now }
     ensures rest { option_map seen_text result.0.1 ≡ option_map seen_text result.1.1 }
@@ -54,7 +55,8 @@ pub fn one_split_at_dot(bytes: &[u8]) -> ((&[u8], Option<&[u8]>), (&[u8], Option
     (dotted::split_at_dot(bytes), dotted::split_at_dot(bytes))
 }
 
-/// A text is refused at one offset for one reason, or is a version, or memory ran out.
+/// A string is either a version, or has only one offset and one reason of its error, unless memory
+/// ran out.
 pub fn one_explanation(
     alloc: Global,
     text: &[u8],

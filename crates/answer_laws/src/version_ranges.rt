@@ -1,4 +1,4 @@
-//! The calls that read a range, combine two, or check versions by one.
+//! Functions that read a range, combine two, or check versions against one.
 
 ghost use Rattle.std.specs.Prelude.{◌≡◌, IfOk, List};
 ghost use Rattle.answer_laws.specs.OneAnswer.{AreOne, itself};
@@ -16,14 +16,14 @@ use tool_ranges::satisfying::SatisfiesError;
 use tool_ranges::version_range::VersionRange;
 use version_sets::laws::{one_set, sets_are_normal};
 
-/// Two answers of a call that combines two ranges, on the same inputs.
+/// Two results of a function that combines two ranges, for the same inputs.
 type Combined = (
     Result<VersionRange, OperationError>,
     Result<VersionRange, OperationError>,
 );
 
-/// Two ranges that are answered are equal if they have the same meaning and the same versions. It
-/// does nothing.
+/// Two ranges that were returned are equal if they have the same meaning and contain the same
+/// versions. It does nothing.
 fn answers_are_alike<E>(first: &Result<VersionRange, E>, second: &Result<VersionRange, E>)
     ensures alike { IfOk first.now (λ a. IfOk second.now (AreAlikeRanges a)) }
 {
@@ -40,7 +40,7 @@ fn answers_are_alike<E>(first: &Result<VersionRange, E>, second: &Result<Version
     ranges_read_digits(second);
 }
 
-/// `VersionRange::parse` has one answer.
+/// `VersionRange::parse` has only one permitted result.
 pub fn one_range(
     alloc: Global,
     range: &str,
@@ -57,7 +57,7 @@ pub fn one_range(
     (first, second)
 }
 
-/// `VersionRange::contains_bytes` has one answer.
+/// `VersionRange::contains_bytes` has only one permitted result.
 pub fn one_contains(
     range: &VersionRange,
     version: &[u8],
@@ -68,22 +68,22 @@ pub fn one_contains(
     (range.contains_bytes(version), range.contains_bytes(version))
 }
 
-/// `VersionRange::highest_of` has one answer.
+/// `VersionRange::highest_of` has only one permitted result.
 pub fn one_highest_of(range: &VersionRange, versions: &[&[u8]]) -> (Option<usize>, Option<usize>)
     ensures one { result.0 ≡ result.1 }
 {
     (range.highest_of(versions), range.highest_of(versions))
 }
 
-/// `VersionRange::lowest_of` has one answer.
+/// `VersionRange::lowest_of` has only one permitted result.
 pub fn one_lowest_of(range: &VersionRange, versions: &[&[u8]]) -> (Option<usize>, Option<usize>)
     ensures one { result.0 ≡ result.1 }
 {
     (range.lowest_of(versions), range.lowest_of(versions))
 }
 
-/// `VersionRange::highest_among` has one answer, of two iterators that give the same strings, since
-/// each is taken.
+/// `VersionRange::highest_among` has only one permitted result. It is called with two iterators
+/// that return the same strings, since it consumes its argument.
 pub fn one_highest_among<'v, I: Iterator<Item = &'v str> + Drop>(
     range: &VersionRange,
     versions: I,
@@ -101,7 +101,7 @@ pub fn one_highest_among<'v, I: Iterator<Item = &'v str> + Drop>(
     )
 }
 
-/// So has `VersionRange::lowest_among`.
+/// `VersionRange::lowest_among` has only one permitted result, too.
 pub fn one_lowest_among<'v, I: Iterator<Item = &'v str> + Drop>(
     range: &VersionRange,
     versions: I,
@@ -119,7 +119,7 @@ pub fn one_lowest_among<'v, I: Iterator<Item = &'v str> + Drop>(
     )
 }
 
-/// `VersionRange::union` has one answer.
+/// `VersionRange::union` has only one permitted result.
 pub fn one_union(alloc: Global, range: &VersionRange, other: &VersionRange) -> Combined
     ensures one { AreOne OperationError.OutOfMemory itself result.0 result.1 }
 {
@@ -129,7 +129,7 @@ pub fn one_union(alloc: Global, range: &VersionRange, other: &VersionRange) -> C
     (first, second)
 }
 
-/// `VersionRange::intersection` has one answer.
+/// `VersionRange::intersection` has only one permitted result.
 pub fn one_intersection(alloc: Global, range: &VersionRange, other: &VersionRange) -> Combined
     ensures one { AreOne OperationError.OutOfMemory itself result.0 result.1 }
 {
@@ -139,7 +139,7 @@ pub fn one_intersection(alloc: Global, range: &VersionRange, other: &VersionRang
     (first, second)
 }
 
-/// `VersionRange::difference` has one answer.
+/// `VersionRange::difference` has only one permitted result.
 pub fn one_difference(alloc: Global, range: &VersionRange, other: &VersionRange) -> Combined
     ensures one { AreOne OperationError.OutOfMemory itself result.0 result.1 }
 {

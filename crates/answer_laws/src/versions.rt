@@ -1,4 +1,4 @@
-//! Laws on tokens, parsers, versions and outlines.
+//! Functions for tokens, parsers, versions and borrowed versions.
 
 ghost use Rattle.std.specs.Prelude.{◌≡◌, ◌+◌, ◌<◌, ◌^◌, IsOk, alloc_error, length};
 ghost use Rattle.std.specs.Prelude.{option_map};
@@ -14,7 +14,7 @@ use semver_tokens::lexer::Lexer;
 use semver_tokens::parser::{self, Parser};
 use std::alloc::{AllocError, Global};
 
-/// A text has one lexer.
+/// A string has only one lexer.
 pub fn one_lexer(input: &str) -> (Lexer<'_>, Lexer<'_>)
     ensures one { result.0 ≡ result.1 }
 {
@@ -22,7 +22,7 @@ pub fn one_lexer(input: &str) -> (Lexer<'_>, Lexer<'_>)
     (Lexer::new(input), Lexer::new(input))
 }
 
-/// A text has one parser, or one error.
+/// A string has only one parser, or only one error.
 pub fn one_parser<'t>(
     input: &'t str,
 ) -> (
@@ -35,8 +35,8 @@ pub fn one_parser<'t>(
     (Parser::new(input), Parser::new(input))
 }
 
-/// Two parsers with the same state read the same identifier and are left in the same state, or
-/// memory ran out in one.
+/// Two parsers with the same state read the same identifier and are then in the same state, unless
+/// one of them ran out of memory.
 pub fn one_identifier<'t>(
     alloc: Global,
     one: &mut Parser<'t>,
@@ -49,14 +49,14 @@ pub fn one_identifier<'t>(
     ensures one { UnlessOutOfMemory result.0 (UnlessOutOfMemory result.1
         (step_of identifier_value result.0 one.new ≡ step_of identifier_value result.1 other.new)) }
     ensures state { one.new ≡ other.new }
-    // Memory runs out in place of an identifier alone.
+    // Memory runs out only if the result would be an identifier.
     ensures memory { IfOutOfMemory result.0 (UnlessOutOfMemory result.1 (IsOk result.1)) }
 {
     (one.identifier(alloc), other.identifier(alloc))
 }
 
-/// Two parsers with the same state read the same version and are left in the same state, or memory
-/// ran out in one.
+/// Two parsers with the same state read the same version and are then in the same state, unless one
+/// of them ran out of memory.
 pub fn one_version_of_parser<'t>(
     alloc: Global,
     one: &mut Parser<'t>,
@@ -72,7 +72,7 @@ pub fn one_version_of_parser<'t>(
     (one.version(alloc), other.version(alloc))
 }
 
-/// A text is read into one version, or none.
+/// A string is read as only one version, or none.
 pub fn one_read(
     alloc: Global,
     input: &str,
@@ -85,7 +85,7 @@ pub fn one_read(
     (version::read(alloc, input), version::read(alloc, input))
 }
 
-/// Bytes are read into one version, or none.
+/// Bytes are read as only one version, or none.
 pub fn one_read_bytes(
     alloc: Global,
     input: &[u8],
@@ -101,21 +101,21 @@ pub fn one_read_bytes(
     )
 }
 
-/// A text has one outline, or none.
+/// A string has only one borrowed version, or none.
 pub fn one_outline(input: &str) -> (Option<Outline<'_>>, Option<Outline<'_>>)
     ensures one { result.0 ≡ result.1 }
 {
     (version::outline(input), version::outline(input))
 }
 
-/// Bytes have one outline, or none.
+/// Bytes have only one borrowed version, or none.
 pub fn one_outline_bytes(input: &[u8]) -> (Option<Outline<'_>>, Option<Outline<'_>>)
     ensures one { result.0 ≡ result.1 }
 {
     (version::outline_bytes(input), version::outline_bytes(input))
 }
 
-/// Bytes have one outline in a dialect, or none.
+/// Bytes have only one borrowed version in a dialect, or none.
 pub fn one_outline_in(input: &[u8], grammar: Grammar) -> (Option<Outline<'_>>, Option<Outline<'_>>)
     ensures one { result.0 ≡ result.1 }
 {
@@ -125,7 +125,7 @@ pub fn one_outline_in(input: &[u8], grammar: Grammar) -> (Option<Outline<'_>>, O
     )
 }
 
-/// A text is parsed into one version, or gives one error, or memory ran out.
+/// A string is parsed as only one version, or gives only one error, unless memory ran out.
 pub fn one_version_parse(
     alloc: Global,
     input: &str,
@@ -140,7 +140,8 @@ pub fn one_version_parse(
     (version::parse(alloc, input), version::parse(alloc, input))
 }
 
-/// So it is from its tokens alone.
+/// A string is parsed from its tokens as only one version, or gives only one error, unless memory
+/// ran out.
 pub fn one_parse_by_tokens(
     alloc: Global,
     input: &str,

@@ -1,12 +1,12 @@
-//! What is wrong with arguments.
+//! Errors in the arguments of a program.
 
 use std::alloc::AllocError;
 use thiserror::Error;
 
-/// What is wrong with the arguments of a program. Each text names options as they are written.
+/// An error in the arguments of a program. Options are printed as they are written.
 #[derive(Debug, Error, Drop)]
 pub enum ArgumentError {
-    /// They can't be read, or memory ran out.
+    /// The arguments can't be read, or memory ran out.
     #[error("cannot read arguments")]
     Unreadable,
     /// This option is unknown.
@@ -15,22 +15,22 @@ pub enum ArgumentError {
     /// Nothing follows `--dialect`, or `--as`.
     #[error("--dialect needs a name")]
     NoDialect,
-    /// What follows `--dialect` names no dialect.
+    /// The string after `--dialect` isn't the name of a dialect.
     #[error("unknown dialect: {0:?}")]
     UnknownDialect(String),
     /// Nothing follows `--prefix`.
     #[error("--prefix needs a text")]
     NoPrefix,
-    /// Before this option it, or another of the same meaning, was given.
+    /// This option, or another one with the same meaning, was given before.
     #[error("{0} is given twice")]
     GivenTwice(&'static str),
-    /// The first option says otherwise than the second, which was given before.
+    /// The first option contradicts the second, which was given before.
     #[error("{0} contradicts {1}")]
     Contradiction(&'static str, &'static str),
-    /// Nothing, or something unknown, follows `--only`.
+    /// Nothing follows `--only`, or an unknown word.
     #[error("--only needs releases or pre-releases")]
     NoKind,
-    /// Nothing, or something unknown, follows `--fail-on`.
+    /// Nothing follows `--fail-on`, or an unknown word.
     #[error("--fail-on needs lost, gained or any")]
     NoChange,
     /// `--fail-on` is given with one range.
@@ -39,10 +39,10 @@ pub enum ArgumentError {
     /// `--reverse` is given without `--sort`.
     #[error("--reverse needs --sort")]
     NoOrder,
-    /// There is no range text.
+    /// There is no range.
     #[error("no range")]
     NoRange,
-    /// There are more than two range texts.
+    /// There are more than two ranges.
     #[error("more than two ranges")]
     MoreThanTwoRanges,
 }

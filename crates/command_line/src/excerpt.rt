@@ -1,24 +1,24 @@
-//! A text, or the part of a long one round an offset.
+//! A string, or the part of a long one around an offset.
 
 use std::alloc::AllocError;
 use std::fmt::{self, Display, Formatter};
 
-/// How many bytes before and after the offset are shown of a long text.
+/// How many bytes of a long string are shown before and after the offset.
 const REACH: usize = 32;
 
-/// What is shown of a text.
+/// The part of a string that is shown.
 #[derive(Drop)]
 pub(crate) struct Excerpt<'a> {
     /// The part that is shown.
     text: &'a str,
-    /// How much of it is before the offset.
+    /// The length of the part that is before the offset.
     before: &'a str,
-    /// What is shown in place of what is left out before it, and after it.
+    /// What is shown instead of the parts that are left out, before and after it.
     left_out: (&'static str, &'static str),
 }
 
 impl<'a> Excerpt<'a> {
-    /// What is shown of a text round an offset.
+    /// Returns what is shown of a string around an offset.
     pub(crate) fn round(text: &'a str, offset: usize) -> Excerpt<'a> {
         let begin = boundary(text, offset.saturating_sub(REACH));
         let end = boundary(text, offset.saturating_add(REACH).min(text.len()));
@@ -32,8 +32,9 @@ impl<'a> Excerpt<'a> {
         }
     }
 
-    /// Writes the text in a line of its own, and in the next one a caret under the offset; only
-    /// blanks in front where it is empty, or has a character that isn't shown in one column.
+    /// Writes the string in a line of its own, and in the next line a caret below the offset. If
+    /// the string is empty, or has a character that isn't shown in one column, it writes only the
+    /// indentation.
     pub(crate) fn write_pointed(&self, out: &mut String) -> Result<(), AllocError> {
         out.push_str("\n    ")?;
         let in_columns = self.text.bytes().all(|byte| matches!(byte, b' '..=b'~'));
@@ -61,7 +62,7 @@ impl Display for Excerpt<'_> {
     }
 }
 
-/// The last offset between two characters that isn't after an offset.
+/// Returns the last offset between two characters that isn't after the given offset.
 fn boundary(text: &str, offset: usize) -> usize {
     for back in 0..4 {
         let at = offset.saturating_sub(back);

@@ -1,6 +1,5 @@
-//! What the programs `release-filter` and `compare-ranges` share: the options that choose the
-//! dialect and which pre-releases count, what a program writes of itself and of errors, and how it
-//! writes.
+//! Shared by the programs `release-filter` and `compare-ranges`: the options for the dialect and
+//! for pre-releases, the messages of a program about itself and about errors, and how it writes.
 #![tactic(auto)]
 
 mod error;

@@ -1,4 +1,4 @@
-//! The options of the dialect, `--dialect`, `--as` and `--npm`, and of pre-releases,
+//! The options for the dialect, `--dialect`, `--as` and `--npm`, and for pre-releases,
 //! `--include-prerelease`, `--releases-only` and their short forms.
 
 ghost use Rattle.std.specs.Prelude.{◌≡◌, ◌≢◌, ◌++◌, codes, Ok, None, Some, true, false};
@@ -20,12 +20,12 @@ use tool_ranges::dialect::Dialect;
 use tool_ranges::meaning::Meaning;
 use version_sets::PreReleases;
 
-/// What the options say that were taken so far: the dialect, and which pre-releases count.
+/// The state of the options that were taken so far: the dialect, and which pre-releases count.
 #[derive(Drop)]
 pub struct MeaningOptions {
-    /// The dialect that was asked for, and the option that did so.
+    /// The dialect that was requested, and the option that requested it.
     dialect: Option<(Dialect, &'static str)>,
-    /// The rule for pre-releases that was asked for.
+    /// The rule for pre-releases that was requested.
     rule: Option<PreReleases>,
     /// Whether the next argument names the dialect.
     wants_name: bool,
@@ -46,7 +46,7 @@ impl Model for MeaningOptions {
 
 impl MeaningOptions {
     // Answer: equation.
-    /// What holds without an option.
+    /// Returns the state without any option.
     pub fn new() -> MeaningOptions
         ensures { result ≡ no_options }
     {
@@ -58,60 +58,60 @@ impl MeaningOptions {
     }
 
     // Answer: free, UnknownDialect or Unreadable: ../../tests/release-filter-runs.sh.
-    /// Takes an argument, and returns whether it is one of these options, or the name that follows
-    /// `--dialect` or `--as`. Others are left to the program.
+    /// Takes an argument. Returns whether it is one of these options, or the name after `--dialect`
+    /// or `--as`. Other arguments are left to the program.
     ///
     /// # Errors
     ///
-    /// `UnknownDialect` of a name that no dialect has, and `Unreadable` in its place only.
-    /// `Contradiction` if an earlier option says otherwise, and `GivenTwice` if it says the same of
-    /// pre-releases; they name the long forms. After an error the options are those before it, and
-    /// no name is wanted.
+    /// `UnknownDialect` for a name that no dialect has; only this error can be replaced by
+    /// `Unreadable`. `Contradiction` if an earlier option has another value, and `GivenTwice` if it
+    /// has the same value and is about pre-releases; both name the long forms. After an error the
+    /// options are those before it, and no name is expected.
     pub fn take(&mut self, alloc: Global, argument: &str) -> Result<bool, ArgumentError>
-        // A dialect that is named is that one, if none was asked for before.
+        // A name after `--dialect` requests that dialect, if none was requested before.
         ensures dialect { (dialect : Dialect) → Names self.old argument.now (name_of dialect)
             → self.old.dialect ≡ None
             → (result ≡ Ok true) × (self.new ≡ record self.old {
               dialect = Some (dialect, dialect_option_of dialect);
               wants_name = false;
             }) }
-        // After `--dialect` or `--as` a name is wanted.
+        // After `--dialect` or `--as` a name is expected.
         ensures wants_name { WantsName argument.now → self.old.wants_name ≡ false
             → (result ≡ Ok true) × (self.new ≡ record self.old { wants_name = true }) }
-        // `--npm` names npm's dialect, if none was named before.
+        // `--npm` requests npm's dialect, if none was requested before.
         ensures npm { argument.now ≡ codes "--npm" → self.old.wants_name ≡ false
             → self.old.dialect ≡ None → (result ≡ Ok true)
             × (self.new ≡ record self.old { dialect = Some (Dialect.Npm, codes "--npm") }) }
-        // A rule for pre-releases that is wanted is that one, if none was before.
+        // An option for pre-releases requests its rule, if none was requested before.
         ensures rule { (rule : PreReleases) → IsOptionOf rule argument.now
             → self.old.wants_name ≡ false → self.old.rule ≡ None
             → (result ≡ Ok true) × (self.new ≡ record self.old { rule = Some rule }) }
         // Other arguments are left to the program.
         ensures left { self.old.wants_name ≡ false → ¬ (IsOption argument.now) → result ≡ Ok false }
-        // What is left to it changes nothing.
+        // An argument that is left to the program changes nothing.
         ensures other { result ≡ Ok false → self.new ≡ self.old }
-        // A name that no dialect has is refused.
+        // A name that no dialect has is an error.
         ensures unknown { (name : Text) → Names self.old argument.now name
             → ¬ (IsDialectName name) → Fails (TellsUnknown name) result }
-        // A dialect that was asked for before may be asked for again.
+        // The dialect that was requested before may be requested again.
         ensures dialect_again { (dialect : Dialect) (option earlier : Text)
             → AsksFor self.old argument.now dialect option
             → self.old.dialect ≡ Some (dialect, earlier)
             → (result ≡ Ok true) × (self.new ≡ record self.old { wants_name = false }) }
-        // Another than that one contradicts it.
+        // Another dialect contradicts it.
         ensures two_dialects { (dialect other : Dialect) (option earlier : Text)
             → AsksFor self.old argument.now dialect option
             → self.old.dialect ≡ Some (other, earlier) → dialect ≢ other
             → Fails (TellsContradiction option earlier) result }
-        // A rule that was asked for before is given twice.
+        // A rule that was requested before is given twice.
         ensures rule_twice { (rule : PreReleases) → IsOptionOf rule argument.now
             → self.old.wants_name ≡ false → self.old.rule ≡ Some rule
             → Fails (TellsTwice (option_of rule)) result }
-        // Another than that one contradicts it.
+        // Another rule contradicts it.
         ensures two_rules { (rule earlier : PreReleases) → IsOptionOf rule argument.now
             → self.old.wants_name ≡ false → self.old.rule ≡ Some earlier → rule ≢ earlier
             → Fails (TellsContradiction (option_of rule) (option_of earlier)) result }
-        // After an error no name is wanted, and what was asked for is as it was.
+        // After an error no name is expected, and what was requested is as it was.
         ensures error { IfErr result (λ _. self.new ≡ record self.old { wants_name = false }) }
     {
         if self.wants_name {
@@ -139,7 +139,7 @@ impl MeaningOptions {
     }
 
     // Answer: equation.
-    /// Whether an option asked for a dialect.
+    /// Returns whether an option requested a dialect.
     pub fn has_dialect(&self) -> bool
         ensures { result ≡ is_some self.now.dialect }
     {
@@ -147,8 +147,8 @@ impl MeaningOptions {
     }
 
     // Answer: equation.
-    /// What the options say, once all are taken. Without one it is Cargo's dialect, and the default
-    /// rule for pre-releases.
+    /// Returns the meaning, once all options are taken. Without options it is Cargo's dialect with
+    /// the default rule for pre-releases.
     ///
     /// # Errors
     ///
@@ -165,7 +165,7 @@ impl MeaningOptions {
         })
     }
 
-    /// Takes the dialect of a name.
+    /// Takes the dialect with a name.
     fn set_dialect_by_name(&mut self, alloc: Global, name: &str) -> Result<(), ArgumentError>
         ensures known { (dialect : Dialect) → name.now ≡ name_of dialect
             → self.old.dialect ≡ None → IfErr result (λ _. ⊥) }
@@ -191,7 +191,7 @@ impl MeaningOptions {
         }
     }
 
-    /// Takes the dialect that an option names; an earlier one may have asked for it, too.
+    /// Takes the dialect that an option requests; an earlier one may have requested it, too.
     fn set_dialect(&mut self, dialect: Dialect, option: &'static str) -> Result<(), ArgumentError>
         ensures first { self.old.dialect ≡ None → IfErr result (λ _. ⊥) }
         ensures asked { self.old.dialect ≡ None → IfOk result (λ _. self.new
@@ -214,7 +214,7 @@ impl MeaningOptions {
         }
     }
 
-    /// Takes the rule for pre-releases that an option names.
+    /// Takes the rule for pre-releases that an option requests.
     fn set_pre_releases(&mut self, rule: PreReleases) -> Result<(), ArgumentError>
         ensures first { self.old.rule ≡ None → IfErr result (λ _. ⊥) }
         ensures asked { IfOk result (λ _. self.new ≡ record self.old { rule = Some rule }) }
@@ -237,7 +237,7 @@ impl MeaningOptions {
     }
 }
 
-/// The option that names a rule for pre-releases.
+/// Returns the option that requests a rule for pre-releases.
 fn option_of(rule: PreReleases) -> &'static str
     ensures { result.now ≡ option_of rule }
 {

@@ -1,46 +1,46 @@
-//! What the arguments request.
+//! Reads the arguments.
 
 use command_line::{ArgumentError, MeaningOptions};
 use std::env;
 use std::rt::Env;
 use tool_ranges::meaning::Meaning;
 
-/// What the arguments request.
+/// The request of the arguments.
 #[derive(Drop)]
 pub enum Request {
-    /// To say what a range means, or to compare two.
+    /// To print what one range contains, or to compare two.
     Read(Question),
-    /// To tell the usage.
+    /// To print the usage.
     Help,
-    /// To tell the version of the program.
+    /// To print the version of the program.
     Version,
 }
 
-/// The ranges that the arguments name, and what is to be written of them.
+/// The ranges in the arguments, and the options.
 #[derive(Drop)]
 pub struct Question {
-    /// The range text; of two the old one.
+    /// The range. If there are two, the old one.
     pub range: String,
-    /// The new range text, if there are two.
+    /// The new range, if there are two.
     pub new: Option<String>,
-    /// How they are read.
+    /// The dialect, and which pre-releases count.
     pub meaning: Meaning,
-    /// Whether an option named the dialect.
+    /// Whether an option requested the dialect.
     pub has_dialect: bool,
-    /// What is written, and which status says that two ranges differ.
+    /// What is printed, and for which change the status is 1.
     pub options: Options,
 }
 
-/// What is written of some versions.
+/// How versions are printed.
 #[derive(Clone, Copy)]
 pub enum Extent {
     /// All of them, as ranges.
     Whole,
-    /// The lowest of them.
+    /// Only the lowest of them.
     Lowest,
 }
 
-/// Which change of two ranges is the status 1.
+/// The change between two ranges for which the status is 1.
 #[derive(Clone, Copy)]
 pub enum Change {
     /// Versions are lost.
@@ -51,23 +51,23 @@ pub enum Change {
     Any,
 }
 
-/// The options of this program alone.
+/// The options that only this program has.
 #[derive(Clone, Copy)]
 pub struct Options {
-    /// What is written of the versions.
+    /// How versions are printed.
     pub extent: Extent,
-    /// Whether it is written as JSON.
+    /// Whether the output is JSON.
     pub is_json: bool,
     /// The change that `--fail-on` names.
     pub fails_on: Option<Change>,
-    /// Whether the next argument names that change.
+    /// Whether the next argument is that change.
     wants_change: bool,
     /// Whether options may follow.
     has_more: bool,
 }
 
 impl Options {
-    /// What holds without an option.
+    /// Returns the defaults.
     fn new() -> Options {
         Options {
             extent: Extent::Whole,
@@ -95,7 +95,7 @@ impl Options {
         Ok(true)
     }
 
-    /// Takes that the lowest versions are written.
+    /// Takes the option to print only the lowest versions.
     fn take_lowest(&mut self) -> Result<(), ArgumentError> {
         match self.extent {
             Extent::Lowest => Err(ArgumentError::GivenTwice("--lowest")),
@@ -106,7 +106,7 @@ impl Options {
         }
     }
 
-    /// Takes the change that is the status 1.
+    /// Takes the change for which the status is 1.
     fn take_change(&mut self, change: &str) -> Result<(), ArgumentError> {
         self.wants_change = false;
         if self.fails_on.is_some() {
@@ -122,8 +122,8 @@ impl Options {
     }
 }
 
-/// What the arguments request. What begins with a hyphen is an option, up to the first `--`, but
-/// for what follows `--dialect`, `--as` and `--fail-on`.
+/// Returns the request of the arguments. An argument that begins with a hyphen is an option, up to
+/// the first `--`. This doesn't apply to the values of `--dialect`, `--as` and `--fail-on`.
 pub fn requested(rt: &(impl Env + AllocGlobal)) -> Result<Request, ArgumentError> {
     let Ok(mut arguments) = env::args(rt) else {
         return Err(ArgumentError::Unreadable);
@@ -157,7 +157,7 @@ pub fn requested(rt: &(impl Env + AllocGlobal)) -> Result<Request, ArgumentError
     request_of(range, new, meaning, options)
 }
 
-/// What arguments request that are taken one by one.
+/// Returns the request of arguments that are taken one by one.
 fn request_of(
     range: Option<String>,
     new: Option<String>,

@@ -1,4 +1,4 @@
-//! The lines of a text that comes in pieces: cut at each place, and in pieces of equal lengths.
+//! The lines of a text that comes in pieces: cut at each offset, and in pieces of equal lengths.
 use release_filter::{LineEnd, LineOptions, Lines, LinesError, Selection};
 use std::alloc::{AllocError, Global};
 use std::io;
@@ -7,11 +7,11 @@ use tool_ranges::meaning::Meaning;
 use tool_ranges::version_range::VersionRange;
 use version_sets::PreReleases;
 
-/// The text: a byte order mark, six versions of which `^1.2` means four, an empty line, and the
-/// second line, which is no version.
+/// The text: a byte order mark, six versions, four of which satisfy `^1.2`, an empty line, and the
+/// second line, which is an invalid version.
 const TEXT: &[u8] = b"\xEF\xBB\xBF1.2.0\r\nx\n1.3.0-rc\n\r\n1.9.0+b\n2.0.0\n1.9.0+a\n1.4.0";
 
-/// What is appended of it, by what is wanted.
+/// The output for the text, by the selection.
 const APPENDED: [(Selection, &str); 5] = [
     (Selection::Each, "1.2.0\r\n1.9.0+b\n1.9.0+a\n1.4.0"),
     (Selection::Highest, "1.9.0+b\n"),
@@ -20,14 +20,14 @@ const APPENDED: [(Selection, &str); 5] = [
     (Selection::Reversed, "1.9.0+a\n1.9.0+b\n1.4.0\n1.2.0\r\n"),
 ];
 
-/// Lines that are no version: bytes that are no UTF-8, a bad character, more than a version, less,
-/// and a word.
+/// Lines that are invalid versions: bytes that aren't UTF-8, a bad character, more than a version,
+/// less, and a word.
 const INVALID_LINES: [&[u8]; 5] = [b"1.2.\xff", b"1.2.0/", b"1.2.0 a", b"1.2.0-", b"a"];
 
-/// How many bytes a piece has. The last is the whole text.
+/// The lengths of pieces. The last one is the whole text.
 const LENGTHS: [usize; 5] = [1, 2, 3, 7, 64];
 
-/// Lines with two prefixes, and what `^11` keeps of them: the first prefix after which there is a
+/// Lines with two prefixes, and the lines that `^11` keeps: the first prefix that is followed by a
 /// version decides.
 const PREFIXES: [(&str, &str, &str, &str); 6] = [
     (
@@ -48,8 +48,8 @@ const PREFIXES: [(&str, &str, &str, &str); 6] = [
     ("v", "w", "é11.2.0\nv\n11.2.0\n", ""),
 ];
 
-/// Lines that end with a zero byte or are given without their prefix: what ends them, whether the
-/// prefix is stripped, which are wanted, the prefix, a text, and what `^1.2` appends of it.
+/// Lines that end with a zero byte or are written without their prefix: what ends them, whether the
+/// prefix is stripped, the selection, the prefix, a text, and the output of `^1.2` for it.
 const FORMS: [(LineEnd, bool, Selection, &str, &str, &str); 9] = [
     (
         LineEnd::ZeroByte,
@@ -125,7 +125,7 @@ const FORMS: [(LineEnd, bool, Selection, &str, &str, &str); 9] = [
     ),
 ];
 
-/// Two files, and what `^1.2` appends of them.
+/// Two files, and the output of `^1.2` for them.
 const FILES: [(&str, &str, &str); 6] = [
     ("1.4.0", "1.9.0", "1.4.0\n1.9.0"),
     ("1.4.0\n", "\u{FEFF}1.9.0\n", "1.4.0\n1.9.0\n"),
@@ -135,7 +135,7 @@ const FILES: [(&str, &str, &str); 6] = [
     ("1.4.0", "", "1.4.0\n"),
 ];
 
-/// How long lines begin, the byte that follows again and again, and whether `^1.2` keeps them.
+/// The beginnings of long lines, the byte that is repeated after it, and whether `^1.2` keeps them.
 const LONG_LINES: [(&str, u8, bool); 7] = [
     ("", b'a', false),
     ("1.2.0x", b'1', false),
@@ -146,10 +146,10 @@ const LONG_LINES: [(&str, u8, bool); 7] = [
     ("1.2.0", b'\r', true),
 ];
 
-/// How long the text of a line with a version is at most.
+/// The maximum length of the text of a line that can have a version.
 const LONGEST_TEXT: usize = 1_048_576;
 
-/// Writes at which cuts of the text something else is appended, and how many cuts there were.
+/// Writes for which cuts of the text the output differs, and how many cuts there were.
 pub fn write_cuts(rt: &impl Print, alloc: Global) -> io::Result<()> {
     let mut cuts = 0u32;
     for (wanted, appended) in &APPENDED {
@@ -170,8 +170,8 @@ pub fn write_cuts(rt: &impl Print, alloc: Global) -> io::Result<()> {
     println!(rt; "lines: {cuts} cuts")
 }
 
-/// Writes at which lengths of pieces the lines don't stop at the line that is no version, and how
-/// many lengths there were.
+/// Writes for which lengths of pieces the lines don't stop at the invalid line, and how many
+/// lengths there were.
 pub fn write_strict_lines(rt: &impl Print, alloc: Global) -> io::Result<()> {
     let mut stops = 0u32;
     for (wanted, _) in &APPENDED {
@@ -205,8 +205,9 @@ pub fn write_invalid_lines(rt: &impl Print, alloc: Global) -> io::Result<()> {
     println!(rt; "lines: {count} invalid lines")
 }
 
-/// Writes which long lines are kept or counted otherwise, and how many there were: of 4,096 bytes,
-/// and with the longest text that may have a version, one byte less and one more.
+/// Writes which long lines are kept or counted wrongly, and how many there were. Their lengths are
+/// 4,096 bytes, the maximum length of a text that can have a version, one byte less and one byte
+/// more.
 pub fn write_long_lines(rt: &impl Print, alloc: Global) -> io::Result<()> {
     let mut count = 0u32;
     for (front, byte, is_version) in &LONG_LINES {
@@ -236,7 +237,7 @@ pub fn write_long_lines(rt: &impl Print, alloc: Global) -> io::Result<()> {
     println!(rt; "lines: {count} long lines")
 }
 
-/// Writes with which prefixes something else is kept, and how many pairs of them there were.
+/// Writes for which prefixes the output differs, and how many pairs of prefixes there were.
 pub fn write_prefixes(rt: &impl Print, alloc: Global) -> io::Result<()> {
     for (first, second, text, appended) in &PREFIXES {
         let mut prefixes = Vec::new(alloc);
@@ -255,8 +256,7 @@ pub fn write_prefixes(rt: &impl Print, alloc: Global) -> io::Result<()> {
     println!(rt; "lines: {count} pairs of prefixes")
 }
 
-/// Writes at which cuts of lines in other forms something else is appended, and how many cuts there
-/// were.
+/// Writes for which cuts of lines in other forms the output differs, and how many cuts there were.
 pub fn write_forms(rt: &impl Print, alloc: Global) -> io::Result<()> {
     let mut cuts = 0u32;
     for (ending, strips_prefix, wanted, prefix, text, appended) in &FORMS {
@@ -285,7 +285,7 @@ pub fn write_forms(rt: &impl Print, alloc: Global) -> io::Result<()> {
     println!(rt; "lines: {cuts} cuts in other forms")
 }
 
-/// Writes of which two files something else is appended, and how many pairs of them there were.
+/// Writes for which pairs of files the output differs, and how many pairs there were.
 pub fn write_files(rt: &impl Print, alloc: Global) -> io::Result<()> {
     for (first, second, appended) in &FILES {
         let mut lines = lines_of(alloc, "^1.2", Selection::Each, true)?;
@@ -306,7 +306,8 @@ pub fn write_files(rt: &impl Print, alloc: Global) -> io::Result<()> {
     println!(rt; "lines: {count} pairs of files")
 }
 
-/// Whether strict lines stop at a last line of a file that is no version, which is counted.
+/// Returns whether strict lines stop at the last line of a file if it is an invalid version, and
+/// count it.
 fn stops_at_the_end_of_a_file(alloc: Global) -> Result<bool, AllocError> {
     let mut lines = lines_of(alloc, "^1.2", Selection::Each, true)?;
     let mut kept = Vec::new(alloc);
@@ -322,7 +323,8 @@ fn stops_at_the_end_of_a_file(alloc: Global) -> Result<bool, AllocError> {
     Ok(has_stopped && is_shown && kept.as_slice() == "1.4.0\n".as_bytes())
 }
 
-/// Whether pieces append this, the kept lines that they end as soon as these end.
+/// Returns whether the pieces have this output, where each kept line is appended as soon as it
+/// ends.
 fn appends(
     alloc: Global,
     wanted: Selection,
@@ -347,7 +349,7 @@ fn appends(
     Ok(has_last && kept.as_slice() == appended.as_bytes() && are_counted(&lines))
 }
 
-/// Whether the lines of the text were counted.
+/// Returns whether the lines of the text were counted.
 fn are_counted(lines: &Lines) -> bool {
     let counts = lines.counts();
     counts.lines == 8
@@ -358,7 +360,7 @@ fn are_counted(lines: &Lines) -> bool {
             && line.front.as_slice() == "x".as_bytes())
 }
 
-/// Whether pieces of this length append this.
+/// Returns whether pieces of this length have this output.
 fn appends_in_pieces(
     alloc: Global,
     wanted: Selection,
@@ -378,7 +380,7 @@ fn appends_in_pieces(
     appends(alloc, wanted, pieces.as_slice(), appended)
 }
 
-/// Whether strict lines stop at the second line: what the first appends was appended, and both are
+/// Returns whether strict lines stop at the second line, with the output of the first, and both
 /// counted.
 fn stops_in_pieces(alloc: Global, wanted: Selection, length: usize) -> Result<bool, AllocError> {
     let mut lines = lines_of(alloc, "^1.2", wanted, true)?;
@@ -395,7 +397,7 @@ fn stops_in_pieces(alloc: Global, wanted: Selection, length: usize) -> Result<bo
     Ok(false)
 }
 
-/// Whether this is left after the second line.
+/// Returns whether this is the state after the second line.
 fn has_stopped(lines: &Lines, wanted: Selection, error: &LinesError, kept: &[u8]) -> bool {
     let appended = match wanted {
         Selection::Each => "1.2.0\r\n",
@@ -411,7 +413,8 @@ fn has_stopped(lines: &Lines, wanted: Selection, error: &LinesError, kept: &[u8]
             .is_some_and(|line| line.number == 2)
 }
 
-/// Whether strict lines stop at a last line that is no version, append nothing, and count it.
+/// Returns whether strict lines stop at a last line that is an invalid version, append nothing, and
+/// count it.
 fn stops_at_the_end(alloc: Global, wanted: Selection) -> Result<bool, AllocError> {
     let mut lines = lines_of(alloc, "^1.2", wanted, true)?;
     let mut kept = Vec::new(alloc);
@@ -424,7 +427,7 @@ fn stops_at_the_end(alloc: Global, wanted: Selection) -> Result<bool, AllocError
     Ok(has_stopped && kept.is_empty() && (counts.lines, counts.invalid) == (3, 1))
 }
 
-/// Whether a line is skipped and counted, and the lines before and after it are appended.
+/// Returns whether a line is skipped and counted, and the lines before and after it are appended.
 fn skips(alloc: Global, before: &str, line: &[u8], after: &str) -> Result<bool, AllocError> {
     let mut lines = lines_of(alloc, "^1.2", Selection::Each, false)?;
     let mut kept = Vec::new(alloc);
@@ -445,7 +448,7 @@ fn skips(alloc: Global, before: &str, line: &[u8], after: &str) -> Result<bool, 
     Ok(has_ended && is_counted && kept == wanted)
 }
 
-/// A line of this length that begins so, and this byte again and again.
+/// Returns a line of this length that begins with `front` and then repeats a byte.
 fn long_line(alloc: Global, front: &str, byte: u8, length: usize) -> Result<Vec<u8>, AllocError> {
     let mut line = Vec::new(alloc);
     line.extend_from_slice(front.as_bytes())?;
@@ -455,8 +458,8 @@ fn long_line(alloc: Global, front: &str, byte: u8, length: usize) -> Result<Vec<
     Ok(line)
 }
 
-/// Whether a long line that is cut after so many bytes is kept or else counted, and the line after
-/// it is kept.
+/// Returns whether a long line that is cut at an offset is kept, or otherwise counted, and the line
+/// after it is kept.
 fn takes_long(alloc: Global, line: &[u8], place: usize, is_kept: bool) -> Result<bool, AllocError> {
     let mut lines = lines_of(alloc, "^1.2", Selection::Each, false)?;
     let mut kept = Vec::new(alloc);
@@ -484,7 +487,7 @@ fn takes_long(alloc: Global, line: &[u8], place: usize, is_kept: bool) -> Result
     Ok(has_ended && is_counted && kept == wanted)
 }
 
-/// The lines of a text that a filter of a range keeps, releases only, without a prefix.
+/// Returns the lines of a text that a filter keeps, releases only, without a prefix.
 fn lines_of(
     alloc: Global,
     range: &str,
@@ -498,7 +501,7 @@ fn lines_of(
     Ok(Lines::new(alloc, range, Vec::new(alloc), options))
 }
 
-/// The releases that a range of the crate in Cargo mode contains.
+/// Returns the releases in a range of the crate in Cargo mode.
 fn releases(alloc: Global, range: &str) -> Result<VersionRange, AllocError> {
     let meaning = Meaning {
         dialect: Dialect::CrateCargo,

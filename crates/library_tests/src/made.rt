@@ -1,11 +1,11 @@
-//! Versions and sets that are made by hand, and what their printed texts read back as.
+//! Versions and sets that are made by hand, and what is read if they are printed.
 use semver_parser::version::{self, Version};
 use semver_parser::{Comparator, Compat, Identifier, Op, Range, RangeSet};
 use std::alloc::{AllocError, Global};
 use std::io;
 
-/// Writes what versions read back as whose one identifier keeps a text that may be none of an
-/// identifier.
+/// Prints versions whose only identifier has a string that may be an invalid identifier, reads
+/// them, and writes the result.
 pub fn write_versions(rt: &impl Print, alloc: Global) -> io::Result<()> {
     for text in ["7", "01", "a--b", ""] {
         let made = version_of(alloc, text)?.to_string(alloc)?;
@@ -15,7 +15,7 @@ pub fn write_versions(rt: &impl Print, alloc: Global) -> io::Result<()> {
     Ok(())
 }
 
-/// The version 1.2.3 with one identifier that keeps the text.
+/// Returns the version 1.2.3 with one identifier that has the string.
 fn version_of(alloc: Global, text: &str) -> Result<Version, AllocError> {
     let kept = version::Identifier::AlphaNumeric(text.to_string(alloc)?);
     Ok(Version {
@@ -27,8 +27,8 @@ fn version_of(alloc: Global, text: &str) -> Result<Version, AllocError> {
     })
 }
 
-/// Writes what sets in Cargo mode read back as: one without ranges, one without comparators, ranges
-/// of one comparator, and one whose range is in another mode.
+/// Prints sets in Cargo mode, reads them, and writes the result: a set without ranges, one without
+/// comparators, ranges of one comparator, and a set whose range is in another mode.
 pub fn write_sets(rt: &impl Print, alloc: Global) -> io::Result<()> {
     let (ranges, compat) = (Vec::new(alloc), Compat::Cargo);
     write_read_back(rt, alloc, &RangeSet { ranges, compat })?;
@@ -60,7 +60,7 @@ pub fn write_sets(rt: &impl Print, alloc: Global) -> io::Result<()> {
     )
 }
 
-/// The one comparator of an operator, three numbers and a pre-release.
+/// Returns a list of one comparator, with an operator, three numbers and a pre-release.
 fn comparators(
     alloc: Global,
     op: Op,
@@ -77,7 +77,7 @@ fn comparators(
     Ok(vec![in alloc; comparator]?)
 }
 
-/// A set in Cargo mode, of one range in a mode of its own.
+/// Returns a set in Cargo mode of one range in a mode of its own.
 fn of_one_range(
     alloc: Global,
     comparator_set: Vec<Comparator>,
@@ -93,8 +93,8 @@ fn of_one_range(
     })
 }
 
-/// Writes what a set prints as, what that reads back as in the set's own mode, and whether that is
-/// the set.
+/// Writes how a set is printed, what this is read as in the set's own mode, and whether that is the
+/// set.
 fn write_read_back(rt: &impl Print, alloc: Global, set: &RangeSet) -> io::Result<()> {
     let printed = set.to_string(alloc)?;
     let again = RangeSet::parse(alloc, printed.as_str(), set.compat);

@@ -1,5 +1,5 @@
-//! The derived orders: the cases of an enum in the order declared, and the fields of a struct from
-//! the first on.
+//! The derived orders: the cases of an enum in the order of declaration, and the fields of a struct
+//! from the first one.
 use semver_parser::lexer::{self, Token};
 use semver_parser::parser::Error;
 use semver_parser::version::Version;
@@ -55,7 +55,7 @@ pub fn write_enums(rt: &impl Print, alloc: Global) -> io::Result<()> {
     write_order(rt, "Compat", &[Compat::Cargo, Compat::Npm])
 }
 
-/// Writes how many versions and sets are in order, and their parts.
+/// Writes how many versions and sets, and their parts, are in order.
 pub fn write_structs(rt: &impl Print, alloc: Global) -> io::Result<()> {
     let mut versions: Vec<Version> = Vec::new(alloc);
     // The first five have a 0 in one field each: the earlier the field, the lower the version.

@@ -1,9 +1,10 @@
-//! The order of precedence, by the examples of the standard.
+//! The order of precedence, with the examples of the standard.
 use semver_parser::version::{self, Version};
 use std::alloc::{AllocError, Global};
 use std::io;
 
-/// Each is below the next: the example of SemVer 2.0.0, section 11.4, and then that of 11.2.
+/// Each is below the next: the example of SemVer 2.0.0, section 11.4, and then that of section
+/// 11.2.
 const ASCENDING: [&str; 11] = [
     "1.0.0-alpha",
     "1.0.0-alpha.1",
@@ -18,8 +19,8 @@ const ASCENDING: [&str; 11] = [
     "2.1.1",
 ];
 
-/// Writes which versions compare otherwise than their places, and how many there are. The one has
-/// no build, and the other has one.
+/// Writes which versions don't compare like their indices, and how many there are. One of each pair
+/// has no build metadata, and the other has some.
 pub fn write_precedence(rt: &impl Print, alloc: Global) -> io::Result<()> {
     let versions = versions_with(alloc, "")?;
     let built = versions_with(alloc, "+b5")?;
@@ -36,7 +37,7 @@ pub fn write_precedence(rt: &impl Print, alloc: Global) -> io::Result<()> {
     println!(rt; "precedence: {} versions", versions.len())
 }
 
-/// The versions, each with this text after it.
+/// Returns the versions, each with this string after it.
 fn versions_with(alloc: Global, build: &str) -> Result<Vec<Version>, AllocError> {
     let mut versions = Vec::new(alloc);
     for text in ASCENDING {

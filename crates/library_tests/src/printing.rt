@@ -1,4 +1,4 @@
-//! Printed values at a writer that refuses.
+//! Values printed to a writer that fails.
 use super::writers::{ALL_AT_ONCE, Limited, Refusal};
 use semver_parser::parser::{Error, Parser};
 use semver_parser::{Comparator, Compat, Range, RangeError, RangeSet, version};
@@ -6,7 +6,7 @@ use std::alloc::Global;
 use std::fmt::Write;
 use std::{fmt, io};
 
-/// Writes which identifiers and versions print.
+/// Writes which identifiers and versions are printed as wanted.
 pub fn write_versions(rt: &impl Print, alloc: Global) -> io::Result<()> {
     for text in ["0", "7", "beta", "01", "a-b-1"] {
         let Ok(mut parser) = Parser::new(text) else {
@@ -32,7 +32,8 @@ pub fn write_versions(rt: &impl Print, alloc: Global) -> io::Result<()> {
     Ok(())
 }
 
-/// Writes which sets print, their ranges, the comparators of these, and the parts of these.
+/// Writes which sets are printed as wanted, and their ranges, the comparators of these, and the
+/// parts of these.
 pub fn write_sets(rt: &impl Print, alloc: Global) -> io::Result<()> {
     let ranges = Vec::new(alloc);
     let compat = Compat::Npm;
@@ -87,8 +88,8 @@ fn write_comparator(
     Ok(())
 }
 
-/// Writes which errors print: those that reading a version answers, and those that are made by
-/// hand.
+/// Writes which errors are printed as wanted: those that reading a version returns, and those made
+/// by hand.
 pub fn write_errors(rt: &impl Print, alloc: Global) -> io::Result<()> {
     for (text, sentence) in [
         ("1.2", "expected more input"),
@@ -116,7 +117,7 @@ pub fn write_errors(rt: &impl Print, alloc: Global) -> io::Result<()> {
     write_printed(rt, alloc, &RangeError::OutOfMemory, "out of memory")
 }
 
-/// Writes whether the sentence of the error is what it prints, and what its text is.
+/// Writes whether the error is printed as its sentence, and its text.
 fn write_error(
     rt: &impl Print,
     alloc: Global,
@@ -129,7 +130,7 @@ fn write_error(
     write_printed(rt, alloc, error, sentence)
 }
 
-/// Writes the text, and whether the value prints as that.
+/// Writes the string, and whether the value is printed as that.
 fn write_printed<T: fmt::Display>(
     rt: &impl Print,
     alloc: Global,
@@ -144,8 +145,8 @@ fn write_printed<T: fmt::Display>(
     println!(rt; "[{text}] prints")
 }
 
-/// Whether the value prints as the text to a writer of so many bytes: all of it where all is taken,
-/// and else a beginning, an error, and nothing more.
+/// Returns whether the value is printed as the string to a writer that takes `left` bytes: all of
+/// it if that is enough, and otherwise a prefix, an error, and nothing more.
 fn prints<T: fmt::Display>(alloc: Global, value: &T, text: &str, left: usize) -> bool {
     let mut out = Limited::new(alloc, left, ALL_AT_ONCE, Refusal::Fail);
     let is_printed = write!(out, "{value}").is_ok();

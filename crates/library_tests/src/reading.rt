@@ -1,4 +1,4 @@
-//! Versions that a range contains, by their texts.
+//! Versions in a range, given as strings.
 use std::alloc::Global;
 use std::io::{self, ErrorKind};
 use tool_ranges::dialect::Dialect;
@@ -7,13 +7,13 @@ use tool_ranges::satisfying::SatisfiesError;
 use tool_ranges::version_range::VersionRange;
 use version_sets::PreReleases;
 
-/// What a range says of a text.
+/// Whether a range contains a string.
 type Contained = Result<bool, SatisfiesError>;
 
-/// The text is no version.
+/// The string is an invalid version.
 const INVALID: Contained = Err(SatisfiesError::InvalidVersion);
 
-/// A range of the crate in Cargo mode, a rule, a text, and what the range says of it.
+/// A range of the crate in Cargo mode, a rule, a string, and whether the range contains it.
 const TEXTS: [(&str, PreReleases, &[u8], Contained); 24] = [
     ("^1.2", PreReleases::Excluded, b"1.9.0", Ok(true)),
     ("^1.2", PreReleases::Excluded, b"1.9.0+b5.7", Ok(true)),
@@ -51,7 +51,7 @@ const TEXTS: [(&str, PreReleases, &[u8], Contained); 24] = [
     ("^1.2", PreReleases::Excluded, b" 1.9.0+b5\n", Ok(true)),
 ];
 
-/// Writes the places of the texts of which a range says something else, and how many there were.
+/// Writes the indices of the strings with another result, and how many strings there were.
 pub fn write_reading(rt: &impl Print, alloc: Global) -> io::Result<()> {
     for (place, (range, rule, text, wanted)) in TEXTS.iter().enumerate() {
         if contains(alloc, range, *rule, text)? != *wanted {
@@ -61,7 +61,7 @@ pub fn write_reading(rt: &impl Print, alloc: Global) -> io::Result<()> {
     println!(rt; "contained: {} texts", TEXTS.len())
 }
 
-/// What a range says of a text.
+/// Returns whether a range contains a string.
 fn contains(alloc: Global, range: &str, rule: PreReleases, text: &[u8]) -> io::Result<Contained> {
     let meaning = Meaning {
         dialect: Dialect::CrateCargo,

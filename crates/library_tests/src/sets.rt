@@ -1,4 +1,4 @@
-//! Sets of the versions that a range text means.
+//! Sets of the versions that satisfy a range.
 use semver_parser::version::{self, Version};
 use std::alloc::Global;
 use std::io::{self, ErrorKind};
@@ -6,7 +6,7 @@ use tool_ranges::dialect::Dialect;
 use tool_ranges::meaning::{self, Meaning};
 use version_sets::{PreReleases, VersionSet};
 
-/// The last numbers, as a text.
+/// The highest numbers, as a string.
 const LAST: &str = "18446744073709551615.18446744073709551615.18446744073709551615";
 
 /// A range in Cargo mode, a rule, a version, and whether it is in the set.
@@ -82,7 +82,7 @@ const TEXTS: [(&str, PreReleases, &str, bool); 24] = [
     ),
 ];
 
-/// Range texts that mean the same versions, releases only.
+/// Ranges that contain the same versions, releases only.
 const SAME: [(&str, &str); 3] = [
     (">=1.0.0 <2.0.0 || >=2.0.0 <3.0.0", ">=1.0.0 <3.0.0"),
     (">=1.0.0-rc", ">=1.0.0"),
@@ -92,8 +92,8 @@ const SAME: [(&str, &str); 3] = [
     ),
 ];
 
-/// Two ranges in Cargo mode, a rule, and the lowest versions that are lost, gained and shared where
-/// the second takes the place of the first. A text without bytes says that there is none.
+/// Two ranges in Cargo mode, a rule, and the lowest versions that are lost, gained and shared if
+/// the second replaces the first. An empty string means that there is none.
 const COMPARED: [(&str, &str, PreReleases, [&str; 3]); 6] = [
     (
         "^1.2.0",
@@ -133,7 +133,7 @@ const COMPARED: [(&str, &str, PreReleases, [&str; 3]); 6] = [
     ),
 ];
 
-/// Writes the places of the texts whose sets are others, and how many texts there were.
+/// Writes the indices of the strings with other sets, and how many strings there were.
 pub fn write_sets(rt: &impl Print, alloc: Global) -> io::Result<()> {
     for (place, (range, rule, text, wanted)) in TEXTS.iter().enumerate() {
         if is_in(alloc, range, *rule, text)? != *wanted {
@@ -156,7 +156,7 @@ pub fn write_sets(rt: &impl Print, alloc: Global) -> io::Result<()> {
     println!(rt; "compared sets: {} pairs", COMPARED.len())
 }
 
-/// Whether the comparison of the sets of two ranges gives these versions.
+/// Returns whether comparing the sets of two ranges gives these versions.
 fn is_compared(
     alloc: Global,
     old: &str,
@@ -175,7 +175,7 @@ fn is_compared(
     )
 }
 
-/// Whether a version has this text; none has a text without bytes.
+/// Returns whether a version is printed as this string, which is empty for no version.
 fn is_text(alloc: Global, version: &Option<Version>, wanted: &str) -> io::Result<bool> {
     let Some(version) = version else {
         return Ok(wanted.is_empty());
@@ -186,7 +186,7 @@ fn is_text(alloc: Global, version: &Option<Version>, wanted: &str) -> io::Result
     }
 }
 
-/// Whether a version is in the set of a range.
+/// Returns whether a version is in the set of a range.
 fn is_in(alloc: Global, range: &str, rule: PreReleases, text: &str) -> io::Result<bool> {
     let Ok(version) = version::parse(alloc, text) else {
         return Err(io::Error::from(ErrorKind::InvalidInput));
@@ -194,7 +194,7 @@ fn is_in(alloc: Global, range: &str, rule: PreReleases, text: &str) -> io::Resul
     Ok(set_of(alloc, range, rule)?.contains(&version))
 }
 
-/// The set of a range.
+/// Returns the set of a range.
 fn set_of(alloc: Global, range: &str, rule: PreReleases) -> io::Result<VersionSet> {
     let meaning = Meaning {
         dialect: Dialect::CrateCargo,

@@ -1,14 +1,14 @@
-//! Whole writes: of no byte and of some, at a writer that refuses.
+//! Whole writes, of no byte and of some, to a writer that fails.
 use super::writers::{ALL_AT_ONCE, Limited, Refusal};
 use semver_texts::writing::write_whole;
 use std::alloc::Global;
 use std::io;
 use std::io::ErrorKind;
 
-/// What is written, and each beginning of it.
+/// The bytes, each prefix of which is written.
 const BYTES: &[u8] = b"1.2.3";
 
-/// Writes at which beginnings and refusals a whole write doesn't end as it has to, and how many
+/// Writes for which prefixes and failures a whole write doesn't end as documented, and how many
 /// there were.
 pub fn write_writes(rt: &impl Print, alloc: Global) -> io::Result<()> {
     let mut writes = 0u32;
@@ -24,8 +24,8 @@ pub fn write_writes(rt: &impl Print, alloc: Global) -> io::Result<()> {
     println!(rt; "writes: {writes} writers")
 }
 
-/// How many beginnings of the bytes were written to writers with each capacity, and how many of
-/// these writes didn't end as they have to.
+/// Returns how many prefixes of the bytes were written to writers with each capacity, and how many
+/// of these writes didn't end as documented.
 fn count_writes(alloc: Global, most: usize, refusal: Refusal) -> (u32, u32) {
     let mut count = 0u32;
     let mut wrong = 0u32;
@@ -41,8 +41,8 @@ fn count_writes(alloc: Global, most: usize, refusal: Refusal) -> (u32, u32) {
     (count, wrong)
 }
 
-/// Whether all is written, or what is taken before a refusal, and then the error of the
-/// documentation is returned.
+/// Returns whether everything is written, or the bytes before a failure, and then the documented
+/// error is returned.
 fn ends_as_documented(
     alloc: Global,
     bytes: &[u8],
@@ -58,7 +58,7 @@ fn ends_as_documented(
     is_told && out.late_calls == 0 && Some(out.taken.as_slice()) == bytes.get(..left)
 }
 
-/// The error that a refusal has to give.
+/// Returns the documented error of a failure.
 fn kind_of(refusal: Refusal) -> ErrorKind {
     match refusal {
         Refusal::Fail => ErrorKind::BrokenPipe,

@@ -1,4 +1,4 @@
-//! What the arguments request.
+//! Reads the arguments.
 
 use command_line::{ArgumentError, MeaningOptions};
 use release_filter::{LineEnd, LineOptions, Selection};
@@ -8,36 +8,37 @@ use std::rt::Env;
 use tool_ranges::meaning::Meaning;
 use version_sets::PreReleases;
 
-/// What the arguments request.
+/// The request of the arguments.
 #[derive(Drop)]
 pub enum Request {
-    /// To filter.
+    /// To filter lines.
     Filter(Filtering),
-    /// To tell the usage.
+    /// To print the usage.
     Help,
-    /// To tell the version of the program.
+    /// To print the version of the program.
     Version,
 }
 
-/// The filter that the arguments request, and what it is to do.
+/// The filter that the arguments request, and its options.
 #[derive(Drop)]
 pub struct Filtering {
-    /// The range text.
+    /// The range.
     pub range: String,
-    /// How it is read.
+    /// The dialect, and which pre-releases count.
     pub meaning: Meaning,
-    /// The files that are read; without one it is standard input.
+    /// The files to read, or standard input if there are none.
     pub files: Vec<String>,
-    /// What else is to be done.
+    /// The other options.
     pub options: Options,
 }
 
-/// The options of this program alone.
+/// The options that only this program has.
 #[derive(Drop)]
 pub struct Options {
-    /// The texts that may be before a version: the first after which there is one decides.
+    /// The prefixes that are allowed before a version. The first prefix that is followed by a
+    /// version decides.
     pub prefixes: Vec<String>,
-    /// What is done with the lines.
+    /// The options for lines.
     pub lines: LineOptions,
     /// Whether the order of the lines is reversed.
     is_reversed: bool,
@@ -45,15 +46,15 @@ pub struct Options {
     pub is_counted: bool,
     /// Whether input and output are arrays of strings in JSON.
     pub is_json: bool,
-    /// Whether the versions are wanted that the range doesn't contain.
+    /// Whether the versions that the range doesn't contain are wanted.
     pub is_inverted: bool,
-    /// The kind of versions that are wanted, if only one is.
+    /// The kind of versions that are wanted, if only one kind is.
     pub only: Option<Kind>,
-    /// The option that chose the wanted lines, if one did.
+    /// The option that selected the wanted lines, if there is one.
     selecting: Option<&'static str>,
     /// Whether `--line-buffered` was given, which changes nothing.
     is_line_buffered: bool,
-    /// What the next argument is, if it is the value of an option.
+    /// The kind of value that is expected as the next argument, if one is.
     awaited: Option<Value>,
     /// Whether options may follow.
     has_more: bool,
@@ -66,7 +67,7 @@ pub enum Kind {
     PreReleases,
 }
 
-/// An option's value that is an argument of its own.
+/// The value of an option, if it is an argument of its own.
 #[derive(Clone, Copy)]
 enum Value {
     Prefix,
@@ -74,7 +75,7 @@ enum Value {
 }
 
 impl Options {
-    /// What is done without an option.
+    /// Returns the defaults.
     fn new(alloc: Global) -> Options {
         Options {
             prefixes: Vec::new(alloc),
@@ -91,8 +92,8 @@ impl Options {
         }
     }
 
-    /// Takes an option, and returns whether it is known. It is refused if an earlier one has
-    /// settled the same.
+    /// Takes an option, and returns whether it is known. It is an error if an earlier option has
+    /// the same subject.
     fn take(&mut self, rt: &impl AllocGlobal, option: &str) -> Result<bool, ArgumentError> {
         if let Some(prefix) = option.strip_prefix("--prefix=") {
             push(&mut self.prefixes, prefix.to_string(rt.alloc())?)?;
@@ -133,7 +134,7 @@ impl Options {
         Ok(true)
     }
 
-    /// Takes which lines are wanted, and the option that names them.
+    /// Takes the option that selects the wanted lines.
     fn select(&mut self, option: &'static str, selection: Selection) -> Result<(), ArgumentError> {
         let earlier = self.selecting;
         match earlier {
@@ -169,7 +170,7 @@ impl Options {
         Ok(())
     }
 
-    /// Takes that releases alone are wanted, as `--releases-only` says.
+    /// Takes the option `--releases-only`, by which only releases are wanted.
     fn require_releases(&mut self) -> Result<(), ArgumentError> {
         if self.only == Some(Kind::PreReleases) {
             let only = "--only pre-releases";
@@ -179,7 +180,7 @@ impl Options {
         Ok(())
     }
 
-    /// Reverses the order of the lines, if they are sorted and this is wanted.
+    /// Reverses the order of the lines, if they are sorted and the reverse order is wanted.
     fn end_order(&mut self) -> Result<(), ArgumentError> {
         if self.is_reversed {
             if self.lines.selection != Selection::Sorted {
@@ -190,7 +191,7 @@ impl Options {
         Ok(())
     }
 
-    /// Has each string of JSON end in a zero byte, which none has.
+    /// Makes a zero byte the end of each JSON string, since none has one.
     fn end_strings(&mut self) -> Result<(), ArgumentError> {
         if !self.is_json {
             return Ok(());
@@ -203,7 +204,7 @@ impl Options {
     }
 }
 
-/// Appends a text.
+/// Appends a string.
 fn push(texts: &mut Vec<String>, text: String) -> Result<(), ArgumentError> {
     match texts.push(text) {
         Ok(()) => Ok(()),
@@ -220,8 +221,9 @@ fn given_once(option: &'static str, is_given: &mut bool) -> Result<(), ArgumentE
     Ok(())
 }
 
-/// What the arguments request. What begins with a hyphen is an option, up to the first `--`, except
-/// `-` alone and what follows `--prefix`, `--only`, `--dialect` and `--as`.
+/// Returns the request of the arguments. An argument that begins with a hyphen is an option, up to
+/// the first `--`. This doesn't apply to a single `-`, and to the values of `--prefix`, `--only`,
+/// `--dialect` and `--as`.
 pub fn requested(rt: &(impl Env + AllocGlobal)) -> Result<Request, ArgumentError> {
     let Ok(mut arguments) = env::args(rt) else {
         return Err(ArgumentError::Unreadable);
@@ -254,7 +256,7 @@ pub fn requested(rt: &(impl Env + AllocGlobal)) -> Result<Request, ArgumentError
     request_of(range, files, meaning, options)
 }
 
-/// What arguments request that are taken one by one.
+/// Returns the request of arguments that are taken one by one.
 fn request_of(
     range: Option<String>,
     files: Vec<String>,

@@ -1,4 +1,4 @@
-//! What is read, filtered and written, file by file.
+//! Reads, filters and writes, file by file.
 
 use crate::arguments::Options;
 use crate::json::{JsonError, Strings};
@@ -11,22 +11,24 @@ use std::fs;
 use std::io::{self, ErrorKind, Read};
 use tool_ranges::version_range::VersionRange;
 
-/// So many bytes of the input are read at once.
+/// How many bytes of the input are read at once.
 const AT_ONCE: usize = 65536;
 
 /// The name of standard input.
 const STANDARD_INPUT: &str = "-";
 
-/// Why a run ended by an error.
+/// The error of a run.
 #[derive(Drop)]
 pub enum Error {
-    /// The range text was refused.
+    /// The range is invalid.
     Range(RangeError),
     /// An allocation failed.
     OutOfMemory,
-    /// The lines are strict, and one is invalid: its file, its number there, and its text.
+    /// The lines are strict, and one is invalid. The string has its file, its number there, and its
+    /// text.
     Invalid(String),
-    /// A file isn't an array of strings in JSON: its name, the offset, and what is wrong there.
+    /// A file isn't an array of strings in JSON. The string has its name, the offset, and what is
+    /// wrong there.
     Json(String),
     /// Standard input can't be read.
     Read(io::Error),
@@ -36,27 +38,27 @@ pub enum Error {
     Write(io::Error),
 }
 
-/// The lines that are taken, and what is done with those that are kept.
+/// The lines that are read, and where the kept ones go.
 #[derive(Drop)]
 pub struct Copying<'a> {
     options: &'a Options,
     lines: Lines,
-    /// The bytes that are read at once.
+    /// The buffer for reading.
     buffer: Vec<u8>,
-    /// What of the file was read as JSON.
+    /// The state of reading the file as JSON.
     strings: Strings,
-    /// The strings that were read, and are not yet filtered.
+    /// The strings that were read, and not filtered yet.
     records: Vec<u8>,
-    /// What is kept, and not yet written.
+    /// The kept lines that were not written yet.
     kept: Vec<u8>,
-    /// Whether something was written.
+    /// Whether anything was written.
     has_written: bool,
-    /// How many lines the files before this one have.
+    /// The number of lines in the previous files.
     before: u64,
 }
 
 impl<'a> Copying<'a> {
-    /// No byte was read yet.
+    /// Returns the state before anything was read.
     pub fn new(
         alloc: Global,
         options: &'a Options,
@@ -78,13 +80,13 @@ impl<'a> Copying<'a> {
         })
     }
 
-    /// The counts of the lines so far.
+    /// Returns the counts of the lines so far.
     pub fn counts(&self) -> &Counts {
         self.lines.counts()
     }
 
-    /// Takes the lines of all files, or of standard input, writes those that are kept before more
-    /// is read, and returns whether there was one.
+    /// Filters the lines of all files, or of standard input. Kept lines are written before more is
+    /// read. Returns whether there was a kept line.
     pub fn run(&mut self, rt: &HostRuntime, files: &[String]) -> Result<bool, Error> {
         let mut name = STANDARD_INPUT;
         if files.is_empty() {
@@ -146,7 +148,7 @@ impl<'a> Copying<'a> {
         Ok(())
     }
 
-    /// Takes the end of a file that another one follows.
+    /// Takes the end of a file that is followed by another one.
     fn end_file(&mut self, rt: &HostRuntime, name: &str) -> Result<(), Error> {
         let ended = self.lines.end_file(rt.alloc(), &mut self.kept);
         self.write(rt)?;
@@ -175,7 +177,7 @@ impl<'a> Copying<'a> {
         written.map_err(Error::Write)
     }
 
-    /// Writes what was kept.
+    /// Writes the lines that were kept.
     fn write(&mut self, rt: &HostRuntime) -> Result<(), Error> {
         let (mut output, are_first) = (io::writer(rt), !self.has_written);
         self.has_written = self.has_written || !self.kept.is_empty();
@@ -184,7 +186,7 @@ impl<'a> Copying<'a> {
         written.map_err(Error::Write)
     }
 
-    /// The error of a file that isn't an array of strings.
+    /// Returns the error of a file that isn't an array of strings.
     fn check_json(
         &self,
         rt: &HostRuntime,
@@ -205,7 +207,7 @@ impl<'a> Copying<'a> {
         }
     }
 
-    /// Why the lines of a file were not taken to the end.
+    /// Returns the error if the lines of a file can't be taken to the end.
     fn stopped(&self, rt: &HostRuntime, name: &str, error: LinesError) -> Error {
         match error {
             LinesError::NoVersion(number) => match self.invalid_line(rt, name, number) {
@@ -216,7 +218,7 @@ impl<'a> Copying<'a> {
         }
     }
 
-    /// The file of the first invalid line, its number there, and its text.
+    /// Returns the file of the first invalid line, its number there, and its text.
     fn invalid_line(
         &self,
         rt: &HostRuntime,
@@ -234,7 +236,7 @@ impl<'a> Copying<'a> {
     }
 }
 
-/// The error of a file that can't be read.
+/// Returns the error of a file that can't be read.
 fn unreadable(rt: &HostRuntime, name: &str, error: io::Error) -> Error {
     if name == STANDARD_INPUT {
         return Error::Read(error);
@@ -245,7 +247,7 @@ fn unreadable(rt: &HostRuntime, name: &str, error: io::Error) -> Error {
     }
 }
 
-/// Reads the next bytes: how many.
+/// Reads the next bytes, and returns how many there are.
 fn read<R: Read>(input: &mut R, buffer: &mut [u8]) -> io::Result<usize> {
     for _ in 0..u64::MAX {
         match input.read(buffer) {

@@ -1,11 +1,12 @@
-//! Arrays of strings in JSON (RFC 8259): read as records that end in a zero byte, and written.
+//! Arrays of strings in JSON (RFC 8259): reads them as records that end in a zero byte, and writes
+//! them.
 
 use std::alloc::AllocError;
 
-/// Why a file isn't read to its end.
+/// Why a file wasn't read to its end.
 #[derive(Clone, Copy)]
 pub enum JsonError {
-    /// It isn't an array of strings: what is wrong at the next byte.
+    /// The file isn't an array of strings. The string says what is wrong at the next byte.
     Invalid(&'static str),
     /// An allocation failed.
     OutOfMemory,
@@ -17,7 +18,7 @@ impl From<AllocError> for JsonError {
     }
 }
 
-/// What was read last.
+/// The part of the file that was read last.
 #[derive(Clone, Copy, PartialEq, Eq)]
 enum State {
     /// Nothing, or white space.
@@ -32,17 +33,18 @@ enum State {
     Inside,
     /// A backslash in a string.
     Backslash,
-    /// So many of the digits after `\u`, less than four.
+    /// Less than four of the digits after `\u`; this is their number.
     Digits(u8),
     /// The first half of a surrogate pair.
     Half,
-    /// The backslash after it.
+    /// The backslash after the first half.
     HalfBackslash,
-    /// The bracket that ends the array, or the string in its place.
+    /// The bracket that ends the array, or a string instead of an array.
     End,
 }
 
-/// Reads one file: an array of strings, or a string, which is read as an array of it alone.
+/// Reads one file: an array of strings, or a string, which is read like an array with only this
+/// string.
 #[derive(Clone, Copy)]
 pub struct Strings {
     state: State,
@@ -55,7 +57,7 @@ pub struct Strings {
 }
 
 impl Strings {
-    /// Nothing was read yet.
+    /// Returns the state before anything was read.
     pub fn new() -> Strings {
         Strings {
             state: State::Begin,
@@ -66,7 +68,7 @@ impl Strings {
         }
     }
 
-    /// Reads a piece of the file, and appends each string and a zero byte to the records.
+    /// Reads a piece of the file, and appends each string with a zero byte to the records.
     pub fn push(&mut self, piece: &[u8], records: &mut Vec<u8>) -> Result<(), JsonError> {
         for byte in piece.iter() {
             self.take(*byte, records)?;
@@ -75,12 +77,12 @@ impl Strings {
         Ok(())
     }
 
-    /// How many bytes were read.
+    /// Returns the number of bytes that were read.
     pub fn offset(&self) -> u64 {
         self.offset
     }
 
-    /// Whether the file may end here.
+    /// Checks that the file may end here.
     pub fn finish(&self) -> Result<(), JsonError> {
         match self.state {
             State::End => Ok(()),
@@ -166,7 +168,7 @@ impl Strings {
         Ok(())
     }
 
-    /// Four digits follow.
+    /// Begins reading four digits.
     fn start_digits(&mut self) {
         self.state = State::Digits(0);
         self.unit = 0;
@@ -212,7 +214,7 @@ impl Strings {
     }
 }
 
-/// The value of a hexadecimal digit.
+/// Returns the value of a hexadecimal digit.
 fn digit_value(byte: u8) -> Option<u32> {
     match byte {
         b'0'..=b'9' => Some((byte - b'0') as u32),
@@ -241,13 +243,13 @@ fn push_utf8(scalar: u32, bytes: &mut Vec<u8>) -> Result<(), AllocError> {
     push(bytes, low_bits(scalar))
 }
 
-/// The byte of UTF-8 that has the lowest six bits of a number.
+/// Returns the byte of UTF-8 with the lowest six bits of a number.
 fn low_bits(bits: u32) -> u8 {
     (0x80 | (bits & 0x3f)) as u8
 }
 
-/// Appends records that end in a zero byte as the items of an array, each in a line of its own; the
-/// first begins the array.
+/// Appends records that end in a zero byte as items of an array, each in a line of its own. The
+/// first record begins the array.
 pub fn push_items(records: &[u8], is_first: bool, written: &mut Vec<u8>) -> Result<(), AllocError> {
     let mut begins = true;
     let mut has_item = !is_first;

@@ -1,5 +1,6 @@
 //! The program `release-filter`: arguments, reading, writing, and exit status. `Lines` of the
-//! library says which lines are kept, and what is given of them; the versions are those of a set.
+//! library decides which lines are kept, and what is written of them; the wanted versions are those
+//! in a set.
 #![tactic(auto)]
 
 mod arguments;
@@ -27,7 +28,7 @@ const PROGRAM: Program = Program {
     name: "release-filter",
 };
 
-/// How the program is called.
+/// The usage of the program.
 const USAGE: &str = "\
 usage: release-filter [OPTION]... RANGE [FILE]...";
 
@@ -74,7 +75,7 @@ version which RANGE means. Without a file, and for -, it reads standard input.
 The status is 0 if a line was found, 1 if none was, and 2 after an error, which
 standard error describes. semver-ranges(7) says what ranges mean.";
 
-/// The version of this program, as the file VERSION has it.
+/// The version of this program, which is that of the file VERSION.
 const VERSION: &str = "release-filter 1.0.0";
 
 fn main(rt: HostRuntime) -> ExitCode {
@@ -86,7 +87,7 @@ fn main(rt: HostRuntime) -> ExitCode {
     }
 }
 
-/// Filters, and reports an error. A pipe that its reader closed is none.
+/// Filters, and reports an error. It isn't an error if the reader closed the pipe.
 fn run(rt: &HostRuntime, filtering: &Filtering) -> ExitCode {
     match filtered(rt, filtering) {
         Ok(true) => ExitCode::SUCCESS,
@@ -110,7 +111,7 @@ fn filtered(rt: &HostRuntime, filtering: &Filtering) -> Result<bool, Error> {
     Ok(has_lines)
 }
 
-/// The versions that are wanted: those of the range, or all others; and of them all, or one kind.
+/// Returns the wanted versions: those in the range, or all others; of these, all or only one kind.
 fn versions(alloc: Global, filtering: &Filtering) -> Result<VersionSet, RangeError> {
     let mut versions = meaning::read(alloc, filtering.meaning, filtering.range.as_str())?;
     if filtering.options.is_inverted {
@@ -126,7 +127,8 @@ fn versions(alloc: Global, filtering: &Filtering) -> Result<VersionSet, RangeErr
     })
 }
 
-/// All versions, which read identifiers of digits alone so: none is below 0.0.0-0.
+/// Returns all versions, with numeric identifiers read as `digits` says. No version is below
+/// 0.0.0-0.
 fn all_versions(alloc: Global, digits: Digits) -> Result<VersionSet, RangeError> {
     let dialect = match digits {
         Digits::Kept => Dialect::CrateNpm,
@@ -139,7 +141,7 @@ fn all_versions(alloc: Global, digits: Digits) -> Result<VersionSet, RangeError>
     meaning::read(alloc, meaning, ">=0.0.0-0")
 }
 
-/// Reports on standard error what the error is, and returns status 2.
+/// Reports an error on standard error, and returns status 2.
 fn failed(rt: &HostRuntime, error: &Error, filtering: &Filtering) -> ExitCode {
     let dialect: Dialect = filtering.meaning.dialect;
     let _ = match error {

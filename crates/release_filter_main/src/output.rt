@@ -1,4 +1,4 @@
-//! How kept lines are written: as they are, as JSON, or only counted.
+//! Writes kept lines: as they are, as JSON, or only their number.
 
 use crate::arguments::Options;
 use crate::json::{push_end, push_items};
@@ -7,7 +7,7 @@ use release_filter::Selection;
 use std::alloc::Global;
 use std::io::{self, Write};
 
-/// Writes lines that were kept, after others or as the first, and drops them.
+/// Writes kept lines, either the first or further ones, and drops them.
 pub fn write_lines<W: Write>(
     alloc: Global,
     output: &mut W,
@@ -31,7 +31,7 @@ pub fn write_lines<W: Write>(
     output.flush()
 }
 
-/// Writes the end of the array of JSON.
+/// Writes the end of the JSON array.
 pub fn write_end<W: Write>(alloc: Global, output: &mut W, has_items: bool) -> io::Result<()> {
     let mut end = Vec::new(alloc);
     push_end(has_items, &mut end)?;
@@ -39,7 +39,7 @@ pub fn write_end<W: Write>(alloc: Global, output: &mut W, has_items: bool) -> io
     output.flush()
 }
 
-/// Writes the number of lines, of which the options want one or all.
+/// Writes the number of the lines that the options select: one, or all.
 pub fn write_count<W: Write>(
     alloc: Global,
     output: &mut W,

@@ -1,15 +1,16 @@
-//! What is said on standard error of lines without a version.
+//! Reports lines without a version on standard error.
 
 use crate::arguments::Filtering;
 use release_filter::Counts;
 use semver_parser::version::outline_in;
 use std::io::IsTerminal;
 
-/// So many bytes of a line without a version are shown.
+/// How many bytes of a line without a version are shown.
 const SHOWN: usize = 80;
 
-/// Says how many lines have no version, if no line was kept, and shows the first, with a hint if a
-/// prefix is missing. If some were kept, this is said at a terminal alone, and only with the hint.
+/// If no line was kept, reports how many lines have no version, and shows the first, with a hint if
+/// a prefix is missing. If some lines were kept, it does so only on a terminal, and only if there
+/// is the hint.
 pub fn report_invalid(rt: &HostRuntime, counts: &Counts, filtering: &Filtering, has_lines: bool) {
     let Some(first) = &counts.first_invalid else {
         return;
@@ -47,7 +48,7 @@ pub fn report_invalid(rt: &HostRuntime, counts: &Counts, filtering: &Filtering, 
     );
 }
 
-/// Whether a line is a version after a `v`.
+/// Returns whether a line is a version after a `v`.
 fn has_v(front: &[u8], filtering: &Filtering) -> bool {
     match front.strip_prefix(b"v") {
         Some(version) => outline_in(version, filtering.meaning.dialect.grammar()).is_some(),
@@ -55,7 +56,7 @@ fn has_v(front: &[u8], filtering: &Filtering) -> bool {
     }
 }
 
-/// The first 80 bytes of the front of a line, and dots if there are more.
+/// Returns the first 80 bytes of the beginning of a line, and dots if there are more.
 pub fn shown(front: &[u8]) -> (&[u8], &'static str) {
     match front.get(..SHOWN) {
         Some(shown) if front.len() > SHOWN => (shown, "..."),

@@ -1,4 +1,4 @@
-//! What the filter keeps, and which versions a set contains.
+//! The versions and lines that a filter keeps, and the versions in a set.
 
 use release_filter::{LineOptions, Lines, Selection, filter_text, version_meets};
 use semver_parser::version::Version;
@@ -11,8 +11,7 @@ use tool_ranges::meaning::Meaning;
 use tool_ranges::version_range::VersionRange;
 use version_sets::PreReleases;
 
-/// Writes the versions of a list, separated by blanks, that are kept of it, or the error of the
-/// text.
+/// Writes the versions of a list, separated by blanks, that are kept, or the error of the range.
 pub fn write_kept<W: Write>(
     alloc: Global,
     text: &str,
@@ -27,7 +26,7 @@ pub fn write_kept<W: Write>(
 }
 
 /// Writes the versions of a list, separated by blanks, that a range contains, or the error of the
-/// text. If it contains other ones by their texts, they follow.
+/// range. If it contains other ones when they are given as strings, those follow.
 pub fn write_passed<W: Write>(
     alloc: Global,
     text: &str,
@@ -54,7 +53,7 @@ pub fn write_passed<W: Write>(
     }
 }
 
-/// A mode and a rule as a meaning.
+/// Returns a mode and a rule as a meaning.
 fn meaning_of(compat: Compat, pre_releases: PreReleases) -> Meaning {
     let dialect = match compat {
         Compat::Cargo => Dialect::CrateCargo,
@@ -66,7 +65,7 @@ fn meaning_of(compat: Compat, pre_releases: PreReleases) -> Meaning {
     }
 }
 
-/// Those of the versions that a range contains.
+/// Returns the versions that a range contains.
 fn contained<'v>(
     alloc: Global,
     range: &VersionRange,
@@ -81,7 +80,8 @@ fn contained<'v>(
     Ok(kept)
 }
 
-/// Whether a range contains by their texts just those versions of a list that were kept.
+/// Returns whether a range contains exactly the kept versions of a list when they are given as
+/// strings.
 fn are_contained(
     range: &VersionRange,
     list: &str,
@@ -105,7 +105,7 @@ fn are_contained(
     left.next().is_none()
 }
 
-/// Writes the highest of those, if there is one.
+/// Writes the highest of the versions that a range contains, if there is one.
 pub fn write_greatest<W: Write>(
     alloc: Global,
     text: &str,
@@ -176,7 +176,8 @@ pub fn write_copied<W: Write>(
     write_in_bytes(alloc, &mut chosen, lines, kept.as_slice(), out)
 }
 
-/// The lines that a range means in npm mode by the default rule, after a prefix if there is one.
+/// Returns a filter of lines for a range in npm mode by the default rule, after a prefix if there
+/// is one.
 fn lines_of(
     alloc: Global,
     text: &str,
@@ -197,7 +198,8 @@ fn lines_of(
     Ok(Ok(Lines::new(alloc, range, prefixes, options)))
 }
 
-/// What a text appends in pieces of so many bytes, and how many of its bytes are not taken.
+/// Returns what a text appends in pieces of a given length, and how many of its bytes are not
+/// taken.
 fn appended(
     alloc: Global,
     lines: &mut Lines,
@@ -222,7 +224,7 @@ fn appended(
     }
 }
 
-/// Writes whether a text appends something else in pieces of one byte.
+/// Writes whether a text appends something different in pieces of one byte.
 fn write_in_bytes<W: Write>(
     alloc: Global,
     chosen: &mut Lines,
@@ -237,7 +239,7 @@ fn write_in_bytes<W: Write>(
     write!(out, ", and something else in bytes")
 }
 
-/// The versions of a list, if each item is one.
+/// Returns the versions of a list, or `None` if an item is invalid.
 pub fn versions_of(alloc: Global, list: &str) -> io::Result<Option<Vec<Version>>> {
     let mut versions = Vec::new(alloc);
     for item in list.split(' ') {
@@ -262,8 +264,8 @@ fn write_answer<W: Write>(kept: &Result<Vec<&Version>, RangeError>, out: &mut W)
     }
 }
 
-/// Writes the versions of a list, separated by blanks, that the set of a text contains, with
-/// pre-releases, or the error of the text.
+/// Writes the versions of a list, separated by blanks, that the set of a range contains, including
+/// pre-releases, or the error of the range.
 pub fn write_met<W: Write>(
     alloc: Global,
     text: &str,

@@ -1,10 +1,10 @@
-//! Tokens, written by the names of their variants.
+//! Tokens, written with the names of their variants.
 
 use semver_parser::lexer::{Error, Lexer, Token};
 use std::io;
 use std::io::Write;
 
-/// Writes the items of a lexer, and then what two further calls give.
+/// Writes the items of a lexer, and then the results of two more calls.
 pub fn write_lexed<W: Write>(text: &str, out: &mut W) -> io::Result<()> {
     let mut lexer = Lexer::new(text);
     for item in lexer.by_ref() {
@@ -20,7 +20,7 @@ pub fn write_lexed<W: Write>(text: &str, out: &mut W) -> io::Result<()> {
     write!(out, "end")
 }
 
-/// Writes each token of a text, and which of the two kinds that are asked for it is.
+/// Writes each token of a string, and whether it is white space or a wildcard.
 pub fn write_kinds<W: Write>(text: &str, out: &mut W) -> io::Result<()> {
     let mut first = true;
     for item in Lexer::new(text) {

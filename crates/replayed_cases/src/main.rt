@@ -1,10 +1,10 @@
-//! Replays a table of cases. Each line of standard input has a name, a call and a text, separated
-//! by tabs, and for some calls a fourth field: the steps of a parser, the versions of a filter or a
-//! set, what `concat` adds, or the other text of a pair of sets. Each line of standard output has
-//! the name and what the call returned, or of a call after `sum-of-` the length and the checksum of
-//! that. The wanted lines are in the file `stdout` of this crate: they come from the published
-//! rows, from the Rust crate, of sets from `tools/set-rows.py`, and of a tool's dialect from that
-//! tool (`docs/TESTED.md`).
+//! Replays a table of cases. Each line of standard input has a name, a call and a string, separated
+//! by tabs. Some calls have a fourth field: the steps of a parser, the versions of a filter or a
+//! set, what `concat` adds, or the other string of a pair of sets. Each line of standard output has
+//! the name and what the call returned, or after `sum-of-` the length and the checksum of that. The
+//! wanted lines are in the file `stdout` of this crate. They come from the published rows, from the
+//! Rust crate, for sets from `tools/set-rows.py`, and for a tool's dialect from that tool
+//! (`docs/TESTED.md`).
 #![tactic(auto)]
 
 mod checksum;
@@ -62,7 +62,7 @@ fn main(rt: HostRuntime) -> io::Result<()> {
     output.flush()
 }
 
-/// Writes the name of a case and what its call answered.
+/// Writes the name of a case and what its call returned.
 fn replay<W: Write>(alloc: Global, line: &str, out: &mut W) -> io::Result<()> {
     let Some((name, rest)) = line.split_once('\t') else {
         return write!(out, "no name");
@@ -84,7 +84,7 @@ fn replay<W: Write>(alloc: Global, line: &str, out: &mut W) -> io::Result<()> {
     write!(out, "{sum}")
 }
 
-/// Writes what a call answers for a text.
+/// Writes what a call returns for a string.
 fn answer<W: Write>(
     alloc: Global,
     call: &str,

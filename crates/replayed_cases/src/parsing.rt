@@ -7,7 +7,7 @@ use std::alloc::Global;
 use std::io;
 use std::io::Write;
 
-/// Makes a parser and writes what each of the steps answers.
+/// Creates a parser and writes what each of the steps returns.
 pub fn write_steps<W: Write>(
     alloc: Global,
     text: &str,
@@ -82,7 +82,7 @@ fn write_number<W: Write>(answer: Result<u64, Error<'_>>, out: &mut W) -> io::Re
     }
 }
 
-/// Writes an error by the names of its parts.
+/// Writes an error with the names of its parts.
 pub fn write_error<W: Write>(error: &Error<'_>, out: &mut W) -> io::Result<()> {
     match error {
         Error::UnexpectedToken(token) => {

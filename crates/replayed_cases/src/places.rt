@@ -1,4 +1,4 @@
-//! Texts that give no range: where, and why.
+//! Invalid ranges: the offset and the reason of the error.
 
 use std::alloc::Global;
 use std::io;
@@ -6,7 +6,7 @@ use std::io::Write;
 use tool_ranges::dialect::Dialect;
 use tool_ranges::refusals::refused;
 
-/// Writes where and why the text gives no range, or that it gives one.
+/// Writes the offset and the reason of a range's error, or that it is valid.
 pub fn write_refused<W: Write>(
     alloc: Global,
     text: &str,

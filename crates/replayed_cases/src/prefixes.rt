@@ -1,4 +1,4 @@
-//! Texts that are no versions: where and why.
+//! Invalid versions: the offset and the reason of the error.
 
 use invalid_strings::refusals::explain;
 use semver_parser::version::Grammar;
@@ -6,7 +6,7 @@ use std::alloc::Global;
 use std::io;
 use std::io::Write;
 
-/// Writes where and why the text is no version, or that it is one.
+/// Writes the offset and the reason of a version's error, or that it is valid.
 pub fn write_refused<W: Write>(
     alloc: Global,
     text: &str,

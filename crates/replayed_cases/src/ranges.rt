@@ -1,12 +1,12 @@
-//! Range sets, by their fields and as they print.
+//! Range sets, written by their fields and as they are printed.
 
 use semver_parser::{Compat, Identifier, RangeError, RangeSet};
 use std::alloc::Global;
 use std::io;
 use std::io::Write;
 
-/// Writes the fields of the set that a text is in a mode, or its error. The mode is written where
-/// the set and each range have it.
+/// Writes the fields of the set of a string in a mode, or its error. The mode is written if the set
+/// and each range have it.
 pub fn write_set<W: Write>(
     alloc: Global,
     text: &str,
@@ -42,7 +42,8 @@ pub fn write_set<W: Write>(
     }
 }
 
-/// Writes what the set of a text prints, if both calls read it back to an equal set, or its error.
+/// Writes how the set of a string is printed, if both functions read this as an equal set, or its
+/// error.
 pub fn write_printed<W: Write>(
     alloc: Global,
     text: &str,
@@ -55,7 +56,7 @@ pub fn write_printed<W: Write>(
     }
 }
 
-/// As `write_printed`, of the set with exact bounds.
+/// Writes the same as `write_printed`, for the set with exact bounds.
 pub fn write_exact<W: Write>(
     alloc: Global,
     text: &str,
@@ -86,7 +87,7 @@ fn is_answer(answer: &Result<RangeSet, RangeError>, set: &RangeSet) -> bool {
     }
 }
 
-/// Writes what `from_str` answers, as it prints.
+/// Writes what `from_str` returns, as it is printed.
 pub fn write_from_str<W: Write>(alloc: Global, text: &str, out: &mut W) -> io::Result<()> {
     match RangeSet::from_str(alloc, text) {
         Ok(set) => write!(out, "{set}"),

@@ -1,11 +1,11 @@
-//! The lines of the report, and the status that follows.
+//! The lines of the report, and the status after it.
 
 use semver_parser::report;
 use std::alloc::Global;
 use std::io;
 use std::io::Write;
 
-/// Writes the lines of a text, each followed by `; `, and the status.
+/// Writes the lines for a string, each followed by `; `, and the status.
 pub fn write_report<W: Write>(alloc: Global, text: &str, out: &mut W) -> io::Result<()> {
     let mut bytes = Vec::new(alloc);
     let ran = report::run(alloc, text, &mut bytes);

@@ -1,4 +1,4 @@
-//! Sets of the versions that range texts mean, and how two of them compare.
+//! Sets of the versions that satisfy ranges, and how two of them compare.
 
 use crate::filtering::versions_of;
 use semver_parser::version::{self, Version};
@@ -12,8 +12,8 @@ use version_sets::{PreReleases, SetError, VersionSet};
 /// A rule for pre-releases, and a mode.
 pub type Rule = (PreReleases, Compat);
 
-/// Writes the versions of a list, separated by blanks, that are in the set of a text, then its
-/// lowest version and its lowest release, or the error of the text.
+/// Writes the versions of a list, separated by blanks, that are in the set of a range, then its
+/// lowest version and its lowest release, or the error of the range.
 pub fn write_set<W: Write>(
     alloc: Global,
     rule: Rule,
@@ -43,9 +43,9 @@ pub fn write_set<W: Write>(
     write!(out, ", empty {}", set.is_empty())
 }
 
-/// Writes how the sets of two texts compare, or the error of a text. The second text
-/// may have a semicolon after it and then versions, separated by blanks: of each is written what
-/// it is in.
+/// Writes how the sets of two ranges compare, or the error of a range. After the second range there
+/// may be a semicolon and versions, separated by blanks: for each of them, the sets that contain it
+/// are written.
 pub fn write_pair<W: Write>(
     alloc: Global,
     rule: Rule,
@@ -76,7 +76,7 @@ pub fn write_pair<W: Write>(
     Ok(())
 }
 
-/// Writes the releases and the pre-releases that a text means as ranges, or the error of the text.
+/// Writes the releases and the pre-releases in a range as ranges, or the error of the range.
 pub fn write_whole<W: Write>(alloc: Global, rule: Rule, text: &str, out: &mut W) -> io::Result<()> {
     match set_of(alloc, rule, text) {
         Ok(set) => write_ranges(alloc, &set, out),
@@ -84,8 +84,8 @@ pub fn write_whole<W: Write>(alloc: Global, rule: Rule, text: &str, out: &mut W)
     }
 }
 
-/// Writes what the second of two texts loses, gains and keeps of the first as ranges, or the error
-/// of a text.
+/// Writes what the second of two ranges loses, gains and shares compared with the first, as ranges,
+/// or the error of a range.
 pub fn write_whole_pair<W: Write>(
     alloc: Global,
     rule: Rule,
@@ -112,14 +112,14 @@ pub fn write_whole_pair<W: Write>(
     write_ranges(alloc, &parts.shared, out)
 }
 
-/// Writes the releases and the pre-releases of a set as ranges.
+/// Writes the releases and the pre-releases in a set as ranges.
 fn write_ranges<W: Write>(alloc: Global, set: &VersionSet, out: &mut W) -> io::Result<()> {
     let releases = set.release_ranges(alloc)?;
     let pre_releases = set.pre_release_ranges(alloc)?;
     write!(out, "{releases}, pre-releases {pre_releases}")
 }
 
-/// What two sets have alone and together.
+/// The differences, the intersection and the union of two sets.
 #[derive(Drop)]
 struct Parts {
     lost: VersionSet,
@@ -139,8 +139,8 @@ impl Parts {
     }
 }
 
-/// Writes the lowest versions that the first set has alone, the second has alone, and both have,
-/// and whether the first is within the second, both overlap, and are the same.
+/// Writes the lowest versions that are only in the first set, only in the second, and in both, and
+/// whether the first is a subset of the second, whether they overlap, and whether they are equal.
 fn write_compared<W: Write>(
     alloc: Global,
     first: &VersionSet,
@@ -160,7 +160,7 @@ fn write_compared<W: Write>(
     write!(out, ", within {within}, overlaps {overlaps}, same {same}")
 }
 
-/// Writes what a version is in.
+/// Writes the sets that contain a version.
 fn write_places<W: Write>(
     version: &Version,
     first: &VersionSet,
@@ -192,7 +192,7 @@ fn write_lowest<W: Write>(alloc: Global, set: &VersionSet, out: &mut W) -> io::R
     }
 }
 
-/// The set of a text.
+/// Returns the set of a range.
 fn set_of(alloc: Global, rule: Rule, text: &str) -> Result<VersionSet, RangeError> {
     let (pre_releases, compat) = rule;
     let dialect = match compat {

@@ -1,4 +1,4 @@
-//! Range texts as Cargo or npm itself reads them.
+//! Ranges as Cargo or npm itself reads them.
 
 use crate::filtering::versions_of;
 use semver_parser::{RangeError, version};
@@ -8,7 +8,7 @@ use std::io::Write;
 use tool_ranges::dialect::{self, Dialect};
 use tool_ranges::meaning::{self, Meaning};
 
-/// Writes what a text of a dialect is rewritten to, or the word of its error.
+/// Writes the comparators of a range in a dialect, or the word for its error.
 pub fn write_rewritten<W: Write>(
     alloc: Global,
     tool: Dialect,
@@ -21,8 +21,8 @@ pub fn write_rewritten<W: Write>(
     }
 }
 
-/// Writes those versions of a list, separated by spaces, that a text means by the tool's own rule
-/// for pre-releases or with all of them, or the word of its error.
+/// Writes the versions of a list, separated by spaces, that satisfy a range, by the tool's own rule
+/// for pre-releases or with all of them, or the word for its error.
 pub fn write_meant<W: Write>(
     alloc: Global,
     tool: Meaning,
@@ -50,7 +50,7 @@ pub fn write_meant<W: Write>(
     Ok(())
 }
 
-/// Whether a text that is asked of one version says this of it.
+/// Returns whether checking one version against a range gives `is_meant`.
 fn is_asked_so(tool: Meaning, text: &str, item: &str, is_meant: bool) -> bool {
     match version::outline_in(item.as_bytes(), tool.dialect.grammar()) {
         Some(outline) =>
@@ -59,7 +59,7 @@ fn is_asked_so(tool: Meaning, text: &str, item: &str, is_meant: bool) -> bool {
     }
 }
 
-/// Writes the word of an error.
+/// Writes the word for an error.
 fn write_error<W: Write>(error: &RangeError, out: &mut W) -> io::Result<()> {
     match error {
         RangeError::NotARange => write!(out, "not-a-range"),

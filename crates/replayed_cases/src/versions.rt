@@ -1,4 +1,4 @@
-//! Versions, by their fields and as they print.
+//! Versions, written by their fields and as they are printed.
 
 use super::parsing;
 use semver_parser::parser::{Error, Parser};
@@ -8,7 +8,7 @@ use std::alloc::Global;
 use std::io;
 use std::io::Write;
 
-/// Writes the fields of a version, or the error that is in its place.
+/// Writes the fields of a version, or the error instead.
 pub fn write_version<W: Write>(answer: &Result<Version, Error<'_>>, out: &mut W) -> io::Result<()> {
     match answer {
         Ok(version) => write_fields(version, out),
@@ -16,7 +16,7 @@ pub fn write_version<W: Write>(answer: &Result<Version, Error<'_>>, out: &mut W)
     }
 }
 
-/// Writes the fields of the version that a text spells, or `none` where it spells none.
+/// Writes the fields of the version that a string spells, or `none` if it spells none.
 pub fn write_read<W: Write>(alloc: Global, text: &str, out: &mut W) -> io::Result<()> {
     match version::read(alloc, text) {
         Ok(Some(version)) => write_fields(&version, out),
@@ -25,7 +25,7 @@ pub fn write_read<W: Write>(alloc: Global, text: &str, out: &mut W) -> io::Resul
     }
 }
 
-/// Writes the fields of the version that a text spells in a dialect, or `none` if it spells none.
+/// Writes the fields of the version that a string spells in a dialect, or `none` if it spells none.
 pub fn write_read_in<W: Write>(
     alloc: Global,
     text: &str,
@@ -41,7 +41,7 @@ pub fn write_read_in<W: Write>(
     }
 }
 
-/// Writes the outline of the version that a text spells, or `none` where it spells none.
+/// Writes the borrowed version that a string spells, or `none` if it spells none.
 pub fn write_outline<W: Write>(text: &str, out: &mut W) -> io::Result<()> {
     let Some(outline) = version::outline(text) else {
         return write!(out, "none");
@@ -60,7 +60,7 @@ fn write_fields<W: Write>(version: &Version, out: &mut W) -> io::Result<()> {
     write!(out, "]")
 }
 
-/// Writes what the version prints, or its error.
+/// Writes the printed version, or its error.
 pub fn write_printed<W: Write>(alloc: Global, text: &str, out: &mut W) -> io::Result<()> {
     match version::parse(alloc, text) {
         Ok(version) => write!(out, "{version}"),
@@ -68,7 +68,7 @@ pub fn write_printed<W: Write>(alloc: Global, text: &str, out: &mut W) -> io::Re
     }
 }
 
-/// Writes the text of the error that reading a version answers.
+/// Writes the text of the error that reading a version returns.
 pub fn write_error_text<W: Write>(alloc: Global, text: &str, out: &mut W) -> io::Result<()> {
     match version::parse(alloc, text) {
         Ok(_) => write!(out, "no error"),
@@ -79,7 +79,7 @@ pub fn write_error_text<W: Write>(alloc: Global, text: &str, out: &mut W) -> io:
     }
 }
 
-/// Writes the identifier that a text is and another text are joined to.
+/// Writes an identifier of one string followed by another string.
 pub fn write_joined<W: Write>(
     alloc: Global,
     text: &str,
@@ -106,7 +106,7 @@ fn write_identifiers<W: Write>(identifiers: &[Identifier], out: &mut W) -> io::R
     Ok(())
 }
 
-/// Writes an identifier by its variant.
+/// Writes an identifier with its variant.
 pub fn write_identifier<W: Write>(identifier: &Identifier, out: &mut W) -> io::Result<()> {
     match identifier {
         Identifier::Numeric(number) => write!(out, "Numeric({number})"),

@@ -6,7 +6,7 @@ use std::{fmt, io};
 
 const ROOM: usize = 512;
 
-/// Holds up to 512 bytes, and takes none past them.
+/// A buffer for up to 512 bytes, which takes no more.
 #[derive(Drop)]
 pub struct Fixed {
     bytes: [u8; ROOM],
@@ -15,7 +15,7 @@ pub struct Fixed {
 }
 
 impl Fixed {
-    /// A writer that holds nothing.
+    /// Returns an empty writer.
     pub fn new() -> Fixed {
         Fixed {
             bytes: [0; ROOM],
@@ -23,7 +23,7 @@ impl Fixed {
         }
     }
 
-    /// What was written.
+    /// Returns the bytes that were written.
     pub fn as_bytes(&self) -> &[u8] {
         &self.bytes[..self.len]
     }

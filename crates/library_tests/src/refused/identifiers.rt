@@ -5,7 +5,7 @@ use semver_parser::parser::Error;
 use semver_parser::version::Identifier;
 use std::alloc::Global;
 
-/// `Numeric(5)` and `x`: refused, the number is given back.
+/// Appends `x` to `Numeric(5)`. If it is out of memory, it returns the number.
 pub fn concat_of_a_number(alloc: Global) -> Ending {
     match Identifier::Numeric(5).concat(alloc, "x") {
         Ok(Identifier::AlphaNumeric(text)) => Ending::full_if(text.as_str() == "5x"),
@@ -14,7 +14,7 @@ pub fn concat_of_a_number(alloc: Global) -> Ending {
     }
 }
 
-/// `AlphaNumeric("a")` and `-b`: refused, the text is given back.
+/// Appends `-b` to `AlphaNumeric("a")`. If it is out of memory, it returns the string.
 pub fn concat_of_a_text(alloc: Global) -> Ending {
     let Ok(text) = "a".to_string(alloc) else {
         return Ending::Refused;
@@ -26,7 +26,7 @@ pub fn concat_of_a_text(alloc: Global) -> Ending {
     }
 }
 
-/// The text of an error.
+/// Makes the text of an error.
 pub fn error_text(alloc: Global) -> Ending {
     match Error::UnexpectedEnd.text(alloc) {
         Ok(text) => Ending::full_if(text.as_str() == "expected more input"),

@@ -1,4 +1,4 @@
-//! Calls of a parser.
+//! Methods of a parser.
 
 use super::Ending;
 use super::versions::prints_as;
@@ -8,8 +8,8 @@ use semver_parser::parser::{Error, Parser};
 use semver_parser::version::Identifier;
 use std::alloc::Global;
 
-/// `identifier` on `a-b-1.2/`: refused, it leaves an end part of the tokens, and the bad character
-/// after them.
+/// `identifier` on `a-b-1.2/`. If it is out of memory, it leaves a final part of the tokens, and
+/// the bad character after them.
 pub fn identifier(alloc: Global) -> Ending {
     let Ok(mut parser) = Parser::new("a-b-1.2/") else {
         return Ending::Wrong;
@@ -23,8 +23,8 @@ pub fn identifier(alloc: Global) -> Ending {
     }
 }
 
-/// `version` on `1.2.3-a-b.c+d 4/`: refused, it leaves an end part of the tokens, and the bad
-/// character after them.
+/// `version` on `1.2.3-a-b.c+d 4/`. If it is out of memory, it leaves a final part of the tokens,
+/// and the bad character after them.
 pub fn version(alloc: Global) -> Ending {
     let Ok(mut parser) = Parser::new("1.2.3-a-b.c+d 4/") else {
         return Ending::Wrong;
@@ -38,7 +38,7 @@ pub fn version(alloc: Global) -> Ending {
     }
 }
 
-/// At most so many tokens are taken before the bad character is read.
+/// Returns whether at most this number of tokens are taken before the bad character is read.
 fn leads_to_a_slash(parser: &mut Parser<'_>, tokens: u32) -> bool {
     for _ in 0..tokens {
         if matches!(
@@ -51,7 +51,8 @@ fn leads_to_a_slash(parser: &mut Parser<'_>, tokens: u32) -> bool {
     false
 }
 
-/// `tail` on `1.2.3 a.b.c`: refused, it changes nothing, so the next call gives all eleven tokens.
+/// `tail` on `1.2.3 a.b.c`. If it is out of memory, it changes nothing, so the next call returns
+/// all eleven tokens.
 pub fn tail(alloc: Global) -> Ending {
     let Ok(mut parser) = Parser::new("1.2.3 a.b.c") else {
         return Ending::Wrong;
@@ -84,7 +85,7 @@ fn are_all_eleven(tokens: &[Token<'_>]) -> bool {
         .as_slice()
 }
 
-/// `tail` on `1 /` makes no request: the bad character is its answer.
+/// `tail` on `1 /` makes no request, since it returns the error for the bad character.
 pub fn tail_before_a_bad_character(alloc: Global) -> Ending {
     let Ok(mut parser) = Parser::new("1 /") else {
         return Ending::Wrong;
@@ -100,7 +101,7 @@ pub fn tail_before_a_bad_character(alloc: Global) -> Ending {
     Ending::full_if(first && second && parser.is_eof())
 }
 
-/// `tail` on the empty text makes no request.
+/// `tail` on the empty string makes no request.
 pub fn tail_of_nothing(alloc: Global) -> Ending {
     let Ok(mut parser) = Parser::new("") else {
         return Ending::Wrong;

@@ -1,4 +1,4 @@
-//! Calls that read a range set, and its clone.
+//! Functions that read a range set, and its clone.
 
 use super::Ending;
 use super::fixed::Fixed;
@@ -13,17 +13,17 @@ const TEXT: &str = "^1.2.3-beta.4 || 2.x";
 
 const PRINTED: &str = ">=1.2.3-beta.4 <2.0.0 || >=2.0.0 <3.0.0";
 
-/// The set of two ranges, in a mode.
+/// Reads two ranges in a mode.
 pub fn parse(alloc: Global, compat: Compat) -> Ending {
     parse_text(alloc, TEXT, PRINTED, compat)
 }
 
-/// The set of a text, in a mode, which prints as another.
+/// Reads a string in a mode, whose set is printed as another string.
 pub fn parse_text(alloc: Global, text: &str, printed: &str, compat: Compat) -> Ending {
     ending(RangeSet::parse(alloc, text, compat), printed, compat)
 }
 
-/// As `parse_text`, with exact bounds.
+/// Reads a string like `parse_text`, with exact bounds.
 pub fn parse_exact_text(alloc: Global, text: &str, printed: &str, compat: Compat) -> Ending {
     ending(RangeSet::parse_exact(alloc, text, compat), printed, compat)
 }
@@ -36,7 +36,7 @@ fn ending(read: Result<RangeSet, RangeError>, printed: &str, compat: Compat) -> 
     }
 }
 
-/// The set of a requirement, as Cargo itself reads it.
+/// Reads a requirement in Cargo's dialect.
 pub fn requirement(alloc: Global) -> Ending {
     ending(
         cargo::rewrite(alloc, "1.2, >1, <3.0.0-rc"),
@@ -45,7 +45,7 @@ pub fn requirement(alloc: Global) -> Ending {
     )
 }
 
-/// Requirements that are refused for their grammar or their numbers are refused without a request.
+/// Requirements that are invalid by their grammar or their numbers give an error without a request.
 pub fn refused_requirements(alloc: Global) -> Ending {
     let no_comma = cargo::rewrite(alloc, "1 2");
     let tab = cargo::rewrite(alloc, "1,\t2");
@@ -59,7 +59,7 @@ pub fn refused_requirements(alloc: Global) -> Ending {
     )
 }
 
-/// The set of a range text, as npm itself reads it.
+/// Reads a range in npm's dialect.
 pub fn npm_range(alloc: Global) -> Ending {
     ending(
         npm::rewrite(alloc, ">1.2 <3 || v1.2.3-b"),
@@ -68,7 +68,7 @@ pub fn npm_range(alloc: Global) -> Ending {
     )
 }
 
-/// Range texts of npm that are refused for their grammar or their numbers are refused without a
+/// Ranges of npm that are invalid by their grammar or their numbers give an error without a
 /// request.
 pub fn refused_npm_ranges(alloc: Global) -> Ending {
     let comma = npm::rewrite(alloc, "1, 2");
@@ -83,7 +83,7 @@ pub fn refused_npm_ranges(alloc: Global) -> Ending {
     )
 }
 
-/// The same in Cargo mode.
+/// Reads a range set by `from_str`, in Cargo mode.
 pub fn from_str(alloc: Global) -> Ending {
     match RangeSet::from_str(alloc, TEXT) {
         Ok(set) => Ending::full_if(prints_as(&set, PRINTED)),
@@ -92,7 +92,7 @@ pub fn from_str(alloc: Global) -> Ending {
     }
 }
 
-/// The sizes of eight ranges are remembered, and that of a ninth is counted ahead.
+/// Reads nine ranges: the sizes of eight are remembered, and capacity for the ninth is guessed.
 pub fn ninth_range(alloc: Global) -> Ending {
     parse_text(
         alloc,
@@ -103,7 +103,7 @@ pub fn ninth_range(alloc: Global) -> Ending {
     )
 }
 
-/// Texts that are refused for their grammar or their numbers are refused without a request.
+/// Strings that are invalid by their grammar or their numbers give an error without a request.
 pub fn refused_texts(alloc: Global) -> Ending {
     for compat in [Compat::Cargo, Compat::Npm] {
         let half_a_bar = RangeSet::parse(alloc, "|", compat);
@@ -121,7 +121,7 @@ pub fn refused_texts(alloc: Global) -> Ending {
     Ending::Full
 }
 
-/// Where a text stops being a range. What gives one is refused nothing, without a request.
+/// Finds the offset of an invalid range. A valid range makes no request.
 pub fn range_error(alloc: Global) -> Ending {
     if !matches!(refused(alloc, Dialect::Npm, "1.2 || 3"), Ok(None)) {
         return Ending::Wrong;
@@ -133,10 +133,10 @@ pub fn range_error(alloc: Global) -> Ending {
     }
 }
 
-/// 9,999 times two bars, and one more: 10,000 ranges and half of what parts them from the next.
+/// 9,999 times two bars, and one more bar: 10,000 ranges and half of a separator.
 const BARS: [u8; 19_999] = [b'|'; 19_999];
 
-/// A long text that is refused at its end is refused without a request.
+/// A long string with an error at its end gives the error without a request.
 pub fn refused_at_the_end(alloc: Global) -> Ending {
     let Ok(text) = str::from_utf8(&BARS) else {
         return Ending::Wrong;
@@ -152,7 +152,7 @@ pub fn refused_at_the_end(alloc: Global) -> Ending {
     Ending::Full
 }
 
-/// A clone equals its source, or finds no memory and leaves the source as it was.
+/// A clone equals its source, or is out of memory and leaves the source as it was.
 pub fn clone(alloc: Global) -> Ending {
     let Ok(set) = RangeSet::parse(alloc, TEXT, Compat::Npm) else {
         return Ending::Refused;
@@ -167,7 +167,7 @@ pub fn clone(alloc: Global) -> Ending {
     }
 }
 
-/// The set prints as the text.
+/// Returns whether the set is printed as the string.
 fn prints_as(set: &RangeSet, text: &str) -> bool {
     let mut out = Fixed::new();
     write!(out, "{set}").is_ok() && out.as_bytes() == text.as_bytes()

@@ -5,7 +5,8 @@ use super::fixed::Fixed;
 use semver_parser::report;
 use std::alloc::Global;
 
-/// A line whose value can't be read or printed, out of memory, says so, and the report goes on.
+/// Makes a report. A line whose value can't be read or printed says that it is out of memory, and
+/// the report goes on.
 pub fn report(alloc: Global) -> Ending {
     let mut out = Fixed::new();
     let ran = report::run(alloc, "1.2.3", &mut out);
@@ -26,7 +27,7 @@ pub fn report(alloc: Global) -> Ending {
     }
 }
 
-/// Where each line has an error without memory, none is asked for.
+/// If each line has an error that doesn't allocate, no request is made.
 pub fn report_of_errors(alloc: Global) -> Ending {
     let mut out = Fixed::new();
     let ran = report::run(alloc, "/", &mut out);

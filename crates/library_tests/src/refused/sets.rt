@@ -8,7 +8,7 @@ use tool_ranges::dialect::Dialect;
 use tool_ranges::meaning::{self, Meaning};
 use version_sets::{PreReleases, SetRanges, VersionSet};
 
-/// What a range means in a dialect, with the pre-releases that count by default.
+/// Returns the meaning of a dialect with the pre-releases that count by default.
 fn by_default(dialect: Dialect) -> Meaning {
     Meaning {
         dialect,
@@ -16,7 +16,7 @@ fn by_default(dialect: Dialect) -> Meaning {
     }
 }
 
-/// What it means with each pre-release within its bounds.
+/// Returns the meaning of a dialect with each pre-release within the bounds.
 fn within(dialect: Dialect) -> Meaning {
     Meaning {
         dialect,
@@ -24,15 +24,15 @@ fn within(dialect: Dialect) -> Meaning {
     }
 }
 
-/// The sets of `>=1.2.0-b.c` as stated and of `<2.0.0` with all pre-releases, which the calls below
-/// are given.
+/// Returns the sets for the calls below: that of `>=1.2.0-b.c` by default, and that of `<2.0.0`
+/// with all pre-releases.
 pub fn of_texts(alloc: Global) -> Result<(VersionSet, VersionSet), Ending> {
     let first = set_of(alloc, ">=1.2.0-b.c", by_default(Dialect::CrateNpm))?;
     let second = set_of(alloc, "<2.0.0", within(Dialect::CrateNpm))?;
     Ok((first, second))
 }
 
-/// The set of a text.
+/// Returns the set of a string.
 fn set_of(alloc: Global, text: &str, meaning: Meaning) -> Result<VersionSet, Ending> {
     match meaning::read(alloc, meaning, text) {
         Ok(set) => Ok(set),
@@ -41,7 +41,7 @@ fn set_of(alloc: Global, text: &str, meaning: Meaning) -> Result<VersionSet, End
     }
 }
 
-/// Texts that are refused are refused without a request.
+/// Invalid strings give an error without a request.
 pub fn of_refused_texts(alloc: Global) -> Ending {
     let not_a_range = meaning::read(alloc, within(Dialect::CrateNpm), "|");
     let too_large = meaning::read(alloc, within(Dialect::CrateCargo), "<=18446744073709551615");
@@ -51,7 +51,8 @@ pub fn of_refused_texts(alloc: Global) -> Ending {
     )
 }
 
-/// The versions that a requirement means to Cargo: 1.2.0-c is stated, and 1.3.0-c isn't.
+/// Reads a requirement in Cargo's dialect into its set. Its term names 1.2.0, so the set contains
+/// 1.2.0-c, and not 1.3.0-c.
 pub fn of_requirement(alloc: Global) -> Ending {
     match meaning::read(alloc, by_default(Dialect::Cargo), "^1.2, >=1.2.0-b") {
         Ok(set) => Ending::full_if(
@@ -62,7 +63,7 @@ pub fn of_requirement(alloc: Global) -> Ending {
     }
 }
 
-/// Requirements that are refused are refused without a request.
+/// Invalid requirements give an error without a request.
 pub fn of_refused_requirements(alloc: Global) -> Ending {
     let not_a_range = meaning::read(alloc, by_default(Dialect::Cargo), "1.2.3-a, >=1 <2");
     let too_large = meaning::read(
@@ -76,8 +77,8 @@ pub fn of_refused_requirements(alloc: Global) -> Ending {
     )
 }
 
-/// The versions that two range texts mean to npm. The first contains 1.2.0-c, and not 1.3.0-c. The
-/// second contains every release.
+/// Reads two ranges in npm's dialect into their sets. The first contains 1.2.0-c, and not 1.3.0-c.
+/// The second contains every release.
 pub fn of_npm_ranges(alloc: Global) -> Ending {
     let asked = match meaning::read(alloc, by_default(Dialect::Npm), ">=0 >=1.2.0-b <1.5 || 3.x") {
         Ok(set) => set,
@@ -94,7 +95,7 @@ pub fn of_npm_ranges(alloc: Global) -> Ending {
     }
 }
 
-/// Range texts of npm that are refused are refused without a request.
+/// Invalid ranges of npm give an error without a request.
 pub fn of_refused_npm_ranges(alloc: Global) -> Ending {
     let not_a_range = meaning::read(alloc, by_default(Dialect::Npm), "1.2.3-a || >=1, <2");
     let too_large = meaning::read(
@@ -108,8 +109,8 @@ pub fn of_refused_npm_ranges(alloc: Global) -> Ending {
     )
 }
 
-/// The versions within the bounds of a requirement and of a range text of npm: both begin with a
-/// pre-release.
+/// Reads a requirement and a range of npm into their sets with each pre-release within the bounds.
+/// Both begin with a pre-release.
 pub fn within_bounds(alloc: Global) -> Ending {
     let requirement = match meaning::read(alloc, within(Dialect::Cargo), "^1.2, <1.5.0-b") {
         Ok(set) => set,
@@ -126,7 +127,7 @@ pub fn within_bounds(alloc: Global) -> Ending {
     }
 }
 
-/// Those that are refused are refused without a request.
+/// Invalid ones give an error without a request.
 pub fn of_refused_bounds(alloc: Global) -> Ending {
     let not_a_range = meaning::read(alloc, within(Dialect::Cargo), "1.2.3-a, >=1 <2");
     let no_npm_range = meaning::read(alloc, within(Dialect::Npm), "1.2 || >=1, <2");
@@ -144,7 +145,7 @@ pub fn of_refused_bounds(alloc: Global) -> Ending {
     )
 }
 
-/// The union has both sets, and 0.0.0 of the second is its lowest release.
+/// The union contains both sets, and its lowest release is 0.0.0, which is in the second.
 pub fn union(alloc: Global, first: &VersionSet, second: &VersionSet) -> Ending {
     match first.union(alloc, second) {
         Ok(set) => Ending::full_if(
@@ -154,7 +155,7 @@ pub fn union(alloc: Global, first: &VersionSet, second: &VersionSet) -> Ending {
     }
 }
 
-/// The intersection is within both sets, and 1.2.0 is its lowest release.
+/// The intersection is a subset of both sets, and its lowest release is 1.2.0.
 pub fn intersection(alloc: Global, first: &VersionSet, second: &VersionSet) -> Ending {
     match first.intersection(alloc, second) {
         Ok(set) => Ending::full_if(
@@ -164,7 +165,8 @@ pub fn intersection(alloc: Global, first: &VersionSet, second: &VersionSet) -> E
     }
 }
 
-/// What the second set has alone is within it and apart from the first, and begins with 0.0.0.
+/// The difference of the second set and the first is a subset of the second, disjoint from the
+/// first, and begins with 0.0.0.
 pub fn difference(alloc: Global, first: &VersionSet, second: &VersionSet) -> Ending {
     match second.difference(alloc, first) {
         Ok(set) => Ending::full_if(
@@ -183,7 +185,7 @@ pub fn lowest(alloc: Global, first: &VersionSet) -> Ending {
     }
 }
 
-/// From the first set to the second 2.0.0 is lost, 0.0.0-0 is gained, and 1.2.0-b.c is shared.
+/// From the first set to the second, 2.0.0 is lost, 0.0.0-0 is gained, and 1.2.0-b.c is shared.
 pub fn compared(alloc: Global, first: &VersionSet, second: &VersionSet) -> Ending {
     let Ok(answer) = first.compare(alloc, second) else {
         return Ending::Refused;
@@ -198,7 +200,7 @@ pub fn compared(alloc: Global, first: &VersionSet, second: &VersionSet) -> Endin
     Ending::full_if(is_lost && is_gained && is_shared)
 }
 
-/// The releases of the first set are `>=1.2.0`.
+/// The releases in the first set are `>=1.2.0`.
 pub fn release_ranges(alloc: Global, first: &VersionSet) -> Ending {
     match first.release_ranges(alloc) {
         Ok(ranges) => Ending::full_if(has_bounds(&ranges, 1)),
@@ -206,7 +208,7 @@ pub fn release_ranges(alloc: Global, first: &VersionSet) -> Ending {
     }
 }
 
-/// The pre-releases of the first set are `>=1.2.0-b.c <1.2.0`.
+/// The pre-releases in the first set are `>=1.2.0-b.c <1.2.0`.
 pub fn pre_release_ranges(alloc: Global, first: &VersionSet) -> Ending {
     match first.pre_release_ranges(alloc) {
         Ok(ranges) => Ending::full_if(has_bounds(&ranges, 2)),
@@ -214,8 +216,8 @@ pub fn pre_release_ranges(alloc: Global, first: &VersionSet) -> Ending {
     }
 }
 
-/// What is asked of sets without a request: also the lowest version where there is none, a
-/// combination that has no version, a comparison of sets that have none, and their ranges.
+/// Calls for sets that make no request. They include the lowest version if there is none, a
+/// combination without versions, a comparison of empty sets, and the ranges of these.
 pub fn without_requests(alloc: Global, first: &VersionSet, second: &VersionSet) -> Ending {
     let empty = VersionSet::empty(alloc, Digits::Kept);
     let is_told = empty.is_empty()
@@ -242,7 +244,7 @@ pub fn without_requests(alloc: Global, first: &VersionSet, second: &VersionSet) 
     )
 }
 
-/// Whether there is one range, with so many comparators.
+/// Returns whether there is one range with this number of comparators.
 fn has_bounds(ranges: &SetRanges, count: usize) -> bool {
     match ranges.range_set.ranges.as_slice() {
         [range] => range.comparator_set.len() == count,
@@ -250,7 +252,7 @@ fn has_bounds(ranges: &SetRanges, count: usize) -> bool {
     }
 }
 
-/// Whether the call returned, with no range.
+/// Returns whether the call returned no range.
 fn has_no_range(ranges: Result<SetRanges, AllocError>) -> bool {
     match ranges {
         Ok(ranges) => ranges.range_set.ranges.is_empty(),
@@ -258,7 +260,7 @@ fn has_no_range(ranges: Result<SetRanges, AllocError>) -> bool {
     }
 }
 
-/// Whether a version without identifiers, which is read without a request, is in a set.
+/// Returns whether a version without identifiers, which is read without a request, is in a set.
 fn contains(alloc: Global, set: &VersionSet, text: &str) -> bool {
     match version::read(alloc, text) {
         Ok(Some(version)) => set.contains(&version),
@@ -266,17 +268,17 @@ fn contains(alloc: Global, set: &VersionSet, text: &str) -> bool {
     }
 }
 
-/// Whether a version, which is looked at without a request, is in a set.
+/// Returns whether a version, which is read without a request, is in a set.
 fn has_stated(set: &VersionSet, text: &str) -> bool {
     version::outline(text).is_some_and(|outline| set.contains_outline(&outline))
 }
 
-/// Whether each version of a set is in another.
+/// Returns whether a set is a subset of another.
 fn is_within(set: &VersionSet, other: &VersionSet) -> bool {
     set.is_subset(other) == Ok(true)
 }
 
-/// Whether the lowest release of a set has this major number.
+/// Returns whether the lowest release of a set has this major number.
 fn begins_at(set: &VersionSet, major: u64) -> bool {
     set.lowest_release()
         .is_some_and(|release| release.major == major)

@@ -1,4 +1,4 @@
-//! Ranges that are read and combined.
+//! Functions that read and combine ranges.
 
 use super::Ending;
 use semver_parser::RangeError;
@@ -15,7 +15,7 @@ const CARGO: Meaning = Meaning {
     pre_releases: PreReleases::Included,
 };
 
-/// A range that contains 1.9.0-rc and not 2.0.0.
+/// Reads a range that contains 1.9.0-rc and not 2.0.0.
 pub fn parse(alloc: Global) -> Ending {
     match VersionRange::parse(alloc, "^1.2", CARGO) {
         Ok(range) => Ending::full_if(
@@ -27,7 +27,7 @@ pub fn parse(alloc: Global) -> Ending {
     }
 }
 
-/// What two ranges contain together, or the first alone. Reading them is part of the call.
+/// Combines two ranges. Reading them is part of the call.
 pub fn combined(alloc: Global) -> Ending {
     let range = match VersionRange::parse(alloc, "^1.2", CARGO) {
         Ok(range) => range,
@@ -51,7 +51,7 @@ pub fn combined(alloc: Global) -> Ending {
     Ending::Full
 }
 
-/// How a combination ends that is to contain 1.2.0, 1.5.0 and 2.0.0 so.
+/// Returns how a combination ends whose range has to contain, or not, 1.2.0, 1.5.0 and 2.0.0.
 fn ends(combined: Result<VersionRange, OperationError>, wanted: [bool; 3]) -> Ending {
     let range = match combined {
         Ok(range) => range,

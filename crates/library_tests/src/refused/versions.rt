@@ -1,4 +1,4 @@
-//! Calls that read a version, and its clone.
+//! Functions that read a version, and its clone.
 
 use super::Ending;
 use super::fixed::Fixed;
@@ -10,7 +10,7 @@ use semver_parser::{lexer, version};
 use std::alloc::Global;
 use std::fmt::Write as _;
 
-/// Texts whose longest front holds no identifier are answered without a request.
+/// Strings whose longest prefix of a version has no identifier give their result without a request.
 pub fn without_identifiers(alloc: Global) -> Ending {
     let release = match version::parse(alloc, "1.2.3") {
         Ok(version) => prints_as(&version, "1.2.3"),
@@ -27,17 +27,17 @@ fn is_slash(alloc: Global, text: &str) -> bool {
     )
 }
 
-/// A version with identifiers of both kinds of place.
+/// Reads a version with identifiers in its pre-release and in its build metadata.
 pub fn with_identifiers(alloc: Global) -> Ending {
     read_as(alloc, "1.2.3-a-b.c+d")
 }
 
-/// A version whose identifiers are numbers: they need their places in the two lists alone.
+/// Reads a version whose identifiers are numbers, which need only the two lists.
 pub fn with_numbers(alloc: Global) -> Ending {
     read_as(alloc, "1.2.3-1.2.3+4")
 }
 
-/// The text is read as a version that prints as the text.
+/// Reads a string as a version that is printed as the string.
 fn read_as(alloc: Global, text: &str) -> Ending {
     match version::parse(alloc, text) {
         Ok(version) => Ending::full_if(prints_as(&version, text)),
@@ -46,8 +46,8 @@ fn read_as(alloc: Global, text: &str) -> Ending {
     }
 }
 
-/// A text that spells no version is answered without a request, also where it begins with one, and
-/// so is a version without identifiers.
+/// A string that spells no version, even if it begins with one, gives its result without a request;
+/// so does a version without identifiers.
 pub fn read_without_identifiers(alloc: Global) -> Ending {
     let release = match version::read(alloc, " 1.2.3\n") {
         Ok(Some(version)) => prints_as(&version, "1.2.3"),
@@ -67,7 +67,7 @@ pub fn read_without_identifiers(alloc: Global) -> Ending {
     Ending::full_if(release && refused)
 }
 
-/// A version with identifiers, between white space: as many requests as `parse` makes.
+/// Reads a version with identifiers, between white space. It makes as many requests as `parse`.
 pub fn read_with_identifiers(alloc: Global) -> Ending {
     match version::read(alloc, " 1.2.3-a-b.c+d\n") {
         Ok(Some(version)) => Ending::full_if(prints_as(&version, "1.2.3-a-b.c+d")),
@@ -76,7 +76,7 @@ pub fn read_with_identifiers(alloc: Global) -> Ending {
     }
 }
 
-/// The tokens after a version are asked for at once.
+/// The tokens after a version are allocated at once.
 pub fn more_input(alloc: Global) -> Ending {
     match version::parse(alloc, "1.2.3 a.b.c") {
         Err(Error::MoreInput(rest)) => Ending::full_if(rest.len() == 5),
@@ -85,7 +85,7 @@ pub fn more_input(alloc: Global) -> Ending {
     }
 }
 
-/// A clone equals its source, or finds no memory and leaves the source as it was.
+/// A clone equals its source, or is out of memory and leaves the source as it was.
 pub fn clone(alloc: Global) -> Ending {
     let text = "1.2.3-1.alpha1.9+build5.7.3aedf";
     let Ok(version) = version::parse(alloc, text) else {
@@ -101,7 +101,7 @@ pub fn clone(alloc: Global) -> Ending {
     }
 }
 
-/// Where and why a text is an invalid version. A valid one is explained without a request.
+/// Finds the offset and the reason of an invalid version. A valid one makes no request.
 pub fn version_error(alloc: Global) -> Ending {
     if !matches!(explain(alloc, b"1.2.3", Grammar::Cargo), Ok(None)) {
         return Ending::Wrong;
@@ -115,7 +115,7 @@ pub fn version_error(alloc: Global) -> Ending {
     }
 }
 
-/// The version prints as the text.
+/// Returns whether the version is printed as the string.
 pub fn prints_as(version: &Version, text: &str) -> bool {
     let mut out = Fixed::new();
     write!(out, "{version}").is_ok() && out.as_bytes() == text.as_bytes()

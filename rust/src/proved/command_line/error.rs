@@ -1,37 +1,37 @@
 // Made by tools/erase.py from crates/command_line/src/error.rt; not edited by hand.
-//! What is wrong with arguments.
+//! Errors in the arguments of a program.
 
 use crate::rattle_std::prelude::*;
 use crate::rattle_std::AllocError;
 
-/// What is wrong with the arguments of a program. Each text names options as they are written.
+/// An error in the arguments of a program. Options are printed as they are written.
 #[derive(Debug)]
 pub enum ArgumentError {
-    /// They can't be read, or memory ran out.
+    /// The arguments can't be read, or memory ran out.
     Unreadable,
     /// This option is unknown.
     UnknownOption(String),
     /// Nothing follows `--dialect`, or `--as`.
     NoDialect,
-    /// What follows `--dialect` names no dialect.
+    /// The string after `--dialect` isn't the name of a dialect.
     UnknownDialect(String),
     /// Nothing follows `--prefix`.
     NoPrefix,
-    /// Before this option it, or another of the same meaning, was given.
+    /// This option, or another one with the same meaning, was given before.
     GivenTwice(&'static str),
-    /// The first option says otherwise than the second, which was given before.
+    /// The first option contradicts the second, which was given before.
     Contradiction(&'static str, &'static str),
-    /// Nothing, or something unknown, follows `--only`.
+    /// Nothing follows `--only`, or an unknown word.
     NoKind,
-    /// Nothing, or something unknown, follows `--fail-on`.
+    /// Nothing follows `--fail-on`, or an unknown word.
     NoChange,
     /// `--fail-on` is given with one range.
     NoComparison,
     /// `--reverse` is given without `--sort`.
     NoOrder,
-    /// There is no range text.
+    /// There is no range.
     NoRange,
-    /// There are more than two range texts.
+    /// There are more than two ranges.
     MoreThanTwoRanges,
 }
 

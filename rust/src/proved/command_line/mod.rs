@@ -1,7 +1,6 @@
 // Made by tools/erase.py from crates/command_line/src/lib.rt; not edited by hand.
-//! What the programs `release-filter` and `compare-ranges` share: the options that choose the
-//! dialect and which pre-releases count, what a program writes of itself and of errors, and how it
-//! writes.
+//! Shared by the programs `release-filter` and `compare-ranges`: the options for the dialect and
+//! for pre-releases, the messages of a program about itself and about errors, and how it writes.
 #![cfg(feature = "std")]
 
 use crate::rattle_std::prelude::*;

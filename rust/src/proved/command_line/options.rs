@@ -1,5 +1,5 @@
 // Made by tools/erase.py from crates/command_line/src/options.rt; not edited by hand.
-//! The options of the dialect, `--dialect`, `--as` and `--npm`, and of pre-releases,
+//! The options for the dialect, `--dialect`, `--as` and `--npm`, and for pre-releases,
 //! `--include-prerelease`, `--releases-only` and their short forms.
 
 use crate::rattle_std::prelude::*;
@@ -8,18 +8,18 @@ use crate::proved::tool_ranges::dialect::Dialect;
 use crate::proved::tool_ranges::meaning::Meaning;
 use crate::proved::version_sets::PreReleases;
 
-/// What the options say that were taken so far: the dialect, and which pre-releases count.
+/// The state of the options that were taken so far: the dialect, and which pre-releases count.
 pub struct MeaningOptions {
-    /// The dialect that was asked for, and the option that did so.
+    /// The dialect that was requested, and the option that requested it.
     dialect: Option<(Dialect, &'static str)>,
-    /// The rule for pre-releases that was asked for.
+    /// The rule for pre-releases that was requested.
     rule: Option<PreReleases>,
     /// Whether the next argument names the dialect.
     wants_name: bool,
 }
 
 impl MeaningOptions {
-    /// What holds without an option.
+    /// Returns the state without any option.
     pub fn new() -> MeaningOptions {
         MeaningOptions {
             dialect: None,
@@ -28,15 +28,15 @@ impl MeaningOptions {
         }
     }
 
-    /// Takes an argument, and returns whether it is one of these options, or the name that follows
-    /// `--dialect` or `--as`. Others are left to the program.
+    /// Takes an argument. Returns whether it is one of these options, or the name after `--dialect`
+    /// or `--as`. Other arguments are left to the program.
     ///
     /// # Errors
     ///
-    /// `UnknownDialect` of a name that no dialect has, and `Unreadable` in its place only.
-    /// `Contradiction` if an earlier option says otherwise, and `GivenTwice` if it says the same of
-    /// pre-releases; they name the long forms. After an error the options are those before it, and
-    /// no name is wanted.
+    /// `UnknownDialect` for a name that no dialect has; only this error can be replaced by
+    /// `Unreadable`. `Contradiction` if an earlier option has another value, and `GivenTwice` if it
+    /// has the same value and is about pre-releases; both name the long forms. After an error the
+    /// options are those before it, and no name is expected.
     pub fn take(&mut self, argument: &str) -> Result<bool, ArgumentError> {
         if self.wants_name {
             self.wants_name = false;
@@ -62,13 +62,13 @@ impl MeaningOptions {
         Ok(true)
     }
 
-    /// Whether an option asked for a dialect.
+    /// Returns whether an option requested a dialect.
     pub fn has_dialect(&self) -> bool {
         self.dialect.is_some()
     }
 
-    /// What the options say, once all are taken. Without one it is Cargo's dialect, and the default
-    /// rule for pre-releases.
+    /// Returns the meaning, once all options are taken. Without options it is Cargo's dialect with
+    /// the default rule for pre-releases.
     ///
     /// # Errors
     ///
@@ -83,7 +83,7 @@ impl MeaningOptions {
         })
     }
 
-    /// Takes the dialect of a name.
+    /// Takes the dialect with a name.
     fn set_dialect_by_name(&mut self, name: &str) -> Result<(), ArgumentError> {
         match name {
             "cargo" => self.set_dialect(Dialect::Cargo, "--dialect cargo"),
@@ -94,7 +94,7 @@ impl MeaningOptions {
         }
     }
 
-    /// Takes the dialect that an option names; an earlier one may have asked for it, too.
+    /// Takes the dialect that an option requests; an earlier one may have requested it, too.
     fn set_dialect(&mut self, dialect: Dialect, option: &'static str) -> Result<(), ArgumentError> {
         let earlier = self.dialect;
         match earlier {
@@ -107,7 +107,7 @@ impl MeaningOptions {
         }
     }
 
-    /// Takes the rule for pre-releases that an option names.
+    /// Takes the rule for pre-releases that an option requests.
     fn set_pre_releases(&mut self, rule: PreReleases) -> Result<(), ArgumentError> {
         let option = option_of(rule);
         let earlier = self.rule;
@@ -122,7 +122,7 @@ impl MeaningOptions {
     }
 }
 
-/// The option that names a rule for pre-releases.
+/// Returns the option that requests a rule for pre-releases.
 fn option_of(rule: PreReleases) -> &'static str {
     match rule {
         PreReleases::Excluded => "--releases-only",

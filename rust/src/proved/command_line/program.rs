@@ -1,5 +1,5 @@
 // Made by tools/erase.py from crates/command_line/src/program.rt; not edited by hand.
-//! What a program writes of itself and of errors.
+//! Messages of a program about itself and about errors.
 #![cfg(feature = "std")]
 
 use crate::rattle_std::prelude::*;
@@ -10,8 +10,8 @@ use crate::rattle_std::io::{self, ErrorKind};
 use crate::rattle_std::process::ExitCode;
 use crate::proved::tool_ranges::dialect::Dialect;
 
-/// A program. Each line that it writes on standard error begins with its name. What can't be
-/// written there is left out.
+/// A program. Each line that it writes to standard error begins with its name. If a line can't be
+/// written there, it is left out.
 #[derive(Clone, Copy)]
 pub struct Program {
     /// The name.
@@ -19,8 +19,8 @@ pub struct Program {
 }
 
 impl Program {
-    /// Writes texts to standard output, each with a line feed, and returns the status. It is no
-    /// error if the reader closed the pipe.
+    /// Writes strings to standard output, each with a line feed, and returns the status. It isn't
+    /// an error if the reader closed the pipe.
     pub fn write_texts(self, rt: &HostRuntime, texts: &[&str]) -> ExitCode {
         for text in texts {
             match crate::rattle_std::fallible_println!(rt; "{text}") {
@@ -32,7 +32,7 @@ impl Program {
         ExitCode::SUCCESS
     }
 
-    /// Writes what is wrong with the arguments, in one line, and returns status 2.
+    /// Writes the error in the arguments in one line, and returns status 2.
     pub fn misused(self, rt: &impl Eprint, error: &ArgumentError) -> ExitCode {
         let name = self.name;
         let _ = match error {
@@ -42,13 +42,13 @@ impl Program {
         ExitCode::from(2)
     }
 
-    /// Writes that output can't be written, and returns status 2.
+    /// Reports that output can't be written, and returns status 2.
     pub fn cannot_write(self, rt: &impl Eprint, error: &io::Error) -> ExitCode {
         let _ = crate::rattle_std::fallible_eprintln!(rt; "{}: cannot write output: {error}", self.name);
         ExitCode::from(2)
     }
 
-    /// Writes the error of a range text, with the text and the offset, and returns status 2.
+    /// Writes the error of a range, with the string and the offset, and returns status 2.
     pub fn refuse_range(
         self,
         rt: &HostRuntime,
@@ -63,8 +63,8 @@ impl Program {
         ExitCode::from(2)
     }
 
-    /// Writes the errors of a range text that several tools refuse, and returns status 2: for each
-    /// its name, its dialect and its error.
+    /// Writes the errors of a range that is invalid in several tools, and returns status 2. For
+    /// each tool it writes its name, its dialect and its error.
     pub fn refuse_range_of_each(
         self,
         rt: &HostRuntime,

@@ -1,6 +1,6 @@
 // Made by tools/erase.py from crates/command_line/src/refused.rt; not edited by hand.
-//! The text of a range's error: the offset of the first byte that no range could have there, with a
-//! caret under it, and the reason.
+//! The message for the error of a range: the offset of the first byte that isn't allowed there,
+//! with a caret below it, and the reason.
 
 use crate::rattle_std::prelude::*;
 use crate::proved::command_line::excerpt::Excerpt;
@@ -9,10 +9,10 @@ use crate::rattle_std::AllocError;
 use crate::proved::tool_ranges::dialect::Dialect;
 use crate::proved::tool_ranges::refusals::{Refusal, refused};
 
-/// The text of an error: the error and the range text, and two lines more with the offset and the
-/// reason. A long text is shortened. `Err` is out of memory.
+/// Returns the message for an error: the error and the range, and two more lines with the offset
+/// and the reason. A long string is shortened. `Err` means out of memory.
 ///
-/// Of `1.2 || 3` as Cargo reads it:
+/// For `1.2 || 3` in Cargo's dialect:
 ///
 /// ```text
 /// not a range: "1.2 || 3"
@@ -32,8 +32,8 @@ pub(crate) fn refused_text(
     Ok(written)
 }
 
-/// The text of an error in one line, without the range text:
-/// `not a range (at byte 4: Cargo takes no ||; npm does)`. `Err` is out of memory.
+/// Returns the message for an error in one line, without the range:
+/// `not a range (at byte 4: Cargo takes no ||; npm does)`. `Err` means out of memory.
 pub fn refused_line(
     dialect: Dialect,
     error: &RangeError,
@@ -43,7 +43,7 @@ pub fn refused_line(
     line_of(error, &found, text.len())
 }
 
-/// The line of what is refused of a text of so many bytes.
+/// Returns the message for an error in a string of `len` bytes. `Err` means out of memory.
 fn line_of(
     error: &RangeError,
     found: &Option<Refusal>,
@@ -61,7 +61,7 @@ fn line_of(
     }
 }
 
-/// What is wrong, in words.
+/// Returns the kind of the error in words.
 fn words_of(error: &RangeError) -> &'static str {
     match error {
         RangeError::NotARange => "not a range",
@@ -78,13 +78,13 @@ fn write_refusal(out: &mut String, refusal: &Refusal, text: &str) -> Result<(), 
     write_why(out, refusal, text.len())
 }
 
-/// Writes where a text of so many bytes is wrong, and why.
+/// Writes the offset and the reason of an error in a string of `len` bytes.
 fn write_why(out: &mut String, refusal: &Refusal, len: usize) -> Result<(), AllocError> {
     write_place(out, refusal.offset, len)?;
     write!(out, ": {}", refusal.reason)
 }
 
-/// Writes an offset in a text of so many bytes.
+/// Writes an offset in a string of `len` bytes.
 fn write_place(out: &mut String, offset: usize, len: usize) -> Result<(), AllocError> {
     if offset < len {
         write!(out, "at byte {offset}")

@@ -1,5 +1,5 @@
 // Made by tools/erase.py from crates/compare_ranges_main/src/lines.rt; not edited by hand.
-//! What is written of sets of versions: lines, or an object of JSON.
+//! Prints sets of versions: as lines, or as a JSON object.
 #![cfg(feature = "std")]
 
 use crate::rattle_std::prelude::*;
@@ -8,16 +8,16 @@ use crate::proved::semver_parser::version::Version;
 use crate::rattle_std::AllocError;
 use crate::proved::version_sets::{SetError, SetRanges, VersionSet};
 
-/// What is written, so far.
+/// The output so far.
 pub struct Output {
     /// The lines, or the members of the object.
     text: String,
-    /// What is written of the versions, and as what.
+    /// How versions are printed, and in which format.
     options: Options,
 }
 
 impl Output {
-    /// Nothing yet.
+    /// Returns an empty output.
     pub fn new(options: Options) -> Output {
         Output {
             text: String::new(),
@@ -25,7 +25,7 @@ impl Output {
         }
     }
 
-    /// The whole output.
+    /// Returns the whole output.
     pub fn finish(self) -> Result<String, AllocError> {
         if !self.options.is_json {
             return Ok(self.text);
@@ -35,7 +35,7 @@ impl Output {
         Ok(object)
     }
 
-    /// Appends what two ranges lose, gain and share.
+    /// Appends the versions that two ranges lose, gain and share.
     pub fn push_two(
         &mut self,
         old: &VersionSet,
@@ -62,7 +62,7 @@ impl Output {
         Ok(())
     }
 
-    /// Appends the versions of one range under a word, or that there is none.
+    /// Appends the versions in one range, labelled with a word, or that there are none.
     pub fn push_range(
         &mut self,
         word: &str,
@@ -77,12 +77,13 @@ impl Output {
         }
     }
 
-    /// Appends a text of its own under a word.
+    /// Appends a string, labelled with a word.
     fn push_text(&mut self, word: &str, text: &str) -> Result<(), AllocError> {
         write!(self.text, "{word}: {text}\n")
     }
 
-    /// Appends why there is no range under a word. JSON has null in its place, and a member more.
+    /// Appends why there is no range, labelled with a word. In JSON, the label has null, and
+    /// another member has the reason.
     pub fn push_error(&mut self, word: &str, why: &str) -> Result<(), AllocError> {
         if !self.options.is_json {
             return self.push_text(word, why);
@@ -92,7 +93,7 @@ impl Output {
         write_string(&mut self.text, why)
     }
 
-    /// Appends the releases of a set, and its pre-releases.
+    /// Appends the releases and the pre-releases in a set.
     fn push_whole(
         &mut self,
         word: &str,
@@ -107,7 +108,8 @@ impl Output {
         self.push_ranges(word, suffix, &set.pre_release_ranges()?)
     }
 
-    /// Appends ranges, if there are any: a line has none of the others, and JSON has null.
+    /// Appends ranges, if there are any. If there are none, nothing is added to the lines, and JSON
+    /// has null.
     fn push_ranges(
         &mut self,
         word: &str,
@@ -145,13 +147,13 @@ impl Output {
         }
     }
 
-    /// Begins a member of the object by its name.
+    /// Begins a member of the object with its name.
     fn begin_member(&mut self, name: &str) -> Result<(), AllocError> {
         self.begin_members()?;
         write!(self.text, "\"{name}\": ")
     }
 
-    /// Ends the members before, if there are any.
+    /// Ends the previous members, if there are any.
     fn begin_members(&mut self) -> Result<(), AllocError> {
         if self.text.is_empty() {
             return Ok(());
@@ -160,7 +162,7 @@ impl Output {
     }
 }
 
-/// Writes a string of JSON.
+/// Writes a JSON string.
 fn write_string(out: &mut String, text: &str) -> Result<(), AllocError> {
     out.fallible_push('"')?;
     for character in text.chars() {

@@ -1,6 +1,6 @@
 // Made by tools/erase.py from crates/compare_ranges_main/src/main.rt; not edited by hand.
-//! The program `compare-ranges`: arguments, standard output, and exit status, nothing else. What it
-//! says of ranges are the calls of `VersionRange`.
+//! The program `compare-ranges`: arguments, standard output, and exit status. Everything about
+//! ranges is done by methods of `VersionRange`.
 #![cfg(feature = "std")]
 
 use crate::rattle_std::prelude::*;
@@ -24,7 +24,7 @@ const PROGRAM: Program = Program {
     name: "compare-ranges",
 };
 
-/// How the program is called.
+/// The usage of the program.
 const USAGE: &str = "\
 usage: compare-ranges [OPTION]... OLD NEW
        compare-ranges [OPTION]... RANGE";
@@ -67,20 +67,20 @@ range text in npm's syntax, as '=1.2.0 || >=1.9.0 <2.0.0', or '*' for all.
 The status is 0 if both ranges mean the same versions, 1 if they differ, 0 for
 one range, and 2 after an error. semver-ranges(7) says what ranges mean.";
 
-/// The version of this program, as the file VERSION has it.
+/// The version of this program, which is that of the file VERSION.
 const VERSION: &str = "compare-ranges 1.0.0";
 
-/// Why a run ended by an error.
+/// The error of a run.
 enum Error<'a> {
-    /// This range text was refused.
+    /// This range is invalid.
     Range(RangeError, &'a str),
-    /// Neither Cargo nor npm reads the range: the error of each.
+    /// The range is invalid in Cargo and in npm: the error of each.
     Neither(RangeError, RangeError),
     /// An allocation failed after the ranges were read.
     OutOfMemory,
 }
 
-/// What there is to write, and whether that is a change that the exit status reports.
+/// The output, and whether it has a change for which the status is 1.
 type Answer = (String, bool);
 
 pub fn main(rt: HostRuntime) -> ExitCode {
@@ -92,8 +92,8 @@ pub fn main(rt: HostRuntime) -> ExitCode {
     }
 }
 
-/// Writes what there is to write, or an error. All is known before anything is written. That the
-/// reader closed the pipe is no error.
+/// Writes the output, or an error. The output is complete before anything is written. It isn't an
+/// error if the reader closed the pipe.
 fn run(rt: &HostRuntime, question: &Question) -> ExitCode {
     match answered(rt, question) {
         Ok((text, is_changed)) => written(rt, text.as_str(), is_changed),
@@ -101,7 +101,7 @@ fn run(rt: &HostRuntime, question: &Question) -> ExitCode {
     }
 }
 
-/// Writes a text, and returns the status.
+/// Writes a string, and returns the status.
 fn written(rt: &HostRuntime, text: &str, is_changed: bool) -> ExitCode {
     match write_whole(&mut io::writer(rt), text.as_bytes()) {
         Err(error) if error.kind() != ErrorKind::BrokenPipe => PROGRAM.cannot_write(rt, &error),
@@ -110,7 +110,7 @@ fn written(rt: &HostRuntime, text: &str, is_changed: bool) -> ExitCode {
     }
 }
 
-/// Reports on standard error what the error is, and returns status 2.
+/// Reports an error on standard error, and returns status 2.
 fn failed(rt: &HostRuntime, question: &Question, error: &Error<'_>) -> ExitCode {
     match error {
         Error::Range(error, range) => {
@@ -127,7 +127,7 @@ fn failed(rt: &HostRuntime, question: &Question, error: &Error<'_>) -> ExitCode 
     }
 }
 
-/// What there is to write of the ranges.
+/// Returns the output for the ranges.
 fn answered<'a>(rt: &HostRuntime, question: &'a Question) -> Result<Answer, Error<'a>> {
     if question.new.is_none() && !question.has_dialect {
         return of_both_tools(rt, question);
@@ -146,7 +146,7 @@ fn answered<'a>(rt: &HostRuntime, question: &'a Question) -> Result<Answer, Erro
     }
 }
 
-/// What one range means to the dialect that is named.
+/// Returns the output for one range in the requested dialect.
 fn of_one(
     rt: &HostRuntime,
     question: &Question,
@@ -157,7 +157,7 @@ fn of_one(
     output.finish()
 }
 
-/// What two ranges lose, gain and share.
+/// Returns the output for two ranges: what is lost, gained and shared.
 fn of_two(
     rt: &HostRuntime,
     question: &Question,
@@ -169,7 +169,7 @@ fn of_two(
     Ok(output.finish()?)
 }
 
-/// Whether the change is there that the exit status reports.
+/// Returns whether there is a change for which the status is 1.
 fn is_changed(question: &Question, range: &VersionRange, new: &VersionRange) -> bool {
     match question.options.fails_on {
         Some(Change::Lost) => range.is_subset(new) != Ok(true),
@@ -178,7 +178,7 @@ fn is_changed(question: &Question, range: &VersionRange, new: &VersionRange) -> 
     }
 }
 
-/// What one range means to Cargo, and to npm, or why it is no range.
+/// Returns the output for one range in Cargo and in npm, or why it is not a range.
 fn of_both_tools<'a>(rt: &HostRuntime, question: &'a Question) -> Result<Answer, Error<'a>> {
     let mut output = Output::new(question.options);
     let cargo = push_tool(rt, question, &mut output, "cargo", Dialect::Cargo);
@@ -193,7 +193,8 @@ fn of_both_tools<'a>(rt: &HostRuntime, question: &'a Question) -> Result<Answer,
     }
 }
 
-/// Appends what the range means to a tool, or why it is no range, and returns the error.
+/// Appends the versions in a range in a tool's dialect, or why it is not a range, and returns the
+/// error.
 fn push_tool(
     rt: &HostRuntime,
     question: &Question,

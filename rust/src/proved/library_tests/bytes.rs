@@ -7,7 +7,7 @@ use crate::proved::semver_parser::version::{self, Grammar, Identifier};
 use crate::rattle_std::AllocError;
 use crate::rattle_std::io;
 
-/// Bytes, and the printed version that they spell; none where they spell none.
+/// Bytes, and the version that they spell as it is printed, or `None`.
 const BYTES: [(&[u8], Option<&str>); 14] = [
     (b"1.2.3", Some("1.2.3")),
     (b" 1.2.3-rc.4+b5\n", Some("1.2.3-rc.4+b5")),
@@ -25,7 +25,7 @@ const BYTES: [(&[u8], Option<&str>); 14] = [
     (b"\xc2\xa01.2.3", None),
 ];
 
-/// Texts, and their parts, each with how many bytes are before it.
+/// Strings, and their parts, each with its offset.
 const PARTS: [(&str, (&str, usize), (&str, usize)); 6] = [
     ("1.2.3", ("", 0), ("", 0)),
     ("1.2.3-rc.1+b5", ("rc.1", 6), ("b5", 11)),
@@ -35,7 +35,7 @@ const PARTS: [(&str, (&str, usize), (&str, usize)); 6] = [
     ("1.0.0-1+1", ("1", 6), ("1", 8)),
 ];
 
-/// Bytes, and whether they spell a version in the crate's dialect, in Cargo's and in npm's.
+/// Bytes, and whether they spell a version in the dialects of the crate, of Cargo and of npm.
 const DIALECTS: [(&[u8], [bool; 3]); 10] = [
     (b"1.2.3-rc.1+b5", [true, true, true]),
     (b"\t1.2.3 ", [true, false, true]),
@@ -49,7 +49,7 @@ const DIALECTS: [(&[u8], [bool; 3]); 10] = [
     (b"1.2", [false, false, false]),
 ];
 
-/// Writes the places of the bytes that are read as something else, and how many there were.
+/// Writes the indices of the bytes with another result, and how many there were.
 pub fn write_bytes(rt: &impl Print) -> io::Result<()> {
     for (place, (bytes, wanted)) in BYTES.iter().enumerate() {
         if !are_read_as(bytes, *wanted)? || !are_outlined_as(bytes, *wanted)? {
@@ -69,7 +69,7 @@ pub fn write_bytes(rt: &impl Print) -> io::Result<()> {
     crate::rattle_std::fallible_println!(rt; "bytes: {} texts and others", BYTES.len())
 }
 
-/// Whether the bytes are read as the version that prints so, or as none.
+/// Returns whether the bytes are read as the version that is printed as `wanted`, or as none.
 fn are_read_as(bytes: &[u8], wanted: Option<&str>) -> Result<bool, AllocError> {
     match (version::read_bytes(bytes)?, wanted) {
         (Some(version), Some(wanted)) => Ok(version.fallible_to_string()?.as_str() == wanted),
@@ -78,7 +78,8 @@ fn are_read_as(bytes: &[u8], wanted: Option<&str>) -> Result<bool, AllocError> {
     }
 }
 
-/// Whether the bytes have an outline of which the version can be made that prints so, or none.
+/// Returns whether the bytes have a borrowed version, whose version is printed as `wanted`, or
+/// none.
 fn are_outlined_as(bytes: &[u8], wanted: Option<&str>) -> Result<bool, AllocError> {
     match (version::outline_bytes(bytes), wanted) {
         (Some(outline), Some(wanted)) => {
@@ -90,7 +91,7 @@ fn are_outlined_as(bytes: &[u8], wanted: Option<&str>) -> Result<bool, AllocErro
     }
 }
 
-/// Whether a text has these parts, and returns where they begin.
+/// Returns whether a string has these parts at these offsets.
 fn has_parts(text: &str, pre: (&str, usize), build: (&str, usize)) -> bool {
     let Some(outline) = version::outline(text) else {
         return false;
@@ -101,7 +102,8 @@ fn has_parts(text: &str, pre: (&str, usize), build: (&str, usize)) -> bool {
         && outline.build_offset() == build.1
 }
 
-/// Whether the bytes have an outline in the crate's dialect, in Cargo's and in npm's.
+/// Returns whether the bytes are a version in the dialects of the crate, of Cargo and of npm as
+/// wanted.
 fn are_versions(bytes: &[u8], wanted: [bool; 3]) -> bool {
     let [by_crate, by_cargo, by_npm] = wanted;
     version::outline_in(bytes, Grammar::Crate).is_some() == by_crate
@@ -109,7 +111,7 @@ fn are_versions(bytes: &[u8], wanted: [bool; 3]) -> bool {
         && version::outline_in(bytes, Grammar::Npm).is_some() == by_npm
 }
 
-/// Whether the identifiers that a text's parts are cut to print as these.
+/// Returns whether the identifiers of a string's parts are printed as these.
 fn are_cut_as(text: &str, pre: &str, build: &str) -> Result<bool, AllocError> {
     let Some(outline) = version::outline(text) else {
         return Ok(false);
@@ -119,7 +121,7 @@ fn are_cut_as(text: &str, pre: &str, build: &str) -> Result<bool, AllocError> {
     Ok(print_as(&identifiers, pre)? && print_as(&others, build)?)
 }
 
-/// Whether the identifiers print as the text, joined by dots.
+/// Returns whether the identifiers, printed and joined by dots, are the string.
 fn print_as(identifiers: &[Identifier], text: &str) -> Result<bool, AllocError> {
     let mut joined = String::new();
     for identifier in identifiers {

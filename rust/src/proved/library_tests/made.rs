@@ -1,5 +1,5 @@
 // Made by tools/erase.py from crates/library_tests/src/made.rt; not edited by hand.
-//! Versions and sets that are made by hand, and what their printed texts read back as.
+//! Versions and sets that are made by hand, and what is read if they are printed.
 #![cfg(feature = "std")]
 
 use crate::rattle_std::prelude::*;
@@ -8,8 +8,8 @@ use crate::proved::semver_parser::{Comparator, Compat, Identifier, Op, Range, Ra
 use crate::rattle_std::AllocError;
 use crate::rattle_std::io;
 
-/// Writes what versions read back as whose one identifier keeps a text that may be none of an
-/// identifier.
+/// Prints versions whose only identifier has a string that may be an invalid identifier, reads
+/// them, and writes the result.
 pub fn write_versions(rt: &impl Print) -> io::Result<()> {
     for text in ["7", "01", "a--b", ""] {
         let made = version_of(text)?.fallible_to_string()?;
@@ -19,7 +19,7 @@ pub fn write_versions(rt: &impl Print) -> io::Result<()> {
     Ok(())
 }
 
-/// The version 1.2.3 with one identifier that keeps the text.
+/// Returns the version 1.2.3 with one identifier that has the string.
 fn version_of(text: &str) -> Result<Version, AllocError> {
     let kept = version::Identifier::AlphaNumeric(text.fallible_to_string()?);
     Ok(Version {
@@ -31,8 +31,8 @@ fn version_of(text: &str) -> Result<Version, AllocError> {
     })
 }
 
-/// Writes what sets in Cargo mode read back as: one without ranges, one without comparators, ranges
-/// of one comparator, and one whose range is in another mode.
+/// Prints sets in Cargo mode, reads them, and writes the result: a set without ranges, one without
+/// comparators, ranges of one comparator, and a set whose range is in another mode.
 pub fn write_sets(rt: &impl Print) -> io::Result<()> {
     let (ranges, compat) = (Vec::new(), Compat::Cargo);
     write_read_back(rt, &RangeSet { ranges, compat })?;
@@ -61,7 +61,7 @@ pub fn write_sets(rt: &impl Print) -> io::Result<()> {
     )
 }
 
-/// The one comparator of an operator, three numbers and a pre-release.
+/// Returns a list of one comparator, with an operator, three numbers and a pre-release.
 fn comparators(
     op: Op,
     (major, minor, patch): (u64, u64, u64),
@@ -77,7 +77,7 @@ fn comparators(
     Ok(crate::rattle_std::fallible_vec![comparator]?)
 }
 
-/// A set in Cargo mode, of one range in a mode of its own.
+/// Returns a set in Cargo mode of one range in a mode of its own.
 fn of_one_range(
     comparator_set: Vec<Comparator>,
     compat: Compat,
@@ -92,8 +92,8 @@ fn of_one_range(
     })
 }
 
-/// Writes what a set prints as, what that reads back as in the set's own mode, and whether that is
-/// the set.
+/// Writes how a set is printed, what this is read as in the set's own mode, and whether that is the
+/// set.
 fn write_read_back(rt: &impl Print, set: &RangeSet) -> io::Result<()> {
     let printed = set.fallible_to_string()?;
     let again = RangeSet::try_parse(printed.as_str(), set.compat);

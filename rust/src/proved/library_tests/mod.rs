@@ -1,13 +1,13 @@
 // Made by tools/erase.py from crates/library_tests/src/main.rt; not edited by hand.
-//! Tests of the library that need more than data. On what its calls return: what is read of texts,
-//! sets of versions, the derived orders and precedence, and values made by hand. On what they write
-//! and append: printed values, whole writes and the report, at writers that fail, and the lines of
-//! a text in pieces. Then it runs the example of README.md, and calls what allocates. It writes
-//! what it found. What that has to be is in the file beside this crate: it comes from the written
-//! rules and from the declarations of the Rust crate.
+//! Tests of the library that need more than data. First it tests the results of functions: reading
+//! strings, sets of versions, the derived orders and precedence, and values made by hand. Then it
+//! tests what they write and append: printed values, whole writes and the report, to writers that
+//! fail, and the lines of a text in pieces. Last it runs the example of README.md, and the
+//! functions that allocate. It writes what it found. The wanted output is in the file next to this
+//! crate; it comes from the written rules and from the declarations of the Rust crate.
 //!
-//! If standard input has a number, it only makes so many requests for memory, and then calls what
-//! allocates (`./test`, `requests`).
+//! If standard input has a number, it only makes that number of requests for memory, and then calls
+//! the functions that allocate (`./test`, `requests`).
 #![cfg(feature = "std")]
 
 use crate::rattle_std::prelude::*;
@@ -38,7 +38,7 @@ pub fn main(rt: HostRuntime) -> io::Result<()> {
     refused::write_calls(&rt, requests.unwrap_or(0))
 }
 
-/// The number that the input has, or `None` if it is empty.
+/// Returns the number in the input, or `None` if the input is empty.
 fn read_number(input: &mut impl Read) -> io::Result<Option<u32>> {
     let mut digits = [0u8; 8];
     let count = input.read(&mut digits)?;
@@ -53,7 +53,7 @@ fn read_number(input: &mut impl Read) -> io::Result<Option<u32>> {
     Ok(number)
 }
 
-/// What calls return.
+/// Tests the results of functions.
 fn write_values(rt: &HostRuntime) -> io::Result<()> {
     bytes::write_bytes(rt)?;
     reading::write_reading(rt)?;
@@ -65,7 +65,7 @@ fn write_values(rt: &HostRuntime) -> io::Result<()> {
     made::write_sets(rt)
 }
 
-/// What calls write and append.
+/// Tests what functions write and append.
 fn write_writes(rt: &HostRuntime) -> io::Result<()> {
     printing::write_versions(rt)?;
     printing::write_sets(rt)?;

@@ -1,6 +1,6 @@
 // Made by tools/erase.py from crates/library_tests/src/orders.rt; not edited by hand.
-//! The derived orders: the cases of an enum in the order declared, and the fields of a struct from
-//! the first on.
+//! The derived orders: the cases of an enum in the order of declaration, and the fields of a struct
+//! from the first one.
 #![cfg(feature = "std")]
 
 use crate::rattle_std::prelude::*;
@@ -58,7 +58,7 @@ pub fn write_enums(rt: &impl Print) -> io::Result<()> {
     write_order(rt, "Compat", &[Compat::Cargo, Compat::Npm])
 }
 
-/// Writes how many versions and sets are in order, and their parts.
+/// Writes how many versions and sets, and their parts, are in order.
 pub fn write_structs(rt: &impl Print) -> io::Result<()> {
     let mut versions: Vec<Version> = Vec::new();
     // The first five have a 0 in one field each: the earlier the field, the lower the version.

@@ -1,5 +1,5 @@
 // Made by tools/erase.py from crates/library_tests/src/precedence.rt; not edited by hand.
-//! The order of precedence, by the examples of the standard.
+//! The order of precedence, with the examples of the standard.
 #![cfg(feature = "std")]
 
 use crate::rattle_std::prelude::*;
@@ -7,7 +7,8 @@ use crate::proved::semver_parser::version::{self, Version};
 use crate::rattle_std::AllocError;
 use crate::rattle_std::io;
 
-/// Each is below the next: the example of SemVer 2.0.0, section 11.4, and then that of 11.2.
+/// Each is below the next: the example of SemVer 2.0.0, section 11.4, and then that of section
+/// 11.2.
 const ASCENDING: [&str; 11] = [
     "1.0.0-alpha",
     "1.0.0-alpha.1",
@@ -22,8 +23,8 @@ const ASCENDING: [&str; 11] = [
     "2.1.1",
 ];
 
-/// Writes which versions compare otherwise than their places, and how many there are. The one has
-/// no build, and the other has one.
+/// Writes which versions don't compare like their indices, and how many there are. One of each pair
+/// has no build metadata, and the other has some.
 pub fn write_precedence(rt: &impl Print) -> io::Result<()> {
     let versions = versions_with("")?;
     let built = versions_with("+b5")?;
@@ -39,7 +40,7 @@ pub fn write_precedence(rt: &impl Print) -> io::Result<()> {
     crate::rattle_std::fallible_println!(rt; "precedence: {} versions", versions.len())
 }
 
-/// The versions, each with this text after it.
+/// Returns the versions, each with this string after it.
 fn versions_with(build: &str) -> Result<Vec<Version>, AllocError> {
     let mut versions = Vec::new();
     for text in ASCENDING {

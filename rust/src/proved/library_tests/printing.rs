@@ -1,5 +1,5 @@
 // Made by tools/erase.py from crates/library_tests/src/printing.rt; not edited by hand.
-//! Printed values at a writer that refuses.
+//! Values printed to a writer that fails.
 #![cfg(feature = "std")]
 
 use crate::rattle_std::prelude::*;
@@ -9,7 +9,7 @@ use crate::proved::semver_parser::{Comparator, Compat, Range, RangeError, RangeS
 use crate::rattle_std::fmt::Write;
 use crate::rattle_std::{fmt, io};
 
-/// Writes which identifiers and versions print.
+/// Writes which identifiers and versions are printed as wanted.
 pub fn write_versions(rt: &impl Print) -> io::Result<()> {
     for text in ["0", "7", "beta", "01", "a-b-1"] {
         let Ok(mut parser) = Parser::new(text) else {
@@ -35,7 +35,8 @@ pub fn write_versions(rt: &impl Print) -> io::Result<()> {
     Ok(())
 }
 
-/// Writes which sets print, their ranges, the comparators of these, and the parts of these.
+/// Writes which sets are printed as wanted, and their ranges, the comparators of these, and the
+/// parts of these.
 pub fn write_sets(rt: &impl Print) -> io::Result<()> {
     let ranges = Vec::new();
     let compat = Compat::Npm;
@@ -89,8 +90,8 @@ fn write_comparator(
     Ok(())
 }
 
-/// Writes which errors print: those that reading a version answers, and those that are made by
-/// hand.
+/// Writes which errors are printed as wanted: those that reading a version returns, and those made
+/// by hand.
 pub fn write_errors(rt: &impl Print) -> io::Result<()> {
     for (text, sentence) in [
         ("1.2", "expected more input"),
@@ -117,7 +118,7 @@ pub fn write_errors(rt: &impl Print) -> io::Result<()> {
     write_printed(rt, &RangeError::OutOfMemory, "out of memory")
 }
 
-/// Writes whether the sentence of the error is what it prints, and what its text is.
+/// Writes whether the error is printed as its sentence, and its text.
 fn write_error(
     rt: &impl Print,
     error: &Error<'_>,
@@ -129,7 +130,7 @@ fn write_error(
     write_printed(rt, error, sentence)
 }
 
-/// Writes the text, and whether the value prints as that.
+/// Writes the string, and whether the value is printed as that.
 fn write_printed<T: fmt::Display>(
     rt: &impl Print,
     value: &T,
@@ -143,8 +144,8 @@ fn write_printed<T: fmt::Display>(
     crate::rattle_std::fallible_println!(rt; "[{text}] prints")
 }
 
-/// Whether the value prints as the text to a writer of so many bytes: all of it where all is taken,
-/// and else a beginning, an error, and nothing more.
+/// Returns whether the value is printed as the string to a writer that takes `left` bytes: all of
+/// it if that is enough, and otherwise a prefix, an error, and nothing more.
 fn prints<T: fmt::Display>(value: &T, text: &str, left: usize) -> bool {
     let mut out = Limited::new(left, ALL_AT_ONCE, Refusal::Fail);
     let is_printed = write!(out, "{value}").is_ok();

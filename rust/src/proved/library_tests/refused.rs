@@ -1,7 +1,8 @@
 // Made by tools/erase.py from crates/library_tests/src/refused.rt; not edited by hand.
-//! Calls what allocates, and checks that each call returns in full or out of memory, and leaves
-//! what it promises. With ample memory every call has to return in full; else the one request that
-//! is refused has to be made by exactly one call, which is named.
+//! Calls the functions that allocate, and checks that each call returns its result or out of
+//! memory, and then leaves everything as its contract says. With enough memory every call has to
+//! return its result. Otherwise the one request that fails has to be made by exactly one call,
+//! which is named.
 #![cfg(feature = "std")]
 
 use crate::rattle_std::prelude::*;
@@ -22,16 +23,16 @@ use crate::proved::version_sets::VersionSet;
 /// How a call ended.
 #[derive(Clone, Copy, PartialEq, Eq)]
 enum Ending {
-    /// With the full answer.
+    /// With its result.
     Full,
-    /// Out of memory, and what it promises then holds.
+    /// Out of memory, and what its contract says about this holds.
     Refused,
     /// In any other way.
     Wrong,
 }
 
 impl Ending {
-    /// The full answer, if it is right.
+    /// Returns `Full` if the result is right, and otherwise `Wrong`.
     fn full_if(is_right: bool) -> Ending {
         if is_right {
             Ending::Full
@@ -40,7 +41,7 @@ impl Ending {
         }
     }
 
-    /// A refusal, if what is promised of it holds.
+    /// Returns `Refused` if what the contract says holds, and otherwise `Wrong`.
     fn refused_if(is_kept: bool) -> Ending {
         if is_kept {
             Ending::Refused
@@ -50,10 +51,10 @@ impl Ending {
     }
 }
 
-/// After so many requests the next one is refused.
+/// After this number of requests the next one fails.
 const FIRST_REFUSED: u32 = 999;
 
-/// Makes so many requests, and then all calls, and writes how they ended.
+/// Makes a number of requests, and then all calls, and writes how they ended.
 pub fn write_calls(rt: &HostRuntime, requests: u32) -> io::Result<()> {
     for _ in 0..requests {
         let _request = Vec::fallible_from_slice(b"1");
@@ -73,7 +74,7 @@ pub fn write_calls(rt: &HostRuntime, requests: u32) -> io::Result<()> {
     rt.println("done")
 }
 
-/// Names the calls that were refused, and those that went wrong.
+/// Names the calls that ran out of memory, and those that went wrong.
 fn tell(rt: &impl Print, endings: &[(&'static str, Ending)]) -> io::Result<()> {
     for (call, ending) in endings {
         match ending {
@@ -85,7 +86,7 @@ fn tell(rt: &impl Print, endings: &[(&'static str, Ending)]) -> io::Result<()> {
     Ok(())
 }
 
-/// How each call on tokens, versions and their identifiers ends.
+/// Returns how each call for tokens, versions and their identifiers ends.
 fn of_versions() -> [(&'static str, Ending); 16] {
     [
         ("identifier", parsers::identifier()),
@@ -113,7 +114,7 @@ fn of_versions() -> [(&'static str, Ending); 16] {
     ]
 }
 
-/// How each call that reads a range set in the crate's dialect ends.
+/// Returns how each call that reads a range set in the crate's dialect ends.
 fn of_range_sets() -> [(&'static str, Ending); 11] {
     [
         (
@@ -174,7 +175,8 @@ fn of_range_sets() -> [(&'static str, Ending); 11] {
     ]
 }
 
-/// How each call on the ranges of the tools ends, and each on errors and copies of ranges.
+/// Returns how each call for the ranges of the tools ends, and each for errors and copies of
+/// ranges.
 fn of_tool_ranges() -> [(&'static str, Ending); 13] {
     [
         ("cargo_requirement", ranges::requirement()),
@@ -193,7 +195,7 @@ fn of_tool_ranges() -> [(&'static str, Ending); 13] {
     ]
 }
 
-/// How each call that filters versions, reads or combines ranges, or makes a report ends.
+/// Returns how each call that filters versions, reads or combines ranges, or makes a report ends.
 fn of_filters_and_reports() -> [(&'static str, Ending); 6] {
     [
         ("filter", filters::filter()),
@@ -205,7 +207,7 @@ fn of_filters_and_reports() -> [(&'static str, Ending); 6] {
     ]
 }
 
-/// How each filter of lines ends.
+/// Returns how each filter of lines ends.
 fn of_lines() -> [(&'static str, Ending); 8] {
     [
         ("copied_lines", filters::copied_lines()),
@@ -219,7 +221,7 @@ fn of_lines() -> [(&'static str, Ending); 8] {
     ]
 }
 
-/// How each call on sets of versions ends, beside the texts of these two.
+/// Returns how each call for sets of versions ends, except reading these two.
 fn of_sets(first: &VersionSet, second: &VersionSet) -> [(&'static str, Ending); 9] {
     [
         ("refused_set_texts", sets::of_refused_texts()),
@@ -237,7 +239,7 @@ fn of_sets(first: &VersionSet, second: &VersionSet) -> [(&'static str, Ending); 
     ]
 }
 
-/// How calls on long texts end that make no request. They take long, and are made once.
+/// Returns how calls for long strings end that make no request. They take long, and are made once.
 fn of_long_texts() -> [(&'static str, Ending); 1] {
     [("refused_at_the_end", ranges::refused_at_the_end())]
 }

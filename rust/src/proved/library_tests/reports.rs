@@ -1,5 +1,5 @@
 // Made by tools/erase.py from crates/library_tests/src/reports.rt; not edited by hand.
-//! The report at a writer that refuses.
+//! The report to a writer that fails.
 #![cfg(feature = "std")]
 
 use crate::rattle_std::prelude::*;
@@ -10,7 +10,7 @@ use crate::rattle_std::io;
 /// The report of `1.2.3`.
 const REPORT: &str = "version: 1.2.3\ncargo: >=1.2.3 <2.0.0\nnpm: =1.2.3\n";
 
-/// Writes at which refusals the report doesn't end as it has to, and how many there were.
+/// Writes for which failures the report doesn't end as documented, and how many there were.
 pub fn write_report(rt: &impl Print) -> io::Result<()> {
     let mut refusals = 0u32;
     for refusal in [Refusal::Fail, Refusal::Interrupt, Refusal::TakeNone] {
@@ -26,8 +26,8 @@ pub fn write_report(rt: &impl Print) -> io::Result<()> {
     crate::rattle_std::fallible_println!(rt; "report: {refusals} writers")
 }
 
-/// Whether the report writes all that is taken and nothing after a refusal, and its status is 2
-/// exactly if one came.
+/// Returns whether the report writes everything that is taken and nothing after a failure, and its
+/// status is 2 if and only if there was a failure.
 fn ends_with(left: usize, most: usize, refusal: Refusal) -> bool {
     let mut out = Limited::new(left, most, refusal);
     let ran = report::run("1.2.3", &mut out);

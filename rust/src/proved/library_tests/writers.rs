@@ -1,5 +1,5 @@
 // Made by tools/erase.py from crates/library_tests/src/writers.rt; not edited by hand.
-//! A writer that refuses once.
+//! A writer that fails once.
 #![cfg(feature = "std")]
 
 use crate::rattle_std::prelude::*;
@@ -7,10 +7,10 @@ use crate::rattle_std::AllocError;
 use crate::rattle_std::io::{ErrorKind, Write};
 use crate::rattle_std::{fmt, io};
 
-/// How a writer refuses.
+/// How a writer fails.
 #[derive(Clone, Copy)]
 pub enum Refusal {
-    /// It fails.
+    /// It returns an error.
     Fail,
     /// A signal interrupts it.
     Interrupt,
@@ -18,26 +18,27 @@ pub enum Refusal {
     TakeNone,
 }
 
-/// More bytes than any writer here takes at a call.
+/// More bytes than any writer here takes in one call.
 pub const ALL_AT_ONCE: usize = 0xffff_ffff;
 
-/// Takes so many bytes, refuses the call that brings more, and then takes everything. So what is
-/// written after a refusal is seen.
+/// Takes a given number of bytes, fails in the call that has more, and then takes everything. So it
+/// shows what is written after a failure.
 pub struct Limited {
-    /// What it took.
+    /// The bytes that it took.
     pub taken: Vec<u8>,
-    /// How often it was called after it had refused.
+    /// How often it was called after it had failed.
     pub late_calls: u32,
     // How many more bytes it takes.
     left: usize,
-    // How many bytes of a call it takes at most, where a call may be cut.
+    // How many bytes of one call it takes at most, if it may take less than all of them.
     most: usize,
     refusal: Refusal,
     has_refused: bool,
 }
 
 impl Limited {
-    /// A writer of `left` bytes, and of at most `most` of them at a call that may be cut.
+    /// Returns a writer that takes `left` bytes, and at most `most` of them in one call that may
+    /// take less.
     pub fn new(left: usize, most: usize, refusal: Refusal) -> Limited {
         Limited {
             taken: Vec::new(),

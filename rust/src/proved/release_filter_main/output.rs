@@ -1,5 +1,5 @@
 // Made by tools/erase.py from crates/release_filter_main/src/output.rt; not edited by hand.
-//! How kept lines are written: as they are, as JSON, or only counted.
+//! Writes kept lines: as they are, as JSON, or only their number.
 #![cfg(feature = "std")]
 
 use crate::rattle_std::prelude::*;
@@ -9,7 +9,7 @@ use crate::proved::command_line::write_whole;
 use crate::proved::release_filter::Selection;
 use crate::rattle_std::io::{self, Write};
 
-/// Writes lines that were kept, after others or as the first, and drops them.
+/// Writes kept lines, either the first or further ones, and drops them.
 pub fn write_lines<W: Write>(
     output: &mut W,
     options: &Options,
@@ -32,7 +32,7 @@ pub fn write_lines<W: Write>(
     output.flush()
 }
 
-/// Writes the end of the array of JSON.
+/// Writes the end of the JSON array.
 pub fn write_end<W: Write>(output: &mut W, has_items: bool) -> io::Result<()> {
     let mut end = Vec::new();
     push_end(has_items, &mut end)?;
@@ -40,7 +40,7 @@ pub fn write_end<W: Write>(output: &mut W, has_items: bool) -> io::Result<()> {
     output.flush()
 }
 
-/// Writes the number of lines, of which the options want one or all.
+/// Writes the number of the lines that the options select: one, or all.
 pub fn write_count<W: Write>(
     output: &mut W,
     selection: Selection,

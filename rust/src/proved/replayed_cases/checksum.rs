@@ -1,6 +1,6 @@
 // Made by tools/erase.py from crates/replayed_cases/src/checksum.rt; not edited by hand.
-//! The length and the Adler-32 checksum of a long answer, written in its place. A byte that is
-//! dropped, changed or moved changes them. Python's `zlib.adler32` computes the same.
+//! The length and the Adler-32 checksum of a long result, written instead of it. They change if a
+//! byte is dropped, changed or moved. Python's `zlib.adler32` computes the same checksum.
 #![cfg(feature = "std")]
 
 use crate::rattle_std::prelude::*;
@@ -10,7 +10,7 @@ use crate::rattle_std::{fmt, io};
 /// The largest prime below 2^16.
 const MODULUS: u32 = 65521;
 
-/// Takes everything that is written, and keeps its length and its checksum.
+/// A writer that keeps only the length and the checksum of everything that is written.
 pub struct Checksum {
     len: u64,
     low: u32,
@@ -18,7 +18,7 @@ pub struct Checksum {
 }
 
 impl Checksum {
-    /// The checksum of nothing.
+    /// Returns the checksum of nothing.
     pub fn new() -> Checksum {
         Checksum {
             len: 0,

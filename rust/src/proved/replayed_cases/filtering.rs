@@ -1,5 +1,5 @@
 // Made by tools/erase.py from crates/replayed_cases/src/filtering.rt; not edited by hand.
-//! What the filter keeps, and which versions a set contains.
+//! The versions and lines that a filter keeps, and the versions in a set.
 #![cfg(feature = "std")]
 
 use crate::rattle_std::prelude::*;
@@ -14,8 +14,7 @@ use crate::proved::tool_ranges::meaning::Meaning;
 use crate::proved::tool_ranges::version_range::VersionRange;
 use crate::proved::version_sets::PreReleases;
 
-/// Writes the versions of a list, separated by blanks, that are kept of it, or the error of the
-/// text.
+/// Writes the versions of a list, separated by blanks, that are kept, or the error of the range.
 pub fn write_kept<W: Write>(
     text: &str,
     compat: Compat,
@@ -29,7 +28,7 @@ pub fn write_kept<W: Write>(
 }
 
 /// Writes the versions of a list, separated by blanks, that a range contains, or the error of the
-/// text. If it contains other ones by their texts, they follow.
+/// range. If it contains other ones when they are given as strings, those follow.
 pub fn write_passed<W: Write>(
     text: &str,
     compat: Compat,
@@ -55,7 +54,7 @@ pub fn write_passed<W: Write>(
     }
 }
 
-/// A mode and a rule as a meaning.
+/// Returns a mode and a rule as a meaning.
 fn meaning_of(compat: Compat, pre_releases: PreReleases) -> Meaning {
     let dialect = match compat {
         Compat::Cargo => Dialect::CrateCargo,
@@ -67,7 +66,7 @@ fn meaning_of(compat: Compat, pre_releases: PreReleases) -> Meaning {
     }
 }
 
-/// Those of the versions that a range contains.
+/// Returns the versions that a range contains.
 fn contained<'v>(
     range: &VersionRange,
     versions: &'v [Version],
@@ -81,7 +80,8 @@ fn contained<'v>(
     Ok(kept)
 }
 
-/// Whether a range contains by their texts just those versions of a list that were kept.
+/// Returns whether a range contains exactly the kept versions of a list when they are given as
+/// strings.
 fn are_contained(
     range: &VersionRange,
     list: &str,
@@ -105,7 +105,7 @@ fn are_contained(
     left.next().is_none()
 }
 
-/// Writes the highest of those, if there is one.
+/// Writes the highest of the versions that a range contains, if there is one.
 pub fn write_greatest<W: Write>(
     text: &str,
     pre_releases: PreReleases,
@@ -172,7 +172,8 @@ pub fn write_copied<W: Write>(
     write_in_bytes(&mut chosen, lines, kept.as_slice(), out)
 }
 
-/// The lines that a range means in npm mode by the default rule, after a prefix if there is one.
+/// Returns a filter of lines for a range in npm mode by the default rule, after a prefix if there
+/// is one.
 fn lines_of(
     text: &str,
     prefix: &str,
@@ -192,7 +193,8 @@ fn lines_of(
     Ok(Ok(Lines::new(range, prefixes, options)))
 }
 
-/// What a text appends in pieces of so many bytes, and how many of its bytes are not taken.
+/// Returns what a text appends in pieces of a given length, and how many of its bytes are not
+/// taken.
 fn appended(
     lines: &mut Lines,
     text: &str,
@@ -216,7 +218,7 @@ fn appended(
     }
 }
 
-/// Writes whether a text appends something else in pieces of one byte.
+/// Writes whether a text appends something different in pieces of one byte.
 fn write_in_bytes<W: Write>(
     chosen: &mut Lines,
     lines: &str,
@@ -230,7 +232,7 @@ fn write_in_bytes<W: Write>(
     write!(out, ", and something else in bytes")
 }
 
-/// The versions of a list, if each item is one.
+/// Returns the versions of a list, or `None` if an item is invalid.
 pub fn versions_of(list: &str) -> io::Result<Option<Vec<Version>>> {
     let mut versions = Vec::new();
     for item in list.split(' ') {
@@ -255,8 +257,8 @@ fn write_answer<W: Write>(kept: &Result<Vec<&Version>, RangeError>, out: &mut W)
     }
 }
 
-/// Writes the versions of a list, separated by blanks, that the set of a text contains, with
-/// pre-releases, or the error of the text.
+/// Writes the versions of a list, separated by blanks, that the set of a range contains, including
+/// pre-releases, or the error of the range.
 pub fn write_met<W: Write>(
     text: &str,
     compat: Compat,

@@ -1,5 +1,5 @@
 // Made by tools/erase.py from crates/replayed_cases/src/lexing.rt; not edited by hand.
-//! Tokens, written by the names of their variants.
+//! Tokens, written with the names of their variants.
 #![cfg(feature = "std")]
 
 use crate::rattle_std::prelude::*;
@@ -7,7 +7,7 @@ use crate::proved::semver_parser::lexer::{Error, Lexer, Token};
 use crate::rattle_std::io;
 use crate::rattle_std::io::Write;
 
-/// Writes the items of a lexer, and then what two further calls give.
+/// Writes the items of a lexer, and then the results of two more calls.
 pub fn write_lexed<W: Write>(text: &str, out: &mut W) -> io::Result<()> {
     let mut lexer = Lexer::new(text);
     for item in lexer.by_ref() {
@@ -23,7 +23,7 @@ pub fn write_lexed<W: Write>(text: &str, out: &mut W) -> io::Result<()> {
     write!(out, "end")
 }
 
-/// Writes each token of a text, and which of the two kinds that are asked for it is.
+/// Writes each token of a string, and whether it is white space or a wildcard.
 pub fn write_kinds<W: Write>(text: &str, out: &mut W) -> io::Result<()> {
     let mut first = true;
     for item in Lexer::new(text) {

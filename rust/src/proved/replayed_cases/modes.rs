@@ -1,6 +1,6 @@
 // Made by tools/erase.py from crates/replayed_cases/src/modes.rt; not edited by hand.
-//! The calls that read a range in a mode of the crate, which is the first word of their name or the
-//! last one. Of some the word before it is a rule for pre-releases: `npm-exact`, `filter-npm`,
+//! The calls that read a range in a mode of the crate. The mode is the first word of their name, or
+//! the last one. In some, the word before it is a rule for pre-releases: `npm-exact`, `filter-npm`,
 //! `stated-npm`, `set-stated-npm`.
 #![cfg(feature = "std")]
 
@@ -11,7 +11,7 @@ use crate::rattle_std::io;
 use crate::rattle_std::io::Write;
 use crate::proved::version_sets::PreReleases;
 
-/// Writes what a call returns for a text and steps, if there is such a call.
+/// Writes what a call returns for a string and steps, if there is such a call.
 pub fn write_answer<W: Write>(
     call: &str,
     text: &str,
@@ -31,7 +31,7 @@ pub fn write_answer<W: Write>(
     }
 }
 
-/// The mode of a call, and its other words.
+/// Returns the mode of a call, and its other words.
 fn mode_of(call: &str) -> Option<(&str, Compat)> {
     let (first, rest) = call.split_once('-').unwrap_or((call, ""));
     if let Some(mode) = mode(first) {

@@ -9,7 +9,7 @@ use crate::proved::semver_parser::parser::{Error, Parser};
 use crate::rattle_std::io;
 use crate::rattle_std::io::Write;
 
-/// Makes a parser and writes what each of the steps answers.
+/// Creates a parser and writes what each of the steps returns.
 pub fn write_steps<W: Write>(
     text: &str,
     steps: &str,
@@ -82,7 +82,7 @@ fn write_number<W: Write>(answer: Result<u64, Error<'_>>, out: &mut W) -> io::Re
     }
 }
 
-/// Writes an error by the names of its parts.
+/// Writes an error with the names of its parts.
 pub fn write_error<W: Write>(error: &Error<'_>, out: &mut W) -> io::Result<()> {
     match error {
         Error::UnexpectedToken(token) => {

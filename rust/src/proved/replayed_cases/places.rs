@@ -1,5 +1,5 @@
 // Made by tools/erase.py from crates/replayed_cases/src/places.rt; not edited by hand.
-//! Texts that give no range: where, and why.
+//! Invalid ranges: the offset and the reason of the error.
 #![cfg(feature = "std")]
 
 use crate::rattle_std::prelude::*;
@@ -8,7 +8,7 @@ use crate::rattle_std::io::Write;
 use crate::proved::tool_ranges::dialect::Dialect;
 use crate::proved::tool_ranges::refusals::refused;
 
-/// Writes where and why the text gives no range, or that it gives one.
+/// Writes the offset and the reason of a range's error, or that it is valid.
 pub fn write_refused<W: Write>(
     text: &str,
     dialect: Dialect,

@@ -1,5 +1,5 @@
 // Made by tools/erase.py from crates/replayed_cases/src/prefixes.rt; not edited by hand.
-//! Texts that are no versions: where and why.
+//! Invalid versions: the offset and the reason of the error.
 #![cfg(feature = "std")]
 
 use crate::rattle_std::prelude::*;
@@ -8,7 +8,7 @@ use crate::proved::semver_parser::version::Grammar;
 use crate::rattle_std::io;
 use crate::rattle_std::io::Write;
 
-/// Writes where and why the text is no version, or that it is one.
+/// Writes the offset and the reason of a version's error, or that it is valid.
 pub fn write_refused<W: Write>(
     text: &str,
     grammar: Grammar,

@@ -1,5 +1,5 @@
 // Made by tools/erase.py from crates/replayed_cases/src/reporting.rt; not edited by hand.
-//! The lines of the report, and the status that follows.
+//! The lines of the report, and the status after it.
 #![cfg(feature = "std")]
 
 use crate::rattle_std::prelude::*;
@@ -7,7 +7,7 @@ use crate::proved::semver_parser::report;
 use crate::rattle_std::io;
 use crate::rattle_std::io::Write;
 
-/// Writes the lines of a text, each followed by `; `, and the status.
+/// Writes the lines for a string, each followed by `; `, and the status.
 pub fn write_report<W: Write>(text: &str, out: &mut W) -> io::Result<()> {
     let mut bytes = Vec::new();
     let ran = report::run(text, &mut bytes);

@@ -1,5 +1,5 @@
 // Made by tools/erase.py from crates/replayed_cases/src/sets.rt; not edited by hand.
-//! Sets of the versions that range texts mean, and how two of them compare.
+//! Sets of the versions that satisfy ranges, and how two of them compare.
 #![cfg(feature = "std")]
 
 use crate::rattle_std::prelude::*;
@@ -14,8 +14,8 @@ use crate::proved::version_sets::{PreReleases, SetError, VersionSet};
 /// A rule for pre-releases, and a mode.
 pub type Rule = (PreReleases, Compat);
 
-/// Writes the versions of a list, separated by blanks, that are in the set of a text, then its
-/// lowest version and its lowest release, or the error of the text.
+/// Writes the versions of a list, separated by blanks, that are in the set of a range, then its
+/// lowest version and its lowest release, or the error of the range.
 pub fn write_set<W: Write>(
     rule: Rule,
     text: &str,
@@ -44,9 +44,9 @@ pub fn write_set<W: Write>(
     write!(out, ", empty {}", set.is_empty())
 }
 
-/// Writes how the sets of two texts compare, or the error of a text. The second text
-/// may have a semicolon after it and then versions, separated by blanks: of each is written what
-/// it is in.
+/// Writes how the sets of two ranges compare, or the error of a range. After the second range there
+/// may be a semicolon and versions, separated by blanks: for each of them, the sets that contain it
+/// are written.
 pub fn write_pair<W: Write>(
     rule: Rule,
     text: &str,
@@ -76,7 +76,7 @@ pub fn write_pair<W: Write>(
     Ok(())
 }
 
-/// Writes the releases and the pre-releases that a text means as ranges, or the error of the text.
+/// Writes the releases and the pre-releases in a range as ranges, or the error of the range.
 pub fn write_whole<W: Write>(rule: Rule, text: &str, out: &mut W) -> io::Result<()> {
     match set_of(rule, text) {
         Ok(set) => write_ranges(&set, out),
@@ -84,8 +84,8 @@ pub fn write_whole<W: Write>(rule: Rule, text: &str, out: &mut W) -> io::Result<
     }
 }
 
-/// Writes what the second of two texts loses, gains and keeps of the first as ranges, or the error
-/// of a text.
+/// Writes what the second of two ranges loses, gains and shares compared with the first, as ranges,
+/// or the error of a range.
 pub fn write_whole_pair<W: Write>(
     rule: Rule,
     text: &str,
@@ -111,14 +111,14 @@ pub fn write_whole_pair<W: Write>(
     write_ranges(&parts.shared, out)
 }
 
-/// Writes the releases and the pre-releases of a set as ranges.
+/// Writes the releases and the pre-releases in a set as ranges.
 fn write_ranges<W: Write>(set: &VersionSet, out: &mut W) -> io::Result<()> {
     let releases = set.release_ranges()?;
     let pre_releases = set.pre_release_ranges()?;
     write!(out, "{releases}, pre-releases {pre_releases}")
 }
 
-/// What two sets have alone and together.
+/// The differences, the intersection and the union of two sets.
 struct Parts {
     lost: VersionSet,
     gained: VersionSet,
@@ -137,8 +137,8 @@ impl Parts {
     }
 }
 
-/// Writes the lowest versions that the first set has alone, the second has alone, and both have,
-/// and whether the first is within the second, both overlap, and are the same.
+/// Writes the lowest versions that are only in the first set, only in the second, and in both, and
+/// whether the first is a subset of the second, whether they overlap, and whether they are equal.
 fn write_compared<W: Write>(
     first: &VersionSet,
     second: &VersionSet,
@@ -157,7 +157,7 @@ fn write_compared<W: Write>(
     write!(out, ", within {within}, overlaps {overlaps}, same {same}")
 }
 
-/// Writes what a version is in.
+/// Writes the sets that contain a version.
 fn write_places<W: Write>(
     version: &Version,
     first: &VersionSet,
@@ -189,7 +189,7 @@ fn write_lowest<W: Write>(set: &VersionSet, out: &mut W) -> io::Result<()> {
     }
 }
 
-/// The set of a text.
+/// Returns the set of a range.
 fn set_of(rule: Rule, text: &str) -> Result<VersionSet, RangeError> {
     let (pre_releases, compat) = rule;
     let dialect = match compat {

@@ -1,11 +1,11 @@
 // Made by tools/erase.py from crates/replayed_cases/src/text.rt; not edited by hand.
-//! Texts of the table, where `\n`, `\r`, `\t` and `\\` are characters, and `\(3,a,-)` for
-//! `a-a-a`. In a unit that is so repeated `\#` is its index: `\(3,a\#,.)` is `a0.a1.a2`.
+//! Strings of the table. `\n`, `\r`, `\t` and `\\` are escapes, and `\(3,a,-)` stands for `a-a-a`.
+//! In a unit that is repeated like this, `\#` is its index: `\(3,a\#,.)` is `a0.a1.a2`.
 
 use crate::rattle_std::prelude::*;
 use crate::rattle_std::AllocError;
 
-/// The text that is meant, or none where it isn't well written.
+/// Returns the string that an escaped one stands for, or `None` if it isn't well-formed.
 pub fn expanded(escaped: &str) -> Result<Option<String>, AllocError> {
     let mut text = String::new();
     for (i, piece) in escaped.split("\\(").enumerate() {
@@ -27,8 +27,8 @@ pub fn expanded(escaped: &str) -> Result<Option<String>, AllocError> {
     Ok(Some(text))
 }
 
-/// Appends what `count,unit,joiner` means: so many units, joined. False where it isn't well
-/// written.
+/// Appends the units, joined, that `count,unit,joiner` stands for. Returns false if it isn't
+/// well-formed.
 fn push_repeated(text: &mut String, repeated: &str) -> Result<bool, AllocError> {
     let Some((count, rest)) = repeated.split_once(',') else {
         return Ok(false);
@@ -50,8 +50,8 @@ fn push_repeated(text: &mut String, repeated: &str) -> Result<bool, AllocError> 
     Ok(true)
 }
 
-/// Appends a text without repetitions, which is at a place of a list or at none. False where an
-/// escape isn't known.
+/// Appends a string without repetitions, for an index in a list if there is one. Returns false if
+/// an escape isn't known.
 fn push_unescaped(
     text: &mut String,
     escaped: &str,
@@ -76,7 +76,7 @@ fn push_unescaped(
     Ok(!is_escape)
 }
 
-/// The character that an escape means.
+/// Returns the character that an escape stands for.
 fn escape(character: char) -> Option<char> {
     match character {
         'n' => Some('\n'),

@@ -1,5 +1,5 @@
 // Made by tools/erase.py from crates/replayed_cases/src/versions.rt; not edited by hand.
-//! Versions, by their fields and as they print.
+//! Versions, written by their fields and as they are printed.
 #![cfg(feature = "std")]
 
 use crate::rattle_std::prelude::*;
@@ -10,7 +10,7 @@ use crate::proved::semver_parser::version::{Grammar, Identifier, Version};
 use crate::rattle_std::io;
 use crate::rattle_std::io::Write;
 
-/// Writes the fields of a version, or the error that is in its place.
+/// Writes the fields of a version, or the error instead.
 pub fn write_version<W: Write>(answer: &Result<Version, Error<'_>>, out: &mut W) -> io::Result<()> {
     match answer {
         Ok(version) => write_fields(version, out),
@@ -18,7 +18,7 @@ pub fn write_version<W: Write>(answer: &Result<Version, Error<'_>>, out: &mut W)
     }
 }
 
-/// Writes the fields of the version that a text spells, or `none` where it spells none.
+/// Writes the fields of the version that a string spells, or `none` if it spells none.
 pub fn write_read<W: Write>(text: &str, out: &mut W) -> io::Result<()> {
     match version::read(text) {
         Ok(Some(version)) => write_fields(&version, out),
@@ -27,7 +27,7 @@ pub fn write_read<W: Write>(text: &str, out: &mut W) -> io::Result<()> {
     }
 }
 
-/// Writes the fields of the version that a text spells in a dialect, or `none` if it spells none.
+/// Writes the fields of the version that a string spells in a dialect, or `none` if it spells none.
 pub fn write_read_in<W: Write>(
     text: &str,
     grammar: Grammar,
@@ -42,7 +42,7 @@ pub fn write_read_in<W: Write>(
     }
 }
 
-/// Writes the outline of the version that a text spells, or `none` where it spells none.
+/// Writes the borrowed version that a string spells, or `none` if it spells none.
 pub fn write_outline<W: Write>(text: &str, out: &mut W) -> io::Result<()> {
     let Some(outline) = version::outline(text) else {
         return write!(out, "none");
@@ -61,7 +61,7 @@ fn write_fields<W: Write>(version: &Version, out: &mut W) -> io::Result<()> {
     write!(out, "]")
 }
 
-/// Writes what the version prints, or its error.
+/// Writes the printed version, or its error.
 pub fn write_printed<W: Write>(text: &str, out: &mut W) -> io::Result<()> {
     match version::parse(text) {
         Ok(version) => write!(out, "{version}"),
@@ -69,7 +69,7 @@ pub fn write_printed<W: Write>(text: &str, out: &mut W) -> io::Result<()> {
     }
 }
 
-/// Writes the text of the error that reading a version answers.
+/// Writes the text of the error that reading a version returns.
 pub fn write_error_text<W: Write>(text: &str, out: &mut W) -> io::Result<()> {
     match version::parse(text) {
         Ok(_) => write!(out, "no error"),
@@ -80,7 +80,7 @@ pub fn write_error_text<W: Write>(text: &str, out: &mut W) -> io::Result<()> {
     }
 }
 
-/// Writes the identifier that a text is and another text are joined to.
+/// Writes an identifier of one string followed by another string.
 pub fn write_joined<W: Write>(
     text: &str,
     added: &str,
@@ -106,7 +106,7 @@ fn write_identifiers<W: Write>(identifiers: &[Identifier], out: &mut W) -> io::R
     Ok(())
 }
 
-/// Writes an identifier by its variant.
+/// Writes an identifier with its variant.
 pub fn write_identifier<W: Write>(identifier: &Identifier, out: &mut W) -> io::Result<()> {
     match identifier {
         Identifier::Numeric(number) => write!(out, "Numeric({number})"),

@@ -1,5 +1,5 @@
 // Made by tools/erase.py from crates/semver_parser_main/src/main.rt; not edited by hand.
-//! The program `semver-parser [TEXT]`: arguments and exit status, nothing else.
+//! The program `semver-parser [TEXT]`: arguments and exit status.
 #![cfg(feature = "std")]
 
 use crate::rattle_std::prelude::*;
@@ -8,14 +8,14 @@ use crate::rattle_std::env;
 use crate::rattle_std::process::ExitCode;
 use crate::rattle_std::rt::Env;
 
-/// What the text is where no argument is given.
+/// The string if there is no argument.
 const DEFAULT_TEXT: &str = "1.2.3";
 
-/// The arguments were not one text at most.
+/// The error if there is not at most one argument.
 enum Refusal {
-    /// They can't be read.
+    /// The arguments can't be read.
     Unreadable,
-    /// There is more than one.
+    /// There is more than one argument.
     TooMany,
 }
 
@@ -33,7 +33,7 @@ pub fn main(rt: HostRuntime) -> ExitCode {
     ExitCode::from(report::status(&ran))
 }
 
-/// The one argument, or none.
+/// Returns the only argument, or `None` if there is none.
 fn only_argument(rt: &(impl Env + AllocGlobal)) -> Result<Option<String>, Refusal> {
     let Ok(mut arguments) = env::args(rt) else {
         return Err(Refusal::Unreadable);
@@ -46,13 +46,14 @@ fn only_argument(rt: &(impl Env + AllocGlobal)) -> Result<Option<String>, Refusa
     Ok(text)
 }
 
-/// Says why on standard error, and gives the status of arguments that aren't one text at most.
+/// Writes the reason to standard error, and returns the status for arguments that aren't at most
+/// one string.
 fn refused(rt: &impl Eprint, why: &str) -> ExitCode {
     say(rt, why);
     ExitCode::from(2)
 }
 
-/// Writes why to standard error. If that fails, the exit status stays as it is.
+/// Writes the reason to standard error. If that fails, the exit status stays as it is.
 fn say(rt: &impl Eprint, why: &str) {
     let _ = crate::rattle_std::fallible_eprintln!(rt; "{why}");
 }

@@ -1,5 +1,5 @@
 // Made by tools/erase.py from crates/library_tests/src/refused/filters.rt; not edited by hand.
-//! What is kept of versions and lines.
+//! Filters of versions and lines.
 #![cfg(feature = "std")]
 
 use crate::rattle_std::prelude::*;
@@ -12,8 +12,8 @@ use crate::proved::tool_ranges::meaning::Meaning;
 use crate::proved::tool_ranges::version_range::VersionRange;
 use crate::proved::version_sets::PreReleases;
 
-/// `^0.2 || 2.x` on five versions, one of them a pre-release, keeps three. Making the list is part
-/// of the call.
+/// Filters five versions, one of them a pre-release, by `^0.2 || 2.x`, which keeps three. Making
+/// the list is part of the call.
 pub fn filter() -> Ending {
     let mut versions = Vec::new();
     for text in ["0.2.0", "0.3.0", "2.0.0-rc", "2.5.0", "2.5.0"] {
@@ -62,7 +62,7 @@ pub fn sorted_lines() -> Ending {
     ends(Selection::Sorted, "1.9.0+build\n1.2.0-rc.b", sorted)
 }
 
-/// More than 20 lines, which are sorted without a buffer too. The lowest of them is the last.
+/// More than 20 lines, which are sorted without a buffer, too. The lowest of them is the last.
 pub fn many_sorted_lines() -> Ending {
     ends(
         Selection::Sorted,
@@ -78,8 +78,8 @@ pub fn line_without_an_end() -> Ending {
     ends(Selection::Each, "1.2.0-rc.b", "1.2.0-rc.b")
 }
 
-/// The last line of a file is held, and appended with an end when the file ends. After a refusal
-/// nothing was.
+/// The last line of a file is held, and appended with an end when the file ends. If it is out of
+/// memory, nothing is appended.
 pub fn line_of_a_file() -> Ending {
     let range = match below_two() {
         Ok(range) => range,
@@ -94,7 +94,7 @@ pub fn line_of_a_file() -> Ending {
     Ending::full_if(kept.as_slice() == "1.2.0-rc.b\n".as_bytes())
 }
 
-/// Lines that aren't kept don't allocate; of lines without a version the prefix of the first is
+/// Lines that aren't kept don't allocate. Of lines without a version, the beginning of the first is
 /// held.
 pub fn lines_passed_over() -> Ending {
     ends(Selection::Each, "2.1.0-a\n\nx\n1.2\n2.1.0\n", "")
@@ -103,7 +103,7 @@ pub fn lines_passed_over() -> Ending {
 /// The lines that are filtered. Those of 2.0.0 and above are not kept.
 const LINES: &str = "1.2.0-rc.b\n2.1.0-rc.a\n2.0.0\n1.9.0+build\n";
 
-/// The range `<2` of the crate in Cargo mode, with its pre-releases.
+/// Returns the range `<2` of the crate in Cargo mode, with its pre-releases.
 fn below_two() -> Result<VersionRange, Ending> {
     let meaning = Meaning {
         dialect: Dialect::CrateCargo,
@@ -116,9 +116,9 @@ fn below_two() -> Result<VersionRange, Ending> {
     }
 }
 
-/// How the lines of a text end that `<2` filters, with its pre-releases, if this is what they
-/// append. After a refusal a beginning of it was appended, and the counts are those of the lines
-/// before.
+/// Returns how filtering the lines of a text by `<2`, with its pre-releases, ends if its output has
+/// to be this. If it is out of memory, a prefix of the output was appended, and the counts are
+/// those of the lines before.
 fn ends(wanted: Selection, text: &str, appended: &str) -> Ending {
     let range = match below_two() {
         Ok(range) => range,
@@ -140,7 +140,7 @@ fn ends(wanted: Selection, text: &str, appended: &str) -> Ending {
     Ending::full_if(kept.as_slice() == appended.as_bytes())
 }
 
-/// How many lines have an end.
+/// Returns how many lines have an end.
 fn count_of_ends(lines: &[u8]) -> u64 {
     let mut count = 0u64;
     for byte in lines {
@@ -151,7 +151,7 @@ fn count_of_ends(lines: &[u8]) -> u64 {
     count
 }
 
-/// Texts that are refused are refused without a request, whatever the list.
+/// Invalid strings give an error without a request, whatever the list is.
 pub fn refused_texts() -> Ending {
     let not_a_range = filter_text("|", Compat::Npm, &[]);
     let too_large = filter_text("<=18446744073709551615", Compat::Cargo, &[]);

@@ -7,7 +7,7 @@ use super::Ending;
 use crate::proved::semver_parser::parser::Error;
 use crate::proved::semver_parser::version::Identifier;
 
-/// `Numeric(5)` and `x`: refused, the number is given back.
+/// Appends `x` to `Numeric(5)`. If it is out of memory, it returns the number.
 pub fn concat_of_a_number() -> Ending {
     match Identifier::Numeric(5).try_concat("x") {
         Ok(Identifier::AlphaNumeric(text)) => Ending::full_if(text.as_str() == "5x"),
@@ -16,7 +16,7 @@ pub fn concat_of_a_number() -> Ending {
     }
 }
 
-/// `AlphaNumeric("a")` and `-b`: refused, the text is given back.
+/// Appends `-b` to `AlphaNumeric("a")`. If it is out of memory, it returns the string.
 pub fn concat_of_a_text() -> Ending {
     let Ok(text) = "a".fallible_to_string() else {
         return Ending::Refused;
@@ -28,7 +28,7 @@ pub fn concat_of_a_text() -> Ending {
     }
 }
 
-/// The text of an error.
+/// Makes the text of an error.
 pub fn error_text() -> Ending {
     match Error::UnexpectedEnd.text() {
         Ok(text) => Ending::full_if(text.as_str() == "expected more input"),

@@ -1,5 +1,5 @@
 // Made by tools/erase.py from crates/library_tests/src/refused/parsers.rt; not edited by hand.
-//! Calls of a parser.
+//! Methods of a parser.
 #![cfg(feature = "std")]
 
 use crate::rattle_std::prelude::*;
@@ -10,8 +10,8 @@ use crate::proved::semver_parser::lexer::Token;
 use crate::proved::semver_parser::parser::{Error, Parser};
 use crate::proved::semver_parser::version::Identifier;
 
-/// `identifier` on `a-b-1.2/`: refused, it leaves an end part of the tokens, and the bad character
-/// after them.
+/// `identifier` on `a-b-1.2/`. If it is out of memory, it leaves a final part of the tokens, and
+/// the bad character after them.
 pub fn identifier() -> Ending {
     let Ok(mut parser) = Parser::new("a-b-1.2/") else {
         return Ending::Wrong;
@@ -25,8 +25,8 @@ pub fn identifier() -> Ending {
     }
 }
 
-/// `version` on `1.2.3-a-b.c+d 4/`: refused, it leaves an end part of the tokens, and the bad
-/// character after them.
+/// `version` on `1.2.3-a-b.c+d 4/`. If it is out of memory, it leaves a final part of the tokens,
+/// and the bad character after them.
 pub fn version() -> Ending {
     let Ok(mut parser) = Parser::new("1.2.3-a-b.c+d 4/") else {
         return Ending::Wrong;
@@ -40,7 +40,7 @@ pub fn version() -> Ending {
     }
 }
 
-/// At most so many tokens are taken before the bad character is read.
+/// Returns whether at most this number of tokens are taken before the bad character is read.
 fn leads_to_a_slash(parser: &mut Parser<'_>, tokens: u32) -> bool {
     for _ in 0..tokens {
         if matches!(
@@ -53,7 +53,8 @@ fn leads_to_a_slash(parser: &mut Parser<'_>, tokens: u32) -> bool {
     false
 }
 
-/// `tail` on `1.2.3 a.b.c`: refused, it changes nothing, so the next call gives all eleven tokens.
+/// `tail` on `1.2.3 a.b.c`. If it is out of memory, it changes nothing, so the next call returns
+/// all eleven tokens.
 pub fn tail() -> Ending {
     let Ok(mut parser) = Parser::new("1.2.3 a.b.c") else {
         return Ending::Wrong;
@@ -86,7 +87,7 @@ fn are_all_eleven(tokens: &[Token<'_>]) -> bool {
         .as_slice()
 }
 
-/// `tail` on `1 /` makes no request: the bad character is its answer.
+/// `tail` on `1 /` makes no request, since it returns the error for the bad character.
 pub fn tail_before_a_bad_character() -> Ending {
     let Ok(mut parser) = Parser::new("1 /") else {
         return Ending::Wrong;
@@ -102,7 +103,7 @@ pub fn tail_before_a_bad_character() -> Ending {
     Ending::full_if(first && second && parser.is_eof())
 }
 
-/// `tail` on the empty text makes no request.
+/// `tail` on the empty string makes no request.
 pub fn tail_of_nothing() -> Ending {
     let Ok(mut parser) = Parser::new("") else {
         return Ending::Wrong;

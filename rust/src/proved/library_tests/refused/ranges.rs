@@ -1,5 +1,5 @@
 // Made by tools/erase.py from crates/library_tests/src/refused/ranges.rt; not edited by hand.
-//! Calls that read a range set, and its clone.
+//! Functions that read a range set, and its clone.
 #![cfg(feature = "std")]
 
 use crate::rattle_std::prelude::*;
@@ -15,17 +15,17 @@ const TEXT: &str = "^1.2.3-beta.4 || 2.x";
 
 const PRINTED: &str = ">=1.2.3-beta.4 <2.0.0 || >=2.0.0 <3.0.0";
 
-/// The set of two ranges, in a mode.
+/// Reads two ranges in a mode.
 pub fn parse(compat: Compat) -> Ending {
     parse_text(TEXT, PRINTED, compat)
 }
 
-/// The set of a text, in a mode, which prints as another.
+/// Reads a string in a mode, whose set is printed as another string.
 pub fn parse_text(text: &str, printed: &str, compat: Compat) -> Ending {
     ending(RangeSet::try_parse(text, compat), printed, compat)
 }
 
-/// As `parse_text`, with exact bounds.
+/// Reads a string like `parse_text`, with exact bounds.
 pub fn parse_exact_text(text: &str, printed: &str, compat: Compat) -> Ending {
     ending(RangeSet::parse_exact(text, compat), printed, compat)
 }
@@ -38,7 +38,7 @@ fn ending(read: Result<RangeSet, RangeError>, printed: &str, compat: Compat) -> 
     }
 }
 
-/// The set of a requirement, as Cargo itself reads it.
+/// Reads a requirement in Cargo's dialect.
 pub fn requirement() -> Ending {
     ending(
         cargo::rewrite("1.2, >1, <3.0.0-rc"),
@@ -47,7 +47,7 @@ pub fn requirement() -> Ending {
     )
 }
 
-/// Requirements that are refused for their grammar or their numbers are refused without a request.
+/// Requirements that are invalid by their grammar or their numbers give an error without a request.
 pub fn refused_requirements() -> Ending {
     let no_comma = cargo::rewrite("1 2");
     let tab = cargo::rewrite("1,\t2");
@@ -61,7 +61,7 @@ pub fn refused_requirements() -> Ending {
     )
 }
 
-/// The set of a range text, as npm itself reads it.
+/// Reads a range in npm's dialect.
 pub fn npm_range() -> Ending {
     ending(
         npm::rewrite(">1.2 <3 || v1.2.3-b"),
@@ -70,7 +70,7 @@ pub fn npm_range() -> Ending {
     )
 }
 
-/// Range texts of npm that are refused for their grammar or their numbers are refused without a
+/// Ranges of npm that are invalid by their grammar or their numbers give an error without a
 /// request.
 pub fn refused_npm_ranges() -> Ending {
     let comma = npm::rewrite("1, 2");
@@ -85,7 +85,7 @@ pub fn refused_npm_ranges() -> Ending {
     )
 }
 
-/// The same in Cargo mode.
+/// Reads a range set by `from_str`, in Cargo mode.
 pub fn from_str() -> Ending {
     match RangeSet::try_from_str(TEXT) {
         Ok(set) => Ending::full_if(prints_as(&set, PRINTED)),
@@ -94,7 +94,7 @@ pub fn from_str() -> Ending {
     }
 }
 
-/// The sizes of eight ranges are remembered, and that of a ninth is counted ahead.
+/// Reads nine ranges: the sizes of eight are remembered, and capacity for the ninth is guessed.
 pub fn ninth_range() -> Ending {
     parse_text(
         "<1||<2||<3||<4||<5||<6||<7||<8||1 2 3",
@@ -104,7 +104,7 @@ pub fn ninth_range() -> Ending {
     )
 }
 
-/// Texts that are refused for their grammar or their numbers are refused without a request.
+/// Strings that are invalid by their grammar or their numbers give an error without a request.
 pub fn refused_texts() -> Ending {
     for compat in [Compat::Cargo, Compat::Npm] {
         let half_a_bar = RangeSet::try_parse("|", compat);
@@ -121,7 +121,7 @@ pub fn refused_texts() -> Ending {
     Ending::Full
 }
 
-/// Where a text stops being a range. What gives one is refused nothing, without a request.
+/// Finds the offset of an invalid range. A valid range makes no request.
 pub fn range_error() -> Ending {
     if !matches!(refused(Dialect::Npm, "1.2 || 3"), Ok(None)) {
         return Ending::Wrong;
@@ -133,10 +133,10 @@ pub fn range_error() -> Ending {
     }
 }
 
-/// 9,999 times two bars, and one more: 10,000 ranges and half of what parts them from the next.
+/// 9,999 times two bars, and one more bar: 10,000 ranges and half of a separator.
 const BARS: [u8; 19_999] = [b'|'; 19_999];
 
-/// A long text that is refused at its end is refused without a request.
+/// A long string with an error at its end gives the error without a request.
 pub fn refused_at_the_end() -> Ending {
     let Ok(text) = crate::rattle_std::str::from_utf8(&BARS) else {
         return Ending::Wrong;
@@ -152,7 +152,7 @@ pub fn refused_at_the_end() -> Ending {
     Ending::Full
 }
 
-/// A clone equals its source, or finds no memory and leaves the source as it was.
+/// A clone equals its source, or is out of memory and leaves the source as it was.
 pub fn clone() -> Ending {
     let Ok(set) = RangeSet::try_parse(TEXT, Compat::Npm) else {
         return Ending::Refused;
@@ -167,7 +167,7 @@ pub fn clone() -> Ending {
     }
 }
 
-/// The set prints as the text.
+/// Returns whether the set is printed as the string.
 fn prints_as(set: &RangeSet, text: &str) -> bool {
     let mut out = Fixed::new();
     write!(out, "{set}").is_ok() && out.as_bytes() == text.as_bytes()

@@ -7,7 +7,8 @@ use super::Ending;
 use super::fixed::Fixed;
 use crate::proved::semver_parser::report;
 
-/// A line whose value can't be read or printed, out of memory, says so, and the report goes on.
+/// Makes a report. A line whose value can't be read or printed says that it is out of memory, and
+/// the report goes on.
 pub fn report() -> Ending {
     let mut out = Fixed::new();
     let ran = report::run("1.2.3", &mut out);
@@ -27,7 +28,7 @@ pub fn report() -> Ending {
     }
 }
 
-/// Where each line has an error without memory, none is asked for.
+/// If each line has an error that doesn't allocate, no request is made.
 pub fn report_of_errors() -> Ending {
     let mut out = Fixed::new();
     let ran = report::run("/", &mut out);

@@ -11,7 +11,7 @@ use crate::proved::tool_ranges::dialect::Dialect;
 use crate::proved::tool_ranges::meaning::{self, Meaning};
 use crate::proved::version_sets::{PreReleases, SetRanges, VersionSet};
 
-/// What a range means in a dialect, with the pre-releases that count by default.
+/// Returns the meaning of a dialect with the pre-releases that count by default.
 fn by_default(dialect: Dialect) -> Meaning {
     Meaning {
         dialect,
@@ -19,7 +19,7 @@ fn by_default(dialect: Dialect) -> Meaning {
     }
 }
 
-/// What it means with each pre-release within its bounds.
+/// Returns the meaning of a dialect with each pre-release within the bounds.
 fn within(dialect: Dialect) -> Meaning {
     Meaning {
         dialect,
@@ -27,15 +27,15 @@ fn within(dialect: Dialect) -> Meaning {
     }
 }
 
-/// The sets of `>=1.2.0-b.c` as stated and of `<2.0.0` with all pre-releases, which the calls below
-/// are given.
+/// Returns the sets for the calls below: that of `>=1.2.0-b.c` by default, and that of `<2.0.0`
+/// with all pre-releases.
 pub fn of_texts() -> Result<(VersionSet, VersionSet), Ending> {
     let first = set_of(">=1.2.0-b.c", by_default(Dialect::CrateNpm))?;
     let second = set_of("<2.0.0", within(Dialect::CrateNpm))?;
     Ok((first, second))
 }
 
-/// The set of a text.
+/// Returns the set of a string.
 fn set_of(text: &str, meaning: Meaning) -> Result<VersionSet, Ending> {
     match meaning::read(meaning, text) {
         Ok(set) => Ok(set),
@@ -44,7 +44,7 @@ fn set_of(text: &str, meaning: Meaning) -> Result<VersionSet, Ending> {
     }
 }
 
-/// Texts that are refused are refused without a request.
+/// Invalid strings give an error without a request.
 pub fn of_refused_texts() -> Ending {
     let not_a_range = meaning::read(within(Dialect::CrateNpm), "|");
     let too_large = meaning::read(within(Dialect::CrateCargo), "<=18446744073709551615");
@@ -54,7 +54,8 @@ pub fn of_refused_texts() -> Ending {
     )
 }
 
-/// The versions that a requirement means to Cargo: 1.2.0-c is stated, and 1.3.0-c isn't.
+/// Reads a requirement in Cargo's dialect into its set. Its term names 1.2.0, so the set contains
+/// 1.2.0-c, and not 1.3.0-c.
 pub fn of_requirement() -> Ending {
     match meaning::read(by_default(Dialect::Cargo), "^1.2, >=1.2.0-b") {
         Ok(set) => Ending::full_if(
@@ -65,7 +66,7 @@ pub fn of_requirement() -> Ending {
     }
 }
 
-/// Requirements that are refused are refused without a request.
+/// Invalid requirements give an error without a request.
 pub fn of_refused_requirements() -> Ending {
     let not_a_range = meaning::read(by_default(Dialect::Cargo), "1.2.3-a, >=1 <2");
     let too_large = meaning::read(
@@ -78,8 +79,8 @@ pub fn of_refused_requirements() -> Ending {
     )
 }
 
-/// The versions that two range texts mean to npm. The first contains 1.2.0-c, and not 1.3.0-c. The
-/// second contains every release.
+/// Reads two ranges in npm's dialect into their sets. The first contains 1.2.0-c, and not 1.3.0-c.
+/// The second contains every release.
 pub fn of_npm_ranges() -> Ending {
     let asked = match meaning::read(by_default(Dialect::Npm), ">=0 >=1.2.0-b <1.5 || 3.x") {
         Ok(set) => set,
@@ -96,7 +97,7 @@ pub fn of_npm_ranges() -> Ending {
     }
 }
 
-/// Range texts of npm that are refused are refused without a request.
+/// Invalid ranges of npm give an error without a request.
 pub fn of_refused_npm_ranges() -> Ending {
     let not_a_range = meaning::read(by_default(Dialect::Npm), "1.2.3-a || >=1, <2");
     let too_large = meaning::read(
@@ -109,8 +110,8 @@ pub fn of_refused_npm_ranges() -> Ending {
     )
 }
 
-/// The versions within the bounds of a requirement and of a range text of npm: both begin with a
-/// pre-release.
+/// Reads a requirement and a range of npm into their sets with each pre-release within the bounds.
+/// Both begin with a pre-release.
 pub fn within_bounds() -> Ending {
     let requirement = match meaning::read(within(Dialect::Cargo), "^1.2, <1.5.0-b") {
         Ok(set) => set,
@@ -127,7 +128,7 @@ pub fn within_bounds() -> Ending {
     }
 }
 
-/// Those that are refused are refused without a request.
+/// Invalid ones give an error without a request.
 pub fn of_refused_bounds() -> Ending {
     let not_a_range = meaning::read(within(Dialect::Cargo), "1.2.3-a, >=1 <2");
     let no_npm_range = meaning::read(within(Dialect::Npm), "1.2 || >=1, <2");
@@ -144,7 +145,7 @@ pub fn of_refused_bounds() -> Ending {
     )
 }
 
-/// The union has both sets, and 0.0.0 of the second is its lowest release.
+/// The union contains both sets, and its lowest release is 0.0.0, which is in the second.
 pub fn union(first: &VersionSet, second: &VersionSet) -> Ending {
     match first.union(second) {
         Ok(set) => Ending::full_if(
@@ -154,7 +155,7 @@ pub fn union(first: &VersionSet, second: &VersionSet) -> Ending {
     }
 }
 
-/// The intersection is within both sets, and 1.2.0 is its lowest release.
+/// The intersection is a subset of both sets, and its lowest release is 1.2.0.
 pub fn intersection(first: &VersionSet, second: &VersionSet) -> Ending {
     match first.intersection(second) {
         Ok(set) => Ending::full_if(
@@ -164,7 +165,8 @@ pub fn intersection(first: &VersionSet, second: &VersionSet) -> Ending {
     }
 }
 
-/// What the second set has alone is within it and apart from the first, and begins with 0.0.0.
+/// The difference of the second set and the first is a subset of the second, disjoint from the
+/// first, and begins with 0.0.0.
 pub fn difference(first: &VersionSet, second: &VersionSet) -> Ending {
     match second.difference(first) {
         Ok(set) => Ending::full_if(
@@ -183,7 +185,7 @@ pub fn lowest(first: &VersionSet) -> Ending {
     }
 }
 
-/// From the first set to the second 2.0.0 is lost, 0.0.0-0 is gained, and 1.2.0-b.c is shared.
+/// From the first set to the second, 2.0.0 is lost, 0.0.0-0 is gained, and 1.2.0-b.c is shared.
 pub fn compared(first: &VersionSet, second: &VersionSet) -> Ending {
     let Ok(answer) = first.compare(second) else {
         return Ending::Refused;
@@ -198,7 +200,7 @@ pub fn compared(first: &VersionSet, second: &VersionSet) -> Ending {
     Ending::full_if(is_lost && is_gained && is_shared)
 }
 
-/// The releases of the first set are `>=1.2.0`.
+/// The releases in the first set are `>=1.2.0`.
 pub fn release_ranges(first: &VersionSet) -> Ending {
     match first.release_ranges() {
         Ok(ranges) => Ending::full_if(has_bounds(&ranges, 1)),
@@ -206,7 +208,7 @@ pub fn release_ranges(first: &VersionSet) -> Ending {
     }
 }
 
-/// The pre-releases of the first set are `>=1.2.0-b.c <1.2.0`.
+/// The pre-releases in the first set are `>=1.2.0-b.c <1.2.0`.
 pub fn pre_release_ranges(first: &VersionSet) -> Ending {
     match first.pre_release_ranges() {
         Ok(ranges) => Ending::full_if(has_bounds(&ranges, 2)),
@@ -214,8 +216,8 @@ pub fn pre_release_ranges(first: &VersionSet) -> Ending {
     }
 }
 
-/// What is asked of sets without a request: also the lowest version where there is none, a
-/// combination that has no version, a comparison of sets that have none, and their ranges.
+/// Calls for sets that make no request. They include the lowest version if there is none, a
+/// combination without versions, a comparison of empty sets, and the ranges of these.
 pub fn without_requests(first: &VersionSet, second: &VersionSet) -> Ending {
     let empty = VersionSet::empty(Digits::Kept);
     let is_told = empty.is_empty()
@@ -242,7 +244,7 @@ pub fn without_requests(first: &VersionSet, second: &VersionSet) -> Ending {
     )
 }
 
-/// Whether there is one range, with so many comparators.
+/// Returns whether there is one range with this number of comparators.
 fn has_bounds(ranges: &SetRanges, count: usize) -> bool {
     match ranges.range_set.ranges.as_slice() {
         [range] => range.comparator_set.len() == count,
@@ -250,7 +252,7 @@ fn has_bounds(ranges: &SetRanges, count: usize) -> bool {
     }
 }
 
-/// Whether the call returned, with no range.
+/// Returns whether the call returned no range.
 fn has_no_range(ranges: Result<SetRanges, AllocError>) -> bool {
     match ranges {
         Ok(ranges) => ranges.range_set.ranges.is_empty(),
@@ -258,7 +260,7 @@ fn has_no_range(ranges: Result<SetRanges, AllocError>) -> bool {
     }
 }
 
-/// Whether a version without identifiers, which is read without a request, is in a set.
+/// Returns whether a version without identifiers, which is read without a request, is in a set.
 fn contains(set: &VersionSet, text: &str) -> bool {
     match version::read(text) {
         Ok(Some(version)) => set.contains(&version),
@@ -266,17 +268,17 @@ fn contains(set: &VersionSet, text: &str) -> bool {
     }
 }
 
-/// Whether a version, which is looked at without a request, is in a set.
+/// Returns whether a version, which is read without a request, is in a set.
 fn has_stated(set: &VersionSet, text: &str) -> bool {
     version::outline(text).is_some_and(|outline| set.contains_outline(&outline))
 }
 
-/// Whether each version of a set is in another.
+/// Returns whether a set is a subset of another.
 fn is_within(set: &VersionSet, other: &VersionSet) -> bool {
     set.is_subset(other) == Ok(true)
 }
 
-/// Whether the lowest release of a set has this major number.
+/// Returns whether the lowest release of a set has this major number.
 fn begins_at(set: &VersionSet, major: u64) -> bool {
     set.lowest_release()
         .is_some_and(|release| release.major == major)

@@ -1,5 +1,5 @@
 // Made by tools/erase.py from crates/library_tests/src/refused/version_ranges.rt; not edited by hand.
-//! Ranges that are read and combined.
+//! Functions that read and combine ranges.
 #![cfg(feature = "std")]
 
 use crate::rattle_std::prelude::*;
@@ -17,7 +17,7 @@ const CARGO: Meaning = Meaning {
     pre_releases: PreReleases::Included,
 };
 
-/// A range that contains 1.9.0-rc and not 2.0.0.
+/// Reads a range that contains 1.9.0-rc and not 2.0.0.
 pub fn parse() -> Ending {
     match VersionRange::try_parse("^1.2", CARGO) {
         Ok(range) => Ending::full_if(
@@ -29,7 +29,7 @@ pub fn parse() -> Ending {
     }
 }
 
-/// What two ranges contain together, or the first alone. Reading them is part of the call.
+/// Combines two ranges. Reading them is part of the call.
 pub fn combined() -> Ending {
     let range = match VersionRange::try_parse("^1.2", CARGO) {
         Ok(range) => range,
@@ -53,7 +53,7 @@ pub fn combined() -> Ending {
     Ending::Full
 }
 
-/// How a combination ends that is to contain 1.2.0, 1.5.0 and 2.0.0 so.
+/// Returns how a combination ends whose range has to contain, or not, 1.2.0, 1.5.0 and 2.0.0.
 fn ends(combined: Result<VersionRange, OperationError>, wanted: [bool; 3]) -> Ending {
     let range = match combined {
         Ok(range) => range,

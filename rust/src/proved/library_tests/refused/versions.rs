@@ -1,5 +1,5 @@
 // Made by tools/erase.py from crates/library_tests/src/refused/versions.rt; not edited by hand.
-//! Calls that read a version, and its clone.
+//! Functions that read a version, and its clone.
 #![cfg(feature = "std")]
 
 use crate::rattle_std::prelude::*;
@@ -12,7 +12,7 @@ use crate::proved::semver_parser::version::{Grammar, Version};
 use crate::proved::semver_parser::{lexer, version};
 use crate::rattle_std::fmt::Write as _;
 
-/// Texts whose longest front holds no identifier are answered without a request.
+/// Strings whose longest prefix of a version has no identifier give their result without a request.
 pub fn without_identifiers() -> Ending {
     let release = match version::parse("1.2.3") {
         Ok(version) => prints_as(&version, "1.2.3"),
@@ -29,17 +29,17 @@ fn is_slash(text: &str) -> bool {
     )
 }
 
-/// A version with identifiers of both kinds of place.
+/// Reads a version with identifiers in its pre-release and in its build metadata.
 pub fn with_identifiers() -> Ending {
     read_as("1.2.3-a-b.c+d")
 }
 
-/// A version whose identifiers are numbers: they need their places in the two lists alone.
+/// Reads a version whose identifiers are numbers, which need only the two lists.
 pub fn with_numbers() -> Ending {
     read_as("1.2.3-1.2.3+4")
 }
 
-/// The text is read as a version that prints as the text.
+/// Reads a string as a version that is printed as the string.
 fn read_as(text: &str) -> Ending {
     match version::parse(text) {
         Ok(version) => Ending::full_if(prints_as(&version, text)),
@@ -48,8 +48,8 @@ fn read_as(text: &str) -> Ending {
     }
 }
 
-/// A text that spells no version is answered without a request, also where it begins with one, and
-/// so is a version without identifiers.
+/// A string that spells no version, even if it begins with one, gives its result without a request;
+/// so does a version without identifiers.
 pub fn read_without_identifiers() -> Ending {
     let release = match version::read(" 1.2.3\n") {
         Ok(Some(version)) => prints_as(&version, "1.2.3"),
@@ -69,7 +69,7 @@ pub fn read_without_identifiers() -> Ending {
     Ending::full_if(release && refused)
 }
 
-/// A version with identifiers, between white space: as many requests as `parse` makes.
+/// Reads a version with identifiers, between white space. It makes as many requests as `parse`.
 pub fn read_with_identifiers() -> Ending {
     match version::read(" 1.2.3-a-b.c+d\n") {
         Ok(Some(version)) => Ending::full_if(prints_as(&version, "1.2.3-a-b.c+d")),
@@ -78,7 +78,7 @@ pub fn read_with_identifiers() -> Ending {
     }
 }
 
-/// The tokens after a version are asked for at once.
+/// The tokens after a version are allocated at once.
 pub fn more_input() -> Ending {
     match version::parse("1.2.3 a.b.c") {
         Err(Error::MoreInput(rest)) => Ending::full_if(rest.len() == 5),
@@ -87,7 +87,7 @@ pub fn more_input() -> Ending {
     }
 }
 
-/// A clone equals its source, or finds no memory and leaves the source as it was.
+/// A clone equals its source, or is out of memory and leaves the source as it was.
 pub fn clone() -> Ending {
     let text = "1.2.3-1.alpha1.9+build5.7.3aedf";
     let Ok(version) = version::parse(text) else {
@@ -103,7 +103,7 @@ pub fn clone() -> Ending {
     }
 }
 
-/// Where and why a text is an invalid version. A valid one is explained without a request.
+/// Finds the offset and the reason of an invalid version. A valid one makes no request.
 pub fn version_error() -> Ending {
     if !matches!(explain(b"1.2.3", Grammar::Cargo), Ok(None)) {
         return Ending::Wrong;
@@ -117,7 +117,7 @@ pub fn version_error() -> Ending {
     }
 }
 
-/// The version prints as the text.
+/// Returns whether the version is printed as the string.
 pub fn prints_as(version: &Version, text: &str) -> bool {
     let mut out = Fixed::new();
     write!(out, "{version}").is_ok() && out.as_bytes() == text.as_bytes()
