@@ -4,8 +4,8 @@ ghost use Rattle.std.specs.Prelude.{◌≡◌, MatchOption};
 ghost use Rattle.version_sets.specs.PreReleaseTable.{name_of, number_of};
 ghost use Rattle.version_sets.specs.declared.rules.PreReleases.{PreReleases as SomePreReleases};
 
-/// Which pre-releases satisfy a range (page `docs::ranges`, "Pre-releases"). The rules are the same
-/// for releases.
+/// Which pre-releases satisfy a range (page `docs::ranges`, "Pre-releases"). Releases count with
+/// every rule.
 ///
 /// ```
 /// use semver_parser::{satisfies, Dialect, Meaning, PreReleases};

@@ -316,7 +316,7 @@ impl<'input> Parser<'input> {
     /// - `Lexer`: a bad character is pending and at most one token remains. That token stays, since
     ///   it isn't known whether the identifier ends with it.
     /// - `OutOfMemory`: the allocation of the string, which is made at once, failed. Only its
-    ///   tokens stay taken. A number isn't allocated.
+    ///   tokens stay taken. A number does not allocate.
     ///
     /// ```
     /// use semver_parser::parser::Parser;

@@ -2,8 +2,8 @@
 //! The three rules for pre-releases, with their numbers and names.
 
 use crate::rattle_std::prelude::*;
-/// Which pre-releases satisfy a range (page `docs::ranges`, "Pre-releases"). The rules are the same
-/// for releases.
+/// Which pre-releases satisfy a range (page `docs::ranges`, "Pre-releases"). Releases count with
+/// every rule.
 ///
 /// ```
 /// use semver_parser::{satisfies, Dialect, Meaning, PreReleases};
