@@ -63,15 +63,16 @@ PASSAGES = {
          "Comparisons of many strings found no other differences in reading than these."),
     ],
     "CRATE": [
-        ("The Rust crate `semver-parser` 0.10.3, of which `crates/semver_parser` is the port:",
-         "The original Rust crate, [`semver-parser`](https://docs.rs/semver-parser/0.10.3) 0.10.3, of which this one"
-         " is the port:"),
-        ("`tools/compare.sh` runs Debian's 0.10.0-1 of the crate;", "What is compared is Debian's 0.10.0-1 of the crate;"),
-        ("No string has two token lists, versions or trees (`laws::one_token_list`, `one_version`, `one_tree`).",
-         "It is proved that no string has two token lists, versions or trees."),
+        ("This page describes the Rust crate `semver-parser` 0.10.3, of which `crates/semver_parser` is the port.",
+         "This page describes the original Rust crate, [`semver-parser`](https://docs.rs/semver-parser/0.10.3) 0.10.3,"
+         " of which this one is the port."),
+        ("compared with Debian's 0.10.0-1 of it, by `tools/compare.sh`.", "compared with Debian's 0.10.0-1 of it."),
+        ("In this grammar no string has two token lists, versions or trees (`laws::one_token_list`, `one_version`,"
+         " `one_tree`).",
+         "It is proved that in this grammar no string has two token lists, versions or trees."),
         ("[The theorem](PROVED.md#the-theorem) (clause `meaning` of `RangeSet::parse`, law `laws::meanings_agree`)"
-         " has one exception,",
-         "It is proved that a version satisfies the comparators if and only if it satisfies the text, with one exception,"),
+         " has one exception:",
+         "It is proved that a version satisfies the comparators if and only if it satisfies the text, with one exception:"),
         (" Such rows are clauses of `laws::row_facts`.", ""),
     ],
 }
