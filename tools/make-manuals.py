@@ -19,16 +19,20 @@ OVERVIEW = "semver_parser"
 ERRORS = {
     "INVALID_ARGUMENT": "",
     "DIFFERENT_DIALECTS": "The second range has another dialect than the first.",
-    "DIFFERENT_PRE_RELEASES": "It has the same dialect, and another rule for pre-releases.",
+    "DIFFERENT_PRE_RELEASES":
+        "The second range has the same dialect, and another rule for pre-releases.",
     "INVALID_VERSION": "A string is an invalid version in the dialect.",
     "INVALID_RANGE": "The string is not a range of the dialect.",
-    "NUMBER_TOO_LARGE": "It is, but a number or a raised bound is above the limit of the dialect.",
+    "NUMBER_TOO_LARGE":
+        "The string is a range, but a number or a raised bound is above the limit of the dialect.",
     "OUT_OF_MEMORY": "An allocation failed.",
 }
 # What is wrong with an argument, by what the prototype has.
 ARGUMENTS = {
-    "semver_parser_options ": "An option isn't one that there is, or a reserved field isn't zero.",
-    "semver_parser_dialect ": "The dialect isn't one that there is.",
+    "size_t start": "There is no such dialect, or no version of a term begins at `start`.",
+    "semver_parser_options ":
+        "There is no such dialect or rule for pre-releases, or a reserved field isn't zero.",
+    "semver_parser_dialect ": "There is no such dialect.",
     "size_t index": "The index is too large.",
 }
 STATUS = "semver_parser_status"
@@ -139,7 +143,7 @@ def said_of(error, prototypes):
     if error == "INVALID_ARGUMENT":
         return next(said for part, said in ARGUMENTS.items() if part in parameters)
     if error == "OUT_OF_MEMORY" and "**" not in parameters:
-        return "An allocation failed while `error` was filled, which isn't null."
+        return "The pointer `error` isn't null, and an allocation failed while it was filled in."
     if error == "INVALID_VERSION" and "skip_invalid" in parameters:
         return "A version is invalid, and `skip_invalid` is false."
     return ERRORS[error]
@@ -168,7 +172,7 @@ def page(version, date, comment, prototypes, types):
     lines += [".fi", ".SH DESCRIPTION", *sentences(comment)]
     if any(STATUS in kind for kind, _, _ in prototypes):
         lines += [".SH RETURN VALUE", ".B SEMVER_PARSER_OK", "(0) or the status of an error."]
-        lines += ["After an error outputs are as they were."]
+        lines += ["After an error the outputs are unchanged."]
         errors = errors_of(comment, prototypes)
         lines += [".SH ERRORS"] if errors else []
         for error in errors:

@@ -307,18 +307,19 @@ semver_parser_status semver_parser_range_contains(
     const semver_parser_range *range, semver_parser_string version, bool *contains,
     semver_parser_error *error);
 
-/* Checks for each of `count` versions whether it is in the range. `statuses`, which may be null,
- * gets OK or INVALID_VERSION for each; an invalid version isn't contained. It does not allocate,
- * and the status is always OK. */
+/* Checks which of `count` versions are in the range. The array `contains` has an item for each of
+ * them, and so has `statuses`, which may be null: its items become OK or INVALID_VERSION. An
+ * invalid version isn't contained. The function doesn't allocate, and its own status is always
+ * OK. */
 SEMVER_PARSER_CHECKED(1)
 semver_parser_status semver_parser_range_contains_each(
     const semver_parser_range *range, const semver_parser_string *versions, size_t count,
     bool *contains, semver_parser_status *statuses);
 
-/* Finds the highest or lowest of `count` versions that are in the range. Of equal versions it is
- * the first. `index` is set to its index, or to `count` if none is in the range. With
- * `skip_invalid`, invalid versions are skipped; without it, the first one is INVALID_VERSION, with
- * its index in `error`. */
+/* Finds the highest or lowest of those of `count` versions that are in the range. If several are
+ * equal, it finds the first of them. The output `index` becomes its index, or `count` if none is in
+ * the range. If `skip_invalid` is true, invalid versions are skipped; otherwise the first of them
+ * is an error, INVALID_VERSION, and its index is in `error`. */
 SEMVER_PARSER_CHECKED(1, 5)
 semver_parser_status semver_parser_range_highest_of(
     const semver_parser_range *range, const semver_parser_string *versions, size_t count,
@@ -513,13 +514,13 @@ semver_parser_status semver_parser_terms_of_range(
     semver_parser_string range, semver_parser_dialect dialect, semver_parser_term *terms,
     size_t capacity, size_t *count, semver_parser_error *error);
 
-/* Makes the string of a range in which one version has the numbers of another. It is the version of
- * a term that begins at `start`. Its form is kept: the number of its components, its wildcards and
- * its `v`. The pre-release of the other version is written if the version in the range has three
- * numbers, and its build metadata isn't: `^1.x || v2` becomes `^1.x || v3` with 3.1.4 at offset 8.
- * Check the result with semver_parser_check_range, since a raised bound may be too large.
- * semver_parser_free frees it. INVALID_RANGE, NUMBER_TOO_LARGE, INVALID_VERSION; INVALID_ARGUMENT
- * if no version begins there. */
+/* Makes the string of a range in which a version has the numbers of another one. The version that
+ * changes is one of a term, and begins at `start`; if none begins there, the status is
+ * INVALID_ARGUMENT. Its form is kept: how many components it has, its wildcards and its `v`. The
+ * pre-release of the other version is written if three numbers are stated, and its build metadata
+ * isn't. With 3.1.4 at offset 8, `^1.x || v2` becomes `^1.x || v3`. Check the result with
+ * semver_parser_check_range, since a raised bound may be too large. semver_parser_free frees it.
+ * INVALID_RANGE, NUMBER_TOO_LARGE, INVALID_VERSION. */
 SEMVER_PARSER_CHECKED(5)
 semver_parser_status semver_parser_replace_version(
     semver_parser_string range, size_t start, semver_parser_string version,
