@@ -88,7 +88,7 @@ class Range(Printed):
 
     @property
     def string(self) -> Optional[str]:
-        """The string that the range was made of; None if it was combined of others."""
+        """The string that the range was made of; None if it was made by combining ranges."""
         return self._origin if isinstance(self._origin, str) else None
 
     # ---- which versions are in it
@@ -249,7 +249,7 @@ class Range(Printed):
         >>> [term.operator for term in Range(">=1.2 <2", dialect="npm").terms]
         ['>=', '<']
 
-        Raises `ValueError` if the range was combined of others, since then it has no string.
+        Raises `ValueError` if the range was made by combining ranges, since it has no string then.
         """
         if not isinstance(self._origin, str):
             raise ValueError("a range that was combined of others has no string")
@@ -282,7 +282,8 @@ class Range(Printed):
 
     @property
     def printed_pre_releases(self) -> str:
-        """The pre-releases in the range, as a range of which only the pre-releases count.
+        """The pre-releases in the range, as a range in npm's syntax. It stands only for the
+        pre-releases in it.
 
         >>> Range("^1.2.3-rc", dialect="cargo").printed_pre_releases
         '>=1.2.3-rc <1.2.3'
