@@ -1,24 +1,24 @@
-/** Whose rules strings are read by. `crate-cargo` and `crate-npm` are the modes of the Rust crate `semver-parser`. */
+/** Whose rules apply to strings. `crate-cargo` and `crate-npm` are the modes of the Rust crate `semver-parser`. */
 export type Dialect = 'npm' | 'cargo' | 'crate-npm' | 'crate-cargo'
 
-/** The type of a dialect's numbers: those of 64 bits are `bigint`. */
+/** The type of a dialect's numbers: `number` in npm's dialect, and `bigint` in the others, whose numbers have 64 bits. */
 export type NumberOf<D extends Dialect> = D extends 'npm' ? number : bigint
 
-/** The options of a call. `Options` without an argument has no other dialect than npm's, as in `@types/semver`. */
+/** The options of a call. `Options` without a type argument is for npm's dialect only, as in `@types/semver`. */
 export interface Options<D extends Dialect = 'npm'> {
-  /** Whose rules: by default those of the objects that are given, and npm's if none is. */
+  /** Whose rules apply. The default is the dialect of the objects that are passed, or npm's if none is passed. */
   dialect?: D | undefined
-  /** Whether pre-releases within the bounds satisfy a range: node-semver's option, short for `preReleases: 'included'`. */
+  /** Whether all pre-releases within the bounds satisfy a range. This is node-semver's option; `true` means `preReleases: 'included'`. */
   includePrerelease?: boolean | undefined
-  /** Which pre-releases satisfy a range: those that the tool takes by default, each within the bounds, or none. */
+  /** Which pre-releases satisfy a range: those that the tool accepts by default, all within the bounds, or none. */
   preReleases?: 'default' | 'included' | 'excluded' | undefined
-  /** Versions and ranges are read strictly all the same: without effect, unless `rejectLoose` is true. */
+  /** Has no effect, unless `rejectLoose` is true: versions and ranges are always read strictly. */
   loose?: boolean | undefined
   /** Whether the call throws a `TypeError` if `loose` is true. */
   rejectLoose?: boolean | undefined
 }
 
-/** The same, by its name in `@types/semver`. */
+/** The same type, by its name in `@types/semver`. */
 export interface RangeOptions<D extends Dialect = 'npm'> extends Options<D> {}
 
 /** The options of `coerce`. */
@@ -27,10 +27,10 @@ export interface CoerceOptions<D extends Dialect = 'npm'> extends Options<D> {
   rtl?: boolean | undefined
 }
 
-/** Options, or `true`, which is short for `{ loose: true }`. */
+/** Options, or `true`, which means `{ loose: true }`. */
 export type OptionsOrLoose<D extends Dialect = 'npm'> = Options<D> | boolean | null | undefined
 
-/** The same without a dialect: an object keeps its own. */
+/** Options without a dialect: an object keeps its own. */
 type WithoutDialect = (Options & { dialect?: undefined }) | boolean | null | undefined
 
 export type ReleaseType = 'major' | 'premajor' | 'minor' | 'preminor' | 'patch' | 'prepatch' | 'prerelease'
@@ -53,44 +53,44 @@ export declare class SemVer<D extends Dialect = 'npm'> {
   readonly prerelease: ReadonlyArray<string | number>
   /** The build identifiers. */
   readonly build: readonly string[]
-  /** The version without build metadata, as `1.2.3-rc.1`. */
+  /** The version without build metadata, such as `1.2.3-rc.1`. */
   readonly version: string
-  /** The same as `version`. */
+  /** Returns `version`. */
   format(): string
   toString(): string
-  /** All fields; of a `bigint` its digits. */
+  /** Returns all fields; a `bigint` becomes a string of its digits. */
   toJSON(): object
-  /** -1, 0 or 1 by precedence. */
+  /** Compares by precedence: -1, 0 or 1. */
   compare(other: AnyVersion): -1 | 0 | 1
-  /** The same by the three numbers alone. */
+  /** Compares only the three numbers. */
   compareMain(other: AnyVersion): -1 | 0 | 1
-  /** The same by the pre-release alone. */
+  /** Compares only the pre-releases. */
   comparePre(other: AnyVersion): -1 | 0 | 1
-  /** The same by the build metadata alone. */
+  /** Compares only the build metadata. */
   compareBuild(other: AnyVersion): -1 | 0 | 1
-  /** Makes the version the next one, and returns it. */
+  /** Changes the version to the next one, and returns it. */
   inc(release: ReleaseType | 'pre', identifier?: string, identifierBase?: inc.IdentifierBase | false): this
 }
 
-/** A version, as a string or read. */
+/** A version: a string, or an object. */
 export type AnyVersion = string | SemVer<Dialect>
 
 /** A comparator: an operator and a version. */
 export declare class Comparator<D extends Dialect = 'npm'> {
-  /** The symbol that `semver` is if each version satisfies the comparator. Its type is that of `semver`, as in `@types/semver`. */
+  /** The symbol that is the value of `semver` if every version satisfies the comparator. It has the type of `semver`, as in `@types/semver`. */
   static readonly ANY: SemVer<any>
   /** Throws a `TypeError` if the comparator is invalid. */
   constructor(comparator: string | Comparator<D>, options?: WithoutDialect)
   constructor(comparator: string | Comparator<Dialect>, options: OptionsOrLoose<D>)
   readonly options: Options<D>
   readonly loose: boolean
-  /** Never `=`, which is `''`: it is in the type as in `@types/semver`. */
+  /** Never `=`, which is written as `''`. The type has it, as in `@types/semver`. */
   readonly operator: '' | '=' | '<' | '>' | '<=' | '>='
   readonly semver: SemVer<D>
   readonly value: string
   toString(): string
   toJSON(): object
-  /** Makes the comparator another one. Throws a `TypeError` if that is invalid. */
+  /** Changes the comparator to another one. Throws a `TypeError` if that is invalid. */
   parse(comparator: string): void
   test(version: AnyVersion): boolean
   intersects(other: Comparator<Dialect>, options?: OptionsOrLoose<Dialect>): boolean
@@ -108,39 +108,39 @@ export declare class Range<D extends Dialect = 'npm'> {
   readonly raw: string
   /** The comparators of each range between `||`. */
   readonly set: ReadonlyArray<readonly Comparator<D>[]>
-  /** The normal form, as `>=1.2.0 <2.0.0-0`: npm's in each dialect. */
+  /** The normal form, such as `>=1.2.0 <2.0.0-0`. It is npm's in each dialect. */
   readonly range: string
   format(): string
   toString(): string
   toJSON(): object
-  /** The comparators of another range, of its first part if it has several, by the options of this one. */
+  /** Returns the comparators of another range with the options of this one. If the range has several parts, they are those of the first. */
   parseRange(range: string): readonly Comparator<D>[]
   test(version: AnyVersion | null | undefined): boolean
   intersects(other: Range<Dialect>, options?: OptionsOrLoose<Dialect>): boolean
 }
 
-/** A range, as a string or read by a dialect. */
+/** A range: a string, or an object of a dialect. */
 type RangeOf<D extends Dialect> = string | Range<D> | Comparator<D>
 
-/** A range, as a string or read. */
+/** A range: a string, or an object. */
 export type AnyRange = RangeOf<Dialect>
 
-/** A word for the reason for which a string is refused. */
+/** The reason why a string is invalid, as a word. */
 export type Reason =
   | 'empty' | 'not-three-numbers' | 'leading-zero' | 'empty-identifier' | 'unexpected-character' | 'too-large' | 'too-long'
   | 'text-after' | 'not-utf8' | 'number-expected' | 'unexpected-end' | 'cargo-commas' | 'cargo-wildcard' | 'cargo-bars'
   | 'cargo-v' | 'cargo-hyphen' | 'npm-comma' | 'crate-comma' | 'crate-v' | 'npm-too-large'
   | 'too-many-comparators' | 'bound-too-large' | 'npm-bound-too-large'
 
-/** Where and why a string is refused. */
+/** Where and why a string is invalid. */
 export interface Explanation {
   /**
-   * An index of the string: of the first character that no version, or range, has there. It is the string's length if
-   * something is missing. If a number of a range is too large, it is that of the number.
+   * An index of the string. It is the index of the first character that isn't allowed there, or the string's length if
+   * something is missing at its end. If a number of a range is too large, it is the index of that number.
    */
   readonly offset: number
   readonly reason: Reason
-  /** A sentence for it. */
+  /** The reason as a sentence. */
   readonly sentence: string
 }
 
@@ -148,85 +148,85 @@ export interface Explanation {
 export declare class SemverError extends TypeError implements Explanation {
   private constructor()
   readonly name: 'SemverError'
-  /** What the string should have been. */
+  /** Whether the string should have been a version or a range. */
   readonly kind: 'version' | 'range'
-  /** Which of the versions, ranges and lists that the call takes has the string: 0 is the first. */
+  /** Which of the versions, ranges and lists that were passed to the call has the string, counted from 0. */
   readonly argument: 0 | 1
-  /** The string that is refused. */
+  /** The invalid string. */
   readonly input: string
   readonly offset: number
   readonly reason: Reason
   readonly sentence: string
 }
 
-/** What is in a range and not in another. The comparators are npm's in each dialect; those of a kind say nothing of the other. */
+/** The versions that are in a range and not in another. The comparators are npm's in each dialect. */
 export interface Part {
-  /** The releases, null if there are none: read them with `preReleases: 'excluded'`. */
+  /** The releases, or null if there are none. Read this range with `preReleases: 'excluded'`. */
   releases: string | null
-  /** The pre-releases, null if there are none: read them with `preReleases: 'included'`, and ask for pre-releases alone. */
+  /** The pre-releases, or null if there are none. Read this range with `preReleases: 'included'`, and test only pre-releases with it. */
   preReleases: string | null
   /** The lowest version. */
   lowest: string
 }
 
 export declare const SEMVER_SPEC_VERSION: '2.0.0'
-/** They are frozen. */
+/** The kinds of releases, frozen. */
 export declare const RELEASE_TYPES: ReleaseType[]
 
-/** Compiles the module ahead of the first call, without holding up the thread. */
+/** Compiles the module before the first call, without blocking the thread. */
 export declare function ready(): Promise<void>
-/** Takes a compiled module, or its bytes, in place of the one that the first call compiles. */
+/** Uses a compiled module, or its bytes, instead of the one that the first call would compile. */
 export declare function init(module: object): void
 
-/** The version without build metadata, or null if it is invalid. */
+/** Returns the version without build metadata, or null if it is invalid. */
 export declare function valid(version: unknown, options?: OptionsOrLoose<Dialect> | number): string | null
-/** The version, or null if it is invalid. */
+/** Returns the version, or null if it is invalid. */
 export declare function parse<D extends Dialect = 'npm'>(version: string | SemVer<D>, options?: WithoutDialect, throwErrors?: boolean): SemVer<D> | null
 export declare function parse<D extends Dialect = 'npm'>(version: unknown, options?: OptionsOrLoose<D>, throwErrors?: boolean): SemVer<D> | null
-/** The version of a string in which it is, after `=`, `v` or white space; null if there is none. */
+/** Returns the version of a string that may have `=`, `v` or white space before it; null if it has none. */
 export declare function clean(version: string, options?: OptionsOrLoose<Dialect>): string | null
-/** The first version of a string, as `2.3.4` of `v2.3.4.5`, or the last with `rtl`; null if there is none. */
+/** Returns the first version in a string, such as `2.3.4` in `v2.3.4.5`, or the last one with `rtl`; null if there is none. */
 export declare function coerce<D extends Dialect = 'npm'>(version: string | number | SemVer<D> | null | undefined, options?: CoerceOptions & { dialect?: undefined }): SemVer<D> | null
 export declare function coerce<D extends Dialect = 'npm'>(version: AnyVersion | number | null | undefined, options?: CoerceOptions<D>): SemVer<D> | null
-/** The next version by the kind of release; null if the version is invalid. */
+/** Returns the next version for a kind of release; null if the version is invalid. */
 export declare function inc(version: AnyVersion, release: ReleaseType, options?: OptionsOrLoose<Dialect>, identifier?: string, identifierBase?: inc.IdentifierBase | false): string | null
 export declare function inc(version: AnyVersion, release: ReleaseType, identifier?: string, identifierBase?: inc.IdentifierBase | false): string | null
 export declare namespace inc {
   /** The number with which a pre-release begins. */
   type IdentifierBase = '0' | '1'
 }
-/** The kind of release from one version to the other; null if they have the same precedence. */
+/** Returns the kind of release between two versions; null if they have the same precedence. */
 export declare function diff(version: AnyVersion, other: AnyVersion): ReleaseType | null
-/** The pre-release identifiers, or null if there are none or the version is invalid. */
+/** Returns the pre-release identifiers, or null if there are none or the version is invalid. */
 export declare function prerelease(version: unknown, options?: OptionsOrLoose<Dialect>): ReadonlyArray<string | number> | null
-/** A number of a version. Throws a `SemverError` if that is invalid. */
+/** Returns a number of a version. Throws a `SemverError` if the version is invalid. */
 export declare function major<D extends Dialect = 'npm'>(version: string | SemVer<D>, options?: WithoutDialect): NumberOf<D>
 export declare function major<D extends Dialect = 'npm'>(version: AnyVersion, options: OptionsOrLoose<D>): NumberOf<D>
 export declare function minor<D extends Dialect = 'npm'>(version: string | SemVer<D>, options?: WithoutDialect): NumberOf<D>
 export declare function minor<D extends Dialect = 'npm'>(version: AnyVersion, options: OptionsOrLoose<D>): NumberOf<D>
 export declare function patch<D extends Dialect = 'npm'>(version: string | SemVer<D>, options?: WithoutDialect): NumberOf<D>
 export declare function patch<D extends Dialect = 'npm'>(version: AnyVersion, options: OptionsOrLoose<D>): NumberOf<D>
-/** Where and why a string is no version, or null if it is one. */
+/** Returns where and why a string is an invalid version, or null if it is valid. */
 export declare function explainVersion(version: AnyVersion, options?: OptionsOrLoose<Dialect>): Explanation | null
 
-/** Whether a version satisfies a range; false if either is invalid. */
+/** Returns whether a version satisfies a range; false if either is invalid. */
 export declare function satisfies(version: AnyVersion | null | undefined, range: AnyRange, options?: OptionsOrLoose<Dialect>): boolean
-/** The highest version that satisfies a range, the first of equal ones; null if none does. */
+/** Returns the highest version that satisfies a range, the first one of equal versions; null if none does. */
 export declare function maxSatisfying<T extends AnyVersion>(versions: Iterable<T>, range: AnyRange, options?: OptionsOrLoose<Dialect>): T | null
-/** The lowest version that satisfies a range, the first of equal ones; null if none does. */
+/** Returns the lowest version that satisfies a range, the first one of equal versions; null if none does. */
 export declare function minSatisfying<T extends AnyVersion>(versions: Iterable<T>, range: AnyRange, options?: OptionsOrLoose<Dialect>): T | null
-/** The versions that satisfy a range, in the list's order, without invalid ones. Throws a `SemverError` if the range is invalid. */
+/** Returns the versions that satisfy a range, in the order of the list. Invalid versions are skipped. Throws a `SemverError` if the range is invalid. */
 export declare function filter<T extends AnyVersion>(versions: Iterable<T>, range: AnyRange, options?: OptionsOrLoose<Dialect>): T[]
-/** The normal form of a range, npm's in each dialect, as `>=1.2.0 <2.0.0-0`; null if it is invalid. */
+/** Returns the normal form of a range, such as `>=1.2.0 <2.0.0-0`, which is npm's in each dialect; null if the range is invalid. */
 export declare function validRange(range: unknown, options?: OptionsOrLoose<Dialect>): string | null
 /** The comparators of each range between `||`. */
 export declare function toComparators(range: AnyRange, options?: OptionsOrLoose<Dialect>): string[][]
-/** Where and why a string is no range; null if it is one. */
+/** Returns where and why a string is an invalid range; null if it is valid. */
 export declare function explainRange(range: AnyRange, options?: OptionsOrLoose<Dialect>): Explanation | null
-/** A component of a version as a term states it: a number, or a wildcard as it is written. */
+/** A component of a version in a term: a number, or a wildcard as it is written. */
 export type TermComponent<D extends Dialect = 'npm'> = NumberOf<D> | 'x' | 'X' | '*'
 
-/** A version as a term of a range states it. Its indices are those of the range's string. */
+/** A version as it is written in a term of a range. Its indices are those of the range's string. */
 export interface TermVersion<D extends Dialect = 'npm'> {
   /** The index of its first character, which may be a `v`. */
   start: number
@@ -249,7 +249,7 @@ export interface TermVersion<D extends Dialect = 'npm'> {
 export interface Term<D extends Dialect = 'npm'> {
   /** The index of its range: how many `||` are before it. */
   range: number
-  /** `''`, `'='`, `'<'`, `'<='`, `'>'`, `'>='`, `'~'`, `'^'`, or `'-'` of a hyphen range. */
+  /** `''`, `'='`, `'<'`, `'<='`, `'>'`, `'>='`, `'~'`, `'^'`, or `'-'` for a hyphen range. */
   operator: string
   /** The index of its first character. */
   start: number
@@ -261,47 +261,47 @@ export interface Term<D extends Dialect = 'npm'> {
   upper: TermVersion<D> | null
 }
 
-/** The terms of a range, as they are written and where. Throws a `SemverError` if the range is invalid. */
+/** Returns the terms of a range: how they are written, and where. Throws a `SemverError` if the range is invalid. */
 export declare function terms(range: string, options?: WithoutDialect): Term[]
 export declare function terms<D extends Dialect = 'npm'>(range: string, options: OptionsOrLoose<D>): Term<D>[]
 /**
- * A range in which a version of a term has the numbers of another version. Its form is kept: how many
+ * Returns a range in which a version of a term has the numbers of another version. Its form is kept: how many
  * components it has, its wildcards and its `v`. The pre-release of the other version is written if
  * three numbers are stated, and its build metadata isn't. Throws a `SemverError` if the range or the
  * version is invalid, and a `TypeError` if no version of the range begins where the written one does.
  */
 export declare function replaceVersion(range: string, written: Pick<TermVersion<Dialect>, 'start'>, version: AnyVersion, options?: OptionsOrLoose<Dialect>): string
-/** The lowest version that satisfies a range; null if none does. */
+/** Returns the lowest version of all that satisfy a range; null if none does. */
 export declare function minVersion<D extends Dialect = 'npm'>(range: RangeOf<D>, options?: WithoutDialect): SemVer<D> | null
 export declare function minVersion<D extends Dialect = 'npm'>(range: AnyRange, options: OptionsOrLoose<D>): SemVer<D> | null
-/** Whether a version satisfies both ranges. */
+/** Returns whether any version satisfies both ranges. */
 export declare function intersects(range: AnyRange, other: AnyRange, options?: OptionsOrLoose<Dialect>): boolean
-/** Whether each version that satisfies a range satisfies the other. */
+/** Returns whether every version that satisfies the first range satisfies the second. */
 export declare function subset(range: AnyRange, other: AnyRange, options?: OptionsOrLoose<Dialect>): boolean
-/** What is lost and what is gained if another range takes the place of a range; each null if nothing is. */
+/** Returns what is lost and gained if the second range replaces the first; each is null if nothing is. */
 export declare function compareRanges(range: AnyRange, other: AnyRange, options?: OptionsOrLoose<Dialect>): { lost: Part | null, gained: Part | null }
-/** Whether a version is above each that satisfies a range. */
+/** Returns whether a version is above every version that satisfies a range. */
 export declare function gtr(version: AnyVersion, range: AnyRange, options?: OptionsOrLoose<Dialect>): boolean
-/** Whether a version is below each that satisfies a range. */
+/** Returns whether a version is below every version that satisfies a range. */
 export declare function ltr(version: AnyVersion, range: AnyRange, options?: OptionsOrLoose<Dialect>): boolean
-/** `gtr` by `>`, and `ltr` by `<`. */
+/** Calls `gtr` for `>`, and `ltr` for `<`. */
 export declare function outside(version: AnyVersion, range: AnyRange, side: '<' | '>', options?: OptionsOrLoose<Dialect>): boolean
-/** A range that the same versions of a list satisfy, in npm's form, if it is shorter; else the range itself. Of an invalid one it is empty. */
+/** Returns a range, in npm's form, that the same versions of a list satisfy, if it is shorter, or else the range itself. For an invalid range it is empty. */
 export declare function simplifyRange<R extends AnyRange>(versions: Iterable<string>, range: R, options?: OptionsOrLoose<Dialect>): string | R
 
-/** -1, 0 or 1 by precedence. Throws a `SemverError` if a version is invalid. */
+/** Compares two versions by precedence: -1, 0 or 1. Throws a `SemverError` if a version is invalid. */
 export declare function compare(version: AnyVersion, other: AnyVersion, options?: OptionsOrLoose<Dialect>): -1 | 0 | 1
-/** The same the other way round. */
+/** Compares in reverse order. */
 export declare function rcompare(version: AnyVersion, other: AnyVersion, options?: OptionsOrLoose<Dialect>): -1 | 0 | 1
-/** The same as `compare`: strings are read strictly. */
+/** Does the same as `compare`, since strings are always read strictly. */
 export declare function compareLoose(version: AnyVersion, other: AnyVersion): -1 | 0 | 1
-/** The same as `compare`, and of equal ones by build metadata. */
+/** Compares by precedence, and equal versions by build metadata. */
 export declare function compareBuild(version: AnyVersion, other: AnyVersion, options?: OptionsOrLoose<Dialect>): -1 | 0 | 1
-/** -1, 0 or 1 of two identifiers. */
+/** Compares two identifiers: -1, 0 or 1. */
 export declare function compareIdentifiers(identifier: Identifier, other: Identifier): -1 | 0 | 1
 export declare function rcompareIdentifiers(identifier: Identifier, other: Identifier): -1 | 0 | 1
 type Identifier = string | number | null | undefined
-/** A comparison by its operator. Throws a `TypeError` if there is no such operator. */
+/** Compares two versions with an operator. Throws a `TypeError` if there is no such operator. */
 export declare function cmp(version: AnyVersion, operator: Operator, other: AnyVersion, options?: OptionsOrLoose<Dialect>): boolean
 export declare function gt(version: AnyVersion, other: AnyVersion, options?: OptionsOrLoose<Dialect>): boolean
 export declare function gte(version: AnyVersion, other: AnyVersion, options?: OptionsOrLoose<Dialect>): boolean
@@ -311,5 +311,5 @@ export declare function eq(version: AnyVersion, other: AnyVersion, options?: Opt
 export declare function neq(version: AnyVersion, other: AnyVersion, options?: OptionsOrLoose<Dialect>): boolean
 /** Sorts a list in place by `compareBuild`, and returns it. */
 export declare function sort<T extends AnyVersion>(versions: T[], options?: OptionsOrLoose<Dialect>): T[]
-/** The same, from the highest on. */
+/** Sorts from the highest to the lowest. */
 export declare function rsort<T extends AnyVersion>(versions: T[], options?: OptionsOrLoose<Dialect>): T[]
