@@ -324,8 +324,8 @@ static const struct {
      "       ^"},
     /* Of a long string 32 bytes before the offset and after it. */
     {NPM, "1.0.0 || 2.0.0 || 3.0.0 || 4.0.0 || 5.0.0, 6 || 7.0.0 || 8.0.0 || 9.0.0 || 10.0.0",
-     "invalid range ...\"2.0.0 || 3.0.0 || 4.0.0 || 5.0.0, 6 || 7.0.0 || 8.0.0 || 9.0.0 |\"..., at "
-     "byte 41: npm separates comparators by spaces; Cargo takes commas\n"
+     "invalid range ...\"2.0.0 || 3.0.0 || 4.0.0 || 5.0.0, 6 || 7.0.0 || 8.0.0 || 9.0.0 |\"... at "
+     "offset 41: npm separates comparators by spaces; Cargo takes commas\n"
      "    ...2.0.0 || 3.0.0 || 4.0.0 || 5.0.0, 6 || 7.0.0 || 8.0.0 || 9.0.0 |...\n"
      "                                       ^"},
 };
