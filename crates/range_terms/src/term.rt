@@ -262,8 +262,8 @@ impl<'text> fmt::Display for PartialVersion<'text> {
 
     ghost output = { λ version. Some (version_text (version_value version)) };
 
-    /// Writes the version as it is in the range. It does not allocate, and its only error is the
-    /// writer's.
+    /// Writes the `v` if it has one, the components separated by dots, `-` and the pre-release, and
+    /// `+` and the build metadata. It does not allocate, and its only error is the writer's.
     fn fmt<W: fmt::Write>(&self, f: &mut fmt::Formatter<W>) -> fmt::Result {
         let (v, major) = (if self.has_v { "v" } else { "" }, self.major);
         write!(f, "{v}{major}")?;

@@ -82,13 +82,14 @@ pub fn rewrite(alloc: Global, range: &str) -> Result<RangeSet, RangeError>
 ///
 /// Those of [`rewrite`].
 pub fn rewrite_included(alloc: Global, range: &str) -> Result<RangeSet, RangeError>
-    // What isn't in npm's grammar and what is too large is refused, exactly; all else is read.
+    // `NotARange` and `NumberTooLarge` are returned for exactly the strings for which they are
+    // defined; all others are read.
     ensures refusals { RefusesAs dialect.Npm range.now result }
-    // What is returned is what each tree of the text is rewritten to.
+    // The result is what the syntax tree of the string is rewritten to.
     ensures as_rewritten { IfOk result (λ set. (tree : SetTree) → SpellsNpmRange tree range.now
         → set_of set ≡ rewritten_included tree) }
-    // A version satisfies the result if and only if the text means it with all pre-releases.
-    // Identifiers of digits only are compared as numbers of any size.
+    // A version satisfies the result if and only if it satisfies the range with all pre-releases.
+    // Identifiers of only digits are compared as numbers of any size.
     ensures versions { IfOk result (λ set. (tree : SetTree) (v : PlainVersion)
         → SpellsNpmRange tree range.now
         → meets_set v (set_any (set_of set)) ≡ meets_npm Included tree v) }

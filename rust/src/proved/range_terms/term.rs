@@ -229,8 +229,8 @@ fn with_number_if_written(component: Option<Component>, number: u64) -> Option<C
 }
 
 impl<'text> fmt::Display for PartialVersion<'text> {
-    /// Writes the version as it is in the range. It does not allocate, and its only error is the
-    /// writer's.
+    /// Writes the `v` if it has one, the components separated by dots, `-` and the pre-release, and
+    /// `+` and the build metadata. It does not allocate, and its only error is the writer's.
     fn fmt(&self, f: &mut fmt::Formatter<'_>) -> fmt::Result {
         let (v, major) = (if self.has_v { "v" } else { "" }, self.major);
         write!(f, "{v}{major}")?;
