@@ -265,9 +265,9 @@ pub fn counted(count: &usize) {
     Attack(
         'an argument of a law does something',
         edits=[
-    ('crates/tool_ranges/src/meaning.rt', '    laws::numbers_of_outlines_fit(version);\n',
+    ('crates/tool_ranges/src/meaning.rt', '    laws::numbers_of_refs_fit(version);\n',
      '''    let mut is_checked = false;
-    laws::numbers_of_outlines_fit({
+    laws::numbers_of_refs_fit({
         is_checked = true;
         version
     });
@@ -278,10 +278,18 @@ pub fn counted(count: &usize) {
         ],
         careless=[
     ('tool_ranges/meaning.rs',
-     '''pub fn satisfies(version: &Outline<'_>, range: &str, meaning: Meaning) -> Result<bool, RangeError> {
+     '''pub fn satisfies(
+    version: &VersionRef<'_>,
+    range: &str,
+    meaning: Meaning,
+) -> Result<bool, RangeError> {
     let rule = meaning.pre_releases;
 ''',
-     '''pub fn satisfies(version: &Outline<'_>, range: &str, meaning: Meaning) -> Result<bool, RangeError> {
+     '''pub fn satisfies(
+    version: &VersionRef<'_>,
+    range: &str,
+    meaning: Meaning,
+) -> Result<bool, RangeError> {
     let mut is_checked = false;
     if !is_checked {
         return Ok(false);
@@ -289,7 +297,7 @@ pub fn counted(count: &usize) {
     let rule = meaning.pre_releases;
 '''),
         ],
-        at=('crates/tool_ranges/src/meaning.rt', 'laws::numbers_of_outlines_fit({'),
+        at=('crates/tool_ranges/src/meaning.rt', 'laws::numbers_of_refs_fit({'),
         why='an argument of a law that is more than a name or its reference'),
     Attack(
         'another module is imported as laws',
@@ -641,7 +649,7 @@ type Name = String;
         'a parameter is a pointer to a function',
         edits=[
     ('crates/semver_texts/src/bytes.rt',
-     '''// Answer: equation.
+     '''// Determined by: equation.
 /// Returns how many of the bytes are dots: 2 for `1.2.3`.
 ''',
      '''/// The first byte.
@@ -651,7 +659,7 @@ pub fn first(bytes: &[u8], _test: fn(u8) -> bool) -> u8
     bytes[0]
 }
 
-// Answer: equation.
+// Determined by: equation.
 /// Returns how many of the bytes are dots: 2 for `1.2.3`.
 '''),
         ],
@@ -677,7 +685,7 @@ pub fn first(bytes: &[u8], _test: fn(u8) -> bool) -> u8 {
     ('crates/semver_texts/src/bytes.rt', "byte.is_ascii_alphanumeric() || byte == b'-'",
      'byte.is_ascii_alphanumeric() || format!(byte)'),
     ('crates/semver_texts/src/bytes.rt',
-     '''// Answer: equation.
+     '''// Determined by: equation.
 /// Returns how many of the bytes are dots: 2 for `1.2.3`.
 ''',
      '''macro_rules! format {
@@ -686,7 +694,7 @@ pub fn first(bytes: &[u8], _test: fn(u8) -> bool) -> u8 {
     };
 }
 
-// Answer: equation.
+// Determined by: equation.
 /// Returns how many of the bytes are dots: 2 for `1.2.3`.
 '''),
         ],
@@ -714,7 +722,7 @@ macro_rules! format {
         'a range has no end',
         edits=[
     ('crates/semver_texts/src/bytes.rt',
-     '''// Answer: equation.
+     '''// Determined by: equation.
 /// Returns how many of the bytes are dots: 2 for `1.2.3`.
 ''',
      '''/// How many bytes there are from 250 on.
@@ -722,7 +730,7 @@ pub fn high_bytes() -> usize {
     (250u8..).take(9).count()
 }
 
-// Answer: equation.
+// Determined by: equation.
 /// Returns how many of the bytes are dots: 2 for `1.2.3`.
 '''),
         ],
@@ -918,7 +926,7 @@ fn version_of(text: &str) -> Result<Version, AllocError> {
         'a trait has a method that Rust has for the type',
         edits=[
     ('crates/semver_texts/src/bytes.rt',
-     '''// Answer: equation.
+     '''// Determined by: equation.
 /// Returns how many of the bytes are dots: 2 for `1.2.3`.
 ''',
      '''/// What can be without white space.
@@ -938,7 +946,7 @@ pub fn trimmed_len(bytes: &[u8]) -> usize {
     bytes.trim_ascii().len()
 }
 
-// Answer: equation.
+// Determined by: equation.
 /// Returns how many of the bytes are dots: 2 for `1.2.3`.
 '''),
         ],
@@ -974,7 +982,7 @@ pub fn trimmed_len(bytes: &[u8]) -> usize {
         'a shift by more bits than usize has somewhere',
         edits=[
     ('crates/semver_texts/src/bytes.rt',
-     '''// Answer: equation.
+     '''// Determined by: equation.
 /// Returns how many of the bytes are dots: 2 for `1.2.3`.
 ''',
      '''/// A bit of 64.
@@ -984,7 +992,7 @@ pub fn bit(place: usize) -> usize
     1usize << place
 }
 
-// Answer: equation.
+// Determined by: equation.
 /// Returns how many of the bytes are dots: 2 for `1.2.3`.
 '''),
     ('crates/semver_texts/src/bytes.rt', 'ghost use Rattle.std.specs.Prelude.{◌≡◌};\n',

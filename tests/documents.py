@@ -1,6 +1,6 @@
 #!/usr/bin/env python3
 """Holds README.md and docs/ against the tree: each link leads somewhere; each call, clause and definition that the
-promises of docs/PROOFS.md name is there; each public call says by a comment what fixes its answer, and the law, edit or
+promises of docs/PROOFS.md name is there; each public call says by a comment what determines its result, and the law, edit or
 file that the comment names is there; the example in Rattle of docs/COMING_FROM.md is crates/library_tests/src/example.rt;
 docs/PROOFS.md is made of the sources, docs/CRATES.md of crates.txt, docs/manual of docs/man, and rust/src/docs of docs/; each file of lemmas begins with the call that it
 serves, and each lemma is cited; the Rust crate has the licences; and docs/ERASURE.md counts the lines by hand. It judges no prose.
@@ -35,7 +35,7 @@ PROMISED_SOURCES = {'command_line': ['crates/command_line/src/options.rt']}
 # The page with the examples in C and Rattle.
 EXAMPLES = 'docs/COMING_FROM.md'
 
-# How many calls may leave an answer open, and how many mutants there may be.
+# How many calls may leave their result open, and how many mutants there may be.
 MOST_FREE = 9
 MOST_EDITS = 45
 
@@ -211,7 +211,7 @@ def proofs_page():
     """docs/PROOFS.md."""
     told = {name: what for name, what, _ in crate_lines()}
     shown = [crate for crate in crates() if crate not in UNPROMISED]
-    return proofs_index.page(TOP, shown, told, promised, is_public, is_exported, TRAITS, ANSWER)
+    return proofs_index.page(TOP, shown, told, promised, is_public, is_exported, TRAITS, DETERMINED)
 
 
 def errors_of_proofs():
@@ -233,8 +233,8 @@ def errors_of_citations():
     yield from cited.errors(TOP, crates())
 
 
-# The comment above a public call, or above an impl of a trait that has an answer.
-ANSWER = re.compile(r'// Answer: (equation|law ([\w:]+)|free, (.+): ([\w/.-]+))\.')
+# The comment above a public call, or above an impl of a trait whose calls return something.
+DETERMINED = re.compile(r'// Determined by: (equation|law ([\w:]+)|free, (.+): ([\w/.-]+))\.')
 TRAITS = r'impl(?:<[^>]*>)? ((?:fmt::)?Display|Iterator|PartialEq|From<[\w:]+>) for (\w+)'
 
 
@@ -247,7 +247,7 @@ def is_exported(crate, path, name):
         re.search(rf'pub use [^;]*\b{name}\b', top))
 
 
-def answers_something(lines):
+def returns_something(lines):
     """Whether the function that begins these lines has a result, or may write to an argument; a law does neither."""
     head = re.split(r'\n *(?:requires|ensures|\{)', '\n'.join(lines[:20]))[0]
     return '->' in head or '&mut' in head
@@ -259,18 +259,18 @@ def calls():
         if crate in UNPROMISED:
             continue
         for path in promised(crate):
-            if path.endswith('/laws.rt') or crate == 'answer_laws':
+            if path.endswith('/laws.rt') or crate == 'result_laws':
                 continue
             above, inside = None, ''
             lines = read(path).splitlines()
             for at, line in enumerate(lines):
-                found = ANSWER.fullmatch(line.strip())
+                found = DETERMINED.fullmatch(line.strip())
                 call = re.match(r' *pub fn (\w+)', line)
                 shown = re.match(TRAITS, line)
                 begins = re.match(r'impl(?:<[^>]*>)? (?:.* for )?(\w+)', line)
                 if begins:
                     inside = begins.group(1) + '::'
-                if call and is_public(crate, path, line) and answers_something(lines[at:]):
+                if call and is_public(crate, path, line) and returns_something(lines[at:]):
                     yield crate, path, (inside if line.startswith(' ') else '') + call.group(1), above
                 elif shown and is_exported(crate, path, shown.group(2)):
                     trait = shown.group(1).replace('fmt::', '')
@@ -317,22 +317,22 @@ def function_of(name):
 
 
 def laws_of(crate, path, answer):
-    """The laws that a comment names, by their paths: that of a free answer may be named from its crate, or, of the crate
-    `answer_laws`, by the module of the call."""
+    """The laws that a comment names, by their paths: that of a free result may be named from its crate, or, of the crate
+    `result_laws`, by the module of the call."""
     for name in re.findall(r'\blaw ([\w:]+)', answer.group(0)):
         parts = name.split('::')
         if len(parts) == 1:
             parts = [f'{os.path.basename(path)[:-3]}s', *parts]
-            crate = 'answer_laws'
+            crate = 'result_laws'
         yield '::'.join(parts if len(parts) == 3 else [crate, *parts])
 
 
-def errors_of_answers():
-    """Each public call says what fixes its answer, and that is there."""
+def errors_of_results():
+    """Each public call says what determines its result, and that is there."""
     free = 0
     for crate, path, name, answer in calls():
         if answer is None:
-            yield f'{path}: no comment says what fixes the answer of {name}'
+            yield f'{path}: no comment says what determines the result of {name}'
             continue
         for law in laws_of(crate, path, answer):
             text, made = function_of(law), re.split('::', name)[-1]
@@ -347,7 +347,7 @@ def errors_of_answers():
             if not os.path.exists(os.path.join(TOP, 'crates', crate, answer.group(4))):
                 yield f'{path}: there is no {answer.group(4)}'
     if free > MOST_FREE:
-        yield f'{free} calls leave an answer open, and at most {MOST_FREE} may'
+        yield f'{free} calls leave their result open, and at most {MOST_FREE} may'
     edits = sum(len(files(crate, 'must-fail', '.edit')) for crate in crates())
     if edits > MOST_EDITS:
         yield f'there are {edits} mutants, and at most {MOST_EDITS} may be'
@@ -452,7 +452,7 @@ def errors_of_licences():
 
 def errors():
     for check in (
-        errors_of_links, errors_of_files, errors_of_promises, errors_of_proofs, errors_of_answers, errors_of_clauses,
+        errors_of_links, errors_of_files, errors_of_promises, errors_of_proofs, errors_of_results, errors_of_clauses,
         errors_of_the_example, errors_of_paths, errors_of_the_readme, errors_of_ranges, errors_of_made_pages, errors_of_crates,
         errors_of_lemmas, errors_of_citations, errors_of_licences, errors_of_lines_by_hand,
     ):
@@ -478,13 +478,13 @@ EDITS = [
     ('crates/semver_texts/proofs/Joins.antt', '-- serves: ', '-- helps: '),
     ('crates/semver_texts/proofs/Joins.antt', None, 'crates/semver_texts/proofs/Joined.antt'),
     ('crates/semver_texts/proofs/Lists.antt', 'pub by_test : ', 'pub by_tests : '),
-    ('crates/semver_texts/src/bytes.rt', '// Answer: equation.\n', ''),
+    ('crates/semver_texts/src/bytes.rt', '// Determined by: equation.\n', ''),
     ('crates/command_line/src/program.rt', '        ensures status { exit_status result ≡ 2 }\n', ''),
     ('crates/tool_ranges/src/version_range.rt', '        ensures { result ≡ self.now.meaning }\n', ''),
     ('crates/semver_ranges/src/range.rt', 'ghost output = { λ op. Some (op_text op) };', ''),
-    ('crates/answer_laws/src/ranges.rt', 'pub fn one_parse(', 'pub fn one_parsing('),
-    ('crates/answer_laws/src/sets.rt', '.union(', '.joined('),
-    ('crates/answer_laws/src/sets.rt', '(first, second)\n}', '(first, first)\n}'),
+    ('crates/result_laws/src/ranges.rt', 'pub fn one_parse(', 'pub fn one_parsing('),
+    ('crates/result_laws/src/sets.rt', '.union(', '.joined('),
+    ('crates/result_laws/src/sets.rt', '(first, second)\n}', '(first, first)\n}'),
     ('crates/version_sets/src/laws.rt', '::from_number(', '::other_number('),
     ('crates/semver_parser/must-fail/report_forgets_the_npm_line.edit', None, 'crates/semver_parser/must-fail/report.edit'),
     ('docs/PROOFS.md', '`one_parse`', 'equation'),

@@ -50,7 +50,7 @@ IMPORTS = set('''
 '''.split())
 
 # Crates that have laws alone, and aren't erased.
-NOT_ERASED = {'answer_laws'}
+NOT_ERASED = {'result_laws'}
 
 UNSIGNED = {'u8', 'u16', 'u32', 'u64', 'u128'}
 NUMBERS = {*UNSIGNED, 'i8', 'i16', 'i32', 'i64', 'i128', 'usize', 'isize'}

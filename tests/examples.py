@@ -16,7 +16,7 @@ TOP = pathlib.Path(__file__).resolve().parent.parent
 
 # These modules are hidden, and these methods are for other crates of the repository.
 HIDDEN = {'layers', 'proved', 'rattle_std'}
-INTERNAL = {f'{name}::{method}' for name in ('VersionRef', 'version::Outline')
+INTERNAL = {f'{name}::{method}' for name in ('VersionRef', 'version::VersionRef')
             for method in ('compared_pre', 'pre_bytes')}
 
 METHOD = re.compile(r'<section id="method\.(\w+)[-\d]*" class="method">')

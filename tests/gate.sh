@@ -45,7 +45,7 @@ make_copy() {
         stub "$copy/tests/$script.sh" ''
     done
     for script in c.sh python.sh examples.sh checkers.sh release.sh audit.py; do
-        stub "$copy/tests/beside/$script" ''
+        stub "$copy/tests/parallel/$script" ''
     done
     for command in cargo npm; do
         stub "$work/bin/$command" ''
@@ -131,7 +131,7 @@ FAILING='gate.sh documents.py python.sh release.sh' BUILDS_NOTHING=''
 ends 1 all
 runs $((all + 6))
 names_failed tests/gate.sh tests/documents.py 'tests/documents.py --must-fail' \
-    tests/beside/python.sh tests/beside/release.sh
+    tests/parallel/python.sh tests/parallel/release.sh
 
 # Without the kit.
 tools=$work/without-the-kit:/usr/bin:/bin

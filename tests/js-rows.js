@@ -26,7 +26,7 @@ for (const [rule, name] of [['default', 'stated'], ['included', 'mean'], ['exclu
         WHOLE_PAIRS[`whole-pair-${name}-${mode}`] = options;
     }
 }
-const VERSIONS = { 'version-as-cargo': 'cargo', 'version-as-npm': 'npm', version: 'crate-cargo', outline: 'crate-cargo' };
+const VERSIONS = { 'version-as-cargo': 'cargo', 'version-as-npm': 'npm', version: 'crate-cargo', 'read-ref': 'crate-cargo' };
 const REFUSED_VERSIONS = { 'refused-as-cargo': 'cargo', 'refused-as-npm': 'npm', 'refused-as-crate': 'crate-cargo' };
 const REFUSED_RANGES = {
     'refused-range-as-cargo': 'cargo', 'refused-range-as-npm': 'npm',

@@ -1,4 +1,4 @@
-"""docs/PROOFS.md, made of the sources: each public call with what fixes its answer, its clauses, the definitions that
+"""docs/PROOFS.md, made of the sources: each public call with what determines its result, its clauses, the definitions that
 they cite, and the files of lemmas that its proof imports."""
 import itertools
 import os
@@ -11,7 +11,7 @@ PROMISES = '''## The promises
 | `semver_tokens` | the lexer gives exactly the tokens of a text, then one error at most | [`Lexer::new`](../crates/semver_tokens/src/lexer.rt): `state` | [`Tokens`](../crates/semver_tokens/specs/Tokens.antt) |
 | `semver_tokens` | each step of a parser is a function of its state, unless memory runs out | [`Parser`](../crates/semver_tokens/src/parser.rt): `step`, `answer` | [`ParserSteps`](../crates/semver_tokens/specs/ParserSteps.antt) |
 | `semver_versions` | a version is read exactly if the text spells it | [`version::read`](../crates/semver_versions/src/version.rt): `exact`, `none` | [`VersionGrammar`](../crates/semver_texts/specs/VersionGrammar.antt) |
-| `semver_versions` | the same for Cargo's and npm's versions, without allocating | [`version::outline_in`](../crates/semver_versions/src/version.rt): `outlined`, `none`, `version` | [`ToolVersions`](../crates/semver_texts/specs/ToolVersions.antt) |
+| `semver_versions` | the same for Cargo's and npm's versions, without allocating | [`version::read_ref_in`](../crates/semver_versions/src/version.rt): `borrowed`, `none`, `version` | [`ToolVersions`](../crates/semver_texts/specs/ToolVersions.antt) |
 | `invalid_strings` | where and why a text is an invalid version | [`refusals::explain`](../crates/invalid_strings/src/refusals.rt): `version`, `offset`, `reason` | [`VersionPrefixes`](../crates/invalid_strings/specs/VersionPrefixes.antt), [`Reasons`](../crates/invalid_strings/specs/Reasons.antt) |
 | `semver_ranges` | errors of a range are exact | [`RangeSet::parse`](../crates/semver_ranges/src/range_set.rt): `refusals` | [`RangeTexts`](../crates/semver_ranges/specs/RangeTexts.antt), [`RangeTree`](../crates/semver_ranges/specs/RangeTree.antt) |
 | `semver_ranges` | the comparators mean the text, but for pre-releases of raised bounds | [`RangeSet::parse`](../crates/semver_ranges/src/range_set.rt): `meaning` | [`OwnMeaning`](../crates/semver_ranges/specs/OwnMeaning.antt), [`Meeting`](../crates/semver_ranges/specs/Meeting.antt) |
@@ -29,7 +29,7 @@ PROMISES = '''## The promises
 | `range_terms` | with another version at the place of one the text is a range again | [`Terms::try_parse`](../crates/range_terms/src/terms.rt): `replaceable` | [`Replacing`](../crates/range_terms/specs/Replacing.antt) |
 | `release_filter` | exactly the wanted lines of a text in pieces are appended | [`Lines::push`, `Lines::finish`](../crates/release_filter/src/lines.rt): `takes`, `stops`, `finishes` | [`Pieces`](../crates/release_filter/specs/Pieces.antt), [`Verdicts`](../crates/release_filter/specs/Verdicts.antt) |
 | `command_line` | dialect options mean what they say | [`MeaningOptions`](../crates/command_line/src/options.rt): `dialect`, `npm`, `rule` | [`Options`](../crates/command_line/specs/Options.antt) |
-| `answer_laws` | two results of a call are equal, or one is out of memory | [`one_read`](../crates/answer_laws/src/sets.rt): `one` | [`OneAnswer`](../crates/answer_laws/specs/OneAnswer.antt) |
+| `result_laws` | two results of a call are equal, or one is out of memory | [`one_read`](../crates/result_laws/src/sets.rt): `one` | [`OneResult`](../crates/result_laws/specs/OneResult.antt) |
 
 Below these is `semver_texts`. Programs: `semver_parser_main`, `release_filter_main`, `compare_ranges_main`. Tests:
 `library_tests`, `replayed_cases`.
@@ -47,9 +47,9 @@ has one, except the views of `Lexer`, `VersionSet` and `Lines`. `requires` marks
 the word "one".
 
 ''' + PROMISES + '''
-## One answer for each call
+## One result for each call
 
-The comment `// Answer: ..` above a public call says what determines its result:
+The comment `// Determined by: ..` above a public call says what determines its result:
 
 - **equation**: a clause gives what the call returns and leaves as a function of what it was given, always, or if it
   returns `Ok`, and then `Err` is out of memory or the writer's own error. For `Conjunction` and `Ranges` of

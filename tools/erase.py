@@ -17,7 +17,7 @@ from erase_stops import (DERIVES, MACROS, PREFIX, SAME_ATTRIBUTES, SAME_CALLS, a
                          tidied)
 
 # Crates that hold laws alone.
-NOT_ERASED = {'answer_laws'}
+NOT_ERASED = {'result_laws'}
 
 # Rule 12. Methods and functions of std that return a `Result` in Rattle because they allocate, by
 # the number of arguments without the allocator. They get the prefix, and are in rattle_std.
@@ -380,7 +380,7 @@ def of_std(codes):
 def layout(code, of_std):
     """Rule 18: the text of a file, after its first lines."""
     text = ''.join(token.text for token in code.t
-                   if not re.match(r'// (Answer|In Rust): ', token.text))
+                   if not re.match(r'// (Determined by|In Rust): ', token.text))
     text = tidied(text)
     head = re.match(r'(?:\s*//![^\n]*\n)*', text).end()
     first = f'// Made by tools/erase.py from {code.path}; not edited by hand.\n'

@@ -50,7 +50,7 @@ PASSAGES = {
          " one tree (`laws::one_version_in`, `one_tree`).",
          " It is proved that in each grammar a string has at most one version or one tree."),
         ("SemVer 2.0.0 (semver.org, sections 2, 9 and 10)", f"{SEMVER} (sections 2, 9 and 10)"),
-        ("`version::outline_in` reads", "[`version::outline_in`](crate::version::outline_in) reads"),
+        ("`version::read_ref_in` reads", "[`version::read_ref_in`](crate::version::read_ref_in) reads"),
         ("Two laws of `semver_texts` relate the dialects.", "Two laws, which are proved, relate the dialects."),
         ("The function `invalid_strings::refusals::explain` returns an offset and a reason:",
          "An [`Error`](crate::Error) of a version has an offset and a reason:"),

@@ -1,7 +1,7 @@
 //! Functions for the C and JavaScript layers. Their errors are plain values and copy no string.
 
 use crate::proved::{invalid_strings, tool_ranges};
-use crate::version::Outline;
+use crate::version::VersionRef;
 use crate::{AllocError, Dialect, Meaning, PartialVersion, PreReleases, RangeError, RangeSet, Terms};
 
 pub use crate::proved::invalid_strings::refusals::Refusal as VersionRefusal;
@@ -122,7 +122,7 @@ pub fn comparators_of_meaning(range: &str, meaning: Meaning) -> Result<RangeSet,
 pub fn replace_version<'a>(
     range: &'a str,
     start: usize,
-    version: &Outline<'a>,
+    version: &VersionRef<'a>,
     dialect: Dialect,
 ) -> Result<Option<(&'a str, PartialVersion<'a>, &'a str)>, RangeError> {
     let mut versions = Terms::try_parse(range, dialect)?

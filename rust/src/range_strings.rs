@@ -85,7 +85,7 @@ pub fn satisfies_bytes(
 /// assert_eq!((error.offset(), error.reason()), (Some(0), Some(Reason::CargoV)));
 /// ```
 pub fn check_version(version: &str, dialect: Dialect) -> Result<(), Error> {
-    semver_versions::version::outline_in(version.as_bytes(), dialect.grammar())
+    semver_versions::version::read_ref_in(version.as_bytes(), dialect.grammar())
         .map(|_| ())
         .ok_or_else(|| Error::from_version(version.as_bytes(), dialect))
 }

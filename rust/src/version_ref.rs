@@ -1,13 +1,13 @@
 //! Versions that borrow their string, and conversions between versions and strings.
 
 use crate::original::{out_of_memory, printed};
-use crate::proved::semver_versions::version::outline_in;
+use crate::proved::semver_versions::version::read_ref_in;
 use crate::version::{self, Version};
 use crate::{Dialect, Error};
 use alloc::string::String;
 use core::str::FromStr;
 
-pub use crate::proved::semver_versions::version::Outline as VersionRef;
+pub use crate::proved::semver_versions::version::VersionRef;
 
 impl<'t> VersionRef<'t> {
     /// Reads a version string in a dialect. The result borrows the string, and nothing is allocated
@@ -44,7 +44,7 @@ impl<'t> VersionRef<'t> {
     /// # Ok::<(), semver_parser::Error>(())
     /// ```
     pub fn parse_bytes(bytes: &'t [u8], dialect: Dialect) -> Result<VersionRef<'t>, Error> {
-        outline_in(bytes, dialect.grammar()).ok_or_else(|| Error::from_version(bytes, dialect))
+        read_ref_in(bytes, dialect.grammar()).ok_or_else(|| Error::from_version(bytes, dialect))
     }
 
     /// Returns the version with strings of its own. [`VersionRef::version`] instead returns an

@@ -19,7 +19,7 @@ OPERATORS = ["", "", "", "=", "<", "<=", ">", ">=", "^", "~", "~>", "= ", "^ ", 
 BETWEEN = [" ", " ", "  ", ", ", ",", " || ", "||", "|", " - ", "-", "\t", "\\n", " && ", ""]
 STRAY = ["x", "X", "*", "v", ".", "-", "+", " ", "|", "/", "é", "\u00a0", "\u3000", "\ufeff", "\u2028", "𝒳", "\\t", "\\r\\n", "\x0b", "\\\\"]
 VERSION_CALLS = ["version", "read", "version-as-cargo", "version-as-npm", "refused-as-crate", "refused-as-cargo",
-                 "refused-as-npm", "outline", "version-text", "error-text", "lex", "kinds", "report"]
+                 "refused-as-npm", "read-ref", "version-text", "error-text", "lex", "kinds", "report"]
 RANGE_CALLS = ["report", "from-str", "cargo", "npm", "cargo-text", "npm-text", "cargo-exact", "npm-exact",
                "rewritten-as-cargo", "rewritten-as-npm", "refused-range-as-cargo", "refused-range-as-npm",
                "refused-range-as-crate-cargo", "refused-range-as-crate-npm"]

@@ -1,7 +1,7 @@
 //! The names of the crate `semver` that its tests use, over semver-parser-proved by `Dialect::Cargo`.
 //! What is compared are the calls of that: here is nothing that decides.
 
-use semver_parser::version::outline_in;
+use semver_parser::version::read_ref_in;
 use semver_parser::{check_range, comparators, refusals, satisfies, Dialect, RangeSet};
 use std::cmp::Ordering;
 use std::fmt::{self, Display};
@@ -71,7 +71,7 @@ impl Version {
         if let Some(refusal) = refusals::of_version(text, CARGO) {
             return Err(Error(refusal.reason.sentence().to_string()));
         }
-        let read = outline_in(text.as_bytes(), CARGO.grammar()).unwrap();
+        let read = read_ref_in(text.as_bytes(), CARGO.grammar()).unwrap();
         Ok(Version {
             major: read.major(),
             minor: read.minor(),
@@ -95,8 +95,8 @@ impl PartialOrd for Version {
     fn partial_cmp(&self, other: &Version) -> Option<Ordering> {
         let (one, two) = (self.to_string(), other.to_string());
         let (one, two) = (one.as_bytes(), two.as_bytes());
-        let other = outline_in(two, CARGO.grammar())?;
-        Some(outline_in(one, CARGO.grammar())?.compare(&other))
+        let other = read_ref_in(two, CARGO.grammar())?;
+        Some(read_ref_in(one, CARGO.grammar())?.compare(&other))
     }
 }
 

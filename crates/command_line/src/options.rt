@@ -45,7 +45,7 @@ impl Model for MeaningOptions {
 }
 
 impl MeaningOptions {
-    // Answer: equation.
+    // Determined by: equation.
     /// Returns the state without any option.
     pub fn new() -> MeaningOptions
         ensures { result ≡ no_options }
@@ -57,7 +57,7 @@ impl MeaningOptions {
         }
     }
 
-    // Answer: free, UnknownDialect or Unreadable: ../../tests/release-filter-runs.sh.
+    // Determined by: free, UnknownDialect or Unreadable: ../../tests/release-filter-runs.sh.
     /// Takes an argument. Returns whether it is one of these options, or the name after `--dialect`
     /// or `--as`. Other arguments are left to the program.
     ///
@@ -138,7 +138,7 @@ impl MeaningOptions {
         Ok(true)
     }
 
-    // Answer: equation.
+    // Determined by: equation.
     /// Returns whether an option requested a dialect.
     pub fn has_dialect(&self) -> bool
         ensures { result ≡ is_some self.now.dialect }
@@ -146,7 +146,7 @@ impl MeaningOptions {
         self.dialect.is_some()
     }
 
-    // Answer: equation.
+    // Determined by: equation.
     /// Returns the meaning, once all options are taken. Without options it is Cargo's dialect with
     /// the default rule for pre-releases.
     ///

@@ -34,7 +34,7 @@ impl Program {
         ExitCode::SUCCESS
     }
 
-    // Answer: equation.
+    // Determined by: equation.
     /// Writes the error in the arguments in one line, and returns status 2.
     pub fn misused(self, rt: &impl Eprint, error: &ArgumentError) -> ExitCode
         ensures status { exit_status result ≡ 2 }
@@ -47,7 +47,7 @@ impl Program {
         ExitCode::from(2)
     }
 
-    // Answer: equation.
+    // Determined by: equation.
     /// Reports that output can't be written, and returns status 2.
     pub fn cannot_write(self, rt: &impl Eprint, error: &io::Error) -> ExitCode
         ensures status { exit_status result ≡ 2 }
@@ -56,7 +56,7 @@ impl Program {
         ExitCode::from(2)
     }
 
-    // Answer: equation.
+    // Determined by: equation.
     /// Writes the error of a range, with the string and the offset, and returns status 2.
     pub fn refuse_range(
         self,

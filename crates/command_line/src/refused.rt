@@ -36,7 +36,7 @@ pub(crate) fn refused_text(
     Ok(written)
 }
 
-// Answer: law answer_laws::ranges::one_refusal.
+// Determined by: law result_laws::ranges::one_refusal.
 /// Returns the message for an error in one line, without the range:
 /// `not a range (at byte 4: Cargo takes no ||; npm does)`. `Err` means out of memory.
 pub fn refused_line(

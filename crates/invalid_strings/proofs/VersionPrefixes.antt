@@ -19,7 +19,7 @@ use Rattle.semver_versions.proofs.CutIdentifiers.{spelled_are}
 use Rattle.semver_versions.proofs.KeptTexts.{all_kept, any_kept_all, identifiers_are_parts, kept_any_all, kept_parts}
 use Rattle.semver_versions.proofs.KeptTexts.{kept_spelled_all}
 use Rattle.semver_texts.proofs.Lists.{each_passes}
-use Rattle.semver_versions.specs.Outlines.{identifier_of}
+use Rattle.semver_versions.specs.VersionRefs.{identifier_of}
 use Rattle.semver_versions.specs.AnyLength.{IsVersionAtAnyLength}
 use Rattle.invalid_strings.proofs.Completions.{Completes, Many, Seq, are_among, are_completions, both, byte, bytes_go_on, is_one, limited}
 use Rattle.invalid_strings.proofs.Completions.{many, optional, same, seq}

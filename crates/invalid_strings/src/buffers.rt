@@ -13,7 +13,7 @@ pub(crate) fn write(buffer: &mut [u8], offset: usize, bytes: &[u8])
     buffer[offset..offset + bytes.len()].copy_from_slice(bytes);
 }
 
-// Answer: equation.
+// Determined by: equation.
 /// Replaces the content of the buffer by two strings, one after the other. It does not allocate,
 /// since the buffer's capacity has to hold both.
 pub fn join(buffer: &mut String, first: &str, second: &str)

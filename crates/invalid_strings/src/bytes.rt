@@ -7,7 +7,7 @@ ghost use Rattle.invalid_strings.specs.VersionPrefixes.{IsPrefixIn, IsVersionOf}
 
 use crate::buffers::write;
 use semver_texts::grammar::Grammar;
-use semver_versions::version::{is_version_at_any_length, outline_in};
+use semver_versions::version::{is_version_at_any_length, read_ref_in};
 
 /// The bytes that complete a prefix.
 const COMPLETIONS: [&[u8]; 23] = [
@@ -83,7 +83,7 @@ pub(crate) fn is_version(bytes: &[u8], len: Length, grammar: Grammar) -> bool
     ensures { IsTrue result ↔ IsVersionOf len grammar bytes.now }
 {
     match len {
-        Length::Allowed => outline_in(bytes, grammar).is_some(),
+        Length::Allowed => read_ref_in(bytes, grammar).is_some(),
         Length::Any => is_version_at_any_length(bytes, grammar),
     }
 }

@@ -35,7 +35,7 @@ pub trait Language {
         ensures { result < length (completions self.now) };
 }
 
-// Answer: law invalid_strings::laws::one_offset.
+// Determined by: law invalid_strings::laws::one_offset.
 /// Returns the end of the longest prefix of a string with which some string of a language begins.
 /// It is the length of the string if the string itself belongs to the language. For npm's versions,
 /// `1.2.x` gives 4, since `1.2.0` begins with its first 4 bytes.

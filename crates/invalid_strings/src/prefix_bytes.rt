@@ -6,7 +6,7 @@ ghost use Rattle.invalid_strings.specs.Reasons.{is_separator};
 
 use semver_texts::white_space::is_ascii_white_space;
 
-// Answer: equation.
+// Determined by: equation.
 /// Returns the byte at an offset, if there is one.
 pub fn byte_at(text: &[u8], offset: usize) -> Option<u8>
     ensures { result ≡ byte_at text.now offset }
@@ -18,7 +18,7 @@ pub fn byte_at(text: &[u8], offset: usize) -> Option<u8>
     }
 }
 
-// Answer: equation.
+// Determined by: equation.
 /// Returns a byte by its offset from the end, or 0 before the first byte.
 pub fn from_end(prefix: &[u8], offset: usize) -> u8
     ensures { result ≡ from_end prefix.now offset }
@@ -30,7 +30,7 @@ pub fn from_end(prefix: &[u8], offset: usize) -> u8
     }
 }
 
-// Answer: equation.
+// Determined by: equation.
 /// Returns whether a prefix ends in a zero without a digit before it.
 pub fn ends_in_zero(prefix: &[u8]) -> bool
     ensures { result ≡ ends_in_zero prefix.now }
@@ -38,7 +38,7 @@ pub fn ends_in_zero(prefix: &[u8]) -> bool
     from_end(prefix, 0) == b'0' && !from_end(prefix, 1).is_ascii_digit()
 }
 
-// Answer: equation.
+// Determined by: equation.
 /// Returns whether a prefix has no digit.
 pub fn has_no_digit(prefix: &[u8]) -> bool
     ensures { result ≡ has_no_digit prefix.now }
@@ -46,7 +46,7 @@ pub fn has_no_digit(prefix: &[u8]) -> bool
     prefix.iter().all(|byte| !byte.is_ascii_digit())
 }
 
-// Answer: equation.
+// Determined by: equation.
 /// Returns whether the byte can follow a number or an identifier in some version.
 pub fn is_separator(byte: u8) -> bool
     ensures { result ≡ is_separator byte }

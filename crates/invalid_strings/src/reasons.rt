@@ -80,7 +80,7 @@ pub enum Reason {
 }
 
 impl Reason {
-    // Answer: equation.
+    // Determined by: equation.
     /// Returns the reason for a number that is above the limit of a dialect.
     ///
     /// ```
@@ -100,7 +100,7 @@ impl Reason {
         }
     }
 
-    // Answer: equation.
+    // Determined by: equation.
     /// Returns the reason for a number of a range that can't be raised, since the bound above it
     /// would be above the limit of a dialect.
     ///
@@ -121,7 +121,7 @@ impl Reason {
         }
     }
 
-    // Answer: equation.
+    // Determined by: equation.
     /// Returns the number of the reason in C, Python and JavaScript.
     ///
     /// ```
@@ -136,7 +136,7 @@ impl Reason {
         self.row().0
     }
 
-    // Answer: law invalid_strings::laws::one_reason_of_number.
+    // Determined by: law invalid_strings::laws::one_reason_of_number.
     /// Returns the reason with a number, or `None` if no reason has it.
     ///
     /// ```
@@ -178,7 +178,7 @@ impl Reason {
         }
     }
 
-    // Answer: equation.
+    // Determined by: equation.
     /// Returns the name of the reason for programs, in lower case with hyphens.
     ///
     /// ```
@@ -193,7 +193,7 @@ impl Reason {
         self.row().1
     }
 
-    // Answer: equation.
+    // Determined by: equation.
     /// Returns the sentence of the reason for people, without a full stop.
     ///
     /// ```
@@ -274,7 +274,7 @@ impl Reason {
     }
 }
 
-// Answer: equation.
+// Determined by: equation.
 impl fmt::Display for Reason {
     ghost output = { λ reason. Some (sentence_of reason) };
 

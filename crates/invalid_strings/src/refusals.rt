@@ -187,7 +187,7 @@ fn with_next(input: &[u8], offset: usize) -> &[u8]
     }
 }
 
-// Answer: law answer_laws::texts::one_explanation.
+// Determined by: law result_laws::texts::one_explanation.
 /// Returns the error of a version string, with its offset and reason, or `None` if the version is
 /// valid.
 ///

@@ -3,7 +3,7 @@
 use crate::longest::Language;
 use semver_texts::bytes::count_dots;
 use semver_texts::grammar::Grammar;
-use semver_versions::version::outline_in;
+use semver_versions::version::read_ref_in;
 
 /// The strings that complete a prefix of a version. After a number or an identifier nothing is
 /// missing; an identifier needs a letter; before that, numbers are missing.
@@ -25,7 +25,7 @@ impl Language for Versions {
     ghost completions = { λ versions. version_completions };
 
     fn contains(&self, text: &str) -> bool {
-        outline_in(text.as_bytes(), self.grammar).is_some()
+        read_ref_in(text.as_bytes(), self.grammar).is_some()
     }
 
     fn all_completions(&self) -> &[&str] {

@@ -48,7 +48,7 @@ const DIALECTS: [(&[u8], [bool; 3]); 10] = [
 /// Writes the indices of the bytes with another result, and how many there were.
 pub fn write_bytes(rt: &impl Print, alloc: Global) -> io::Result<()> {
     for (place, (bytes, wanted)) in BYTES.iter().enumerate() {
-        if !are_read_as(alloc, bytes, *wanted)? || !are_outlined_as(alloc, bytes, *wanted)? {
+        if !are_read_as(alloc, bytes, *wanted)? || !are_borrowed_as(alloc, bytes, *wanted)? {
             println!(rt; "bytes: wrong at {place}")?;
         }
     }
@@ -76,10 +76,10 @@ fn are_read_as(alloc: Global, bytes: &[u8], wanted: Option<&str>) -> Result<bool
 
 /// Returns whether the bytes have a borrowed version, whose version is printed as `wanted`, or
 /// none.
-fn are_outlined_as(alloc: Global, bytes: &[u8], wanted: Option<&str>) -> Result<bool, AllocError> {
-    match (version::outline_bytes(bytes), wanted) {
-        (Some(outline), Some(wanted)) => {
-            let version = outline.version(alloc)?;
+fn are_borrowed_as(alloc: Global, bytes: &[u8], wanted: Option<&str>) -> Result<bool, AllocError> {
+    match (version::read_ref_bytes(bytes), wanted) {
+        (Some(borrowed), Some(wanted)) => {
+            let version = borrowed.version(alloc)?;
             Ok(version.to_string(alloc)?.as_str() == wanted)
         }
         (None, None) => Ok(true),
@@ -89,31 +89,31 @@ fn are_outlined_as(alloc: Global, bytes: &[u8], wanted: Option<&str>) -> Result<
 
 /// Returns whether a string has these parts at these offsets.
 fn has_parts(text: &str, pre: (&str, usize), build: (&str, usize)) -> bool {
-    let Some(outline) = version::outline(text) else {
+    let Some(borrowed) = version::read_ref(text) else {
         return false;
     };
-    outline.pre() == pre.0
-        && outline.pre_offset() == pre.1
-        && outline.build() == build.0
-        && outline.build_offset() == build.1
+    borrowed.pre() == pre.0
+        && borrowed.pre_offset() == pre.1
+        && borrowed.build() == build.0
+        && borrowed.build_offset() == build.1
 }
 
 /// Returns whether the bytes are a version in the dialects of the crate, of Cargo and of npm as
 /// wanted.
 fn are_versions(bytes: &[u8], wanted: [bool; 3]) -> bool {
     let [by_crate, by_cargo, by_npm] = wanted;
-    version::outline_in(bytes, Grammar::Crate).is_some() == by_crate
-        && version::outline_in(bytes, Grammar::Cargo).is_some() == by_cargo
-        && version::outline_in(bytes, Grammar::Npm).is_some() == by_npm
+    version::read_ref_in(bytes, Grammar::Crate).is_some() == by_crate
+        && version::read_ref_in(bytes, Grammar::Cargo).is_some() == by_cargo
+        && version::read_ref_in(bytes, Grammar::Npm).is_some() == by_npm
 }
 
 /// Returns whether the identifiers of a string's parts are printed as these.
 fn are_cut_as(alloc: Global, text: &str, pre: &str, build: &str) -> Result<bool, AllocError> {
-    let Some(outline) = version::outline(text) else {
+    let Some(borrowed) = version::read_ref(text) else {
         return Ok(false);
     };
-    let identifiers = outline.pre_identifiers(alloc)?;
-    let others = outline.build_identifiers(alloc)?;
+    let identifiers = borrowed.pre_identifiers(alloc)?;
+    let others = borrowed.build_identifiers(alloc)?;
     Ok(print_as(alloc, &identifiers, pre)? && print_as(alloc, &others, build)?)
 }
 

@@ -1,7 +1,7 @@
 -- The numbers of a version in the form of another one, which is written in a range.
 use Rattle.std.specs.Prelude.{ℕ, Bool, true, false, ◌&&◌, if◌then◌else◌, Option, Some, []}
 use Rattle.std.specs.Prelude.{option_map}
-use Rattle.semver_versions.specs.Outlines.{OutlineValue}
+use Rattle.semver_versions.specs.VersionRefs.{VersionRefValue}
 use Rattle.range_terms.specs.declared.term.Component.{Component}
 use Rattle.range_terms.specs.declared.term.Component.TheVariants.{Number, Wildcard}
 use Rattle.range_terms.specs.WrittenTerms.{WrittenVersion}
@@ -21,7 +21,7 @@ states_three v = is_number (Some v.major) && (is_number v.minor && is_number v.p
 
 -- the numbers of a version, with as many components as are written, and with the wildcards and the
 -- `v` that are; and its pre-release, if three numbers are stated
-abbrev pub with_version : WrittenVersion → OutlineValue → WrittenVersion
+abbrev pub with_version : WrittenVersion → VersionRefValue → WrittenVersion
 with_version written v =
     record {
       span = written.span;

@@ -7,7 +7,7 @@ ghost use Rattle.range_terms.specs.Rewriting.{component_with, states_three, with
 ghost use Rattle.range_terms.specs.WrittenTerms.{version_value};
 ghost use Rattle.range_terms.specs.WrittenTexts.{dot_text, part_text};
 
-use semver_versions::version::Outline;
+use semver_versions::version::VersionRef;
 use std::fmt;
 
 /// The operator at the beginning of a term, or that of a hyphen range.
@@ -43,7 +43,7 @@ pub enum Operator {
 }
 
 impl Operator {
-    // Answer: equation.
+    // Determined by: equation.
     /// Returns the number of the operator in the C API. The operators of comparators have the same
     /// numbers there.
     ///
@@ -69,7 +69,7 @@ impl Operator {
         }
     }
 
-    // Answer: equation.
+    // Determined by: equation.
     /// Returns the operator as it is written: `~` also for `~>`, `-` for a hyphen range, and an
     /// empty string if there is no operator.
     ///
@@ -115,7 +115,7 @@ pub enum Component {
     Wildcard(char),
 }
 
-// Answer: equation.
+// Determined by: equation.
 impl fmt::Display for Component {
     ghost use Rattle.std.specs.Prelude.{Some};
     ghost use Rattle.range_terms.specs.WrittenTexts.{component_text};
@@ -182,7 +182,7 @@ pub struct PartialVersion<'text> {
 }
 
 impl<'text> PartialVersion<'text> {
-    // Answer: equation.
+    // Determined by: equation.
     /// Returns the numbers of another version in the form of this one: with as many components,
     /// with its wildcards, and with a `v` if it has one. The pre-release of the other version is
     /// kept if this one has three numbers, and its build metadata is left out. The span stays that
@@ -201,7 +201,7 @@ impl<'text> PartialVersion<'text> {
     /// # Ok::<(), semver_parser::Error>(())
     /// ```
     #[must_use]
-    pub fn with_version<'version>(&self, version: &Outline<'version>) -> PartialVersion<'version>
+    pub fn with_version<'version>(&self, version: &VersionRef<'version>) -> PartialVersion<'version>
         ensures { version_value result ≡ with_version (version_value self.now) version.now }
     {
         PartialVersion {
@@ -254,7 +254,7 @@ fn with_number_if_written(component: Option<Component>, number: u64) -> Option<C
     }
 }
 
-// Answer: equation.
+// Determined by: equation.
 impl<'text> fmt::Display for PartialVersion<'text> {
     ghost use Rattle.std.specs.Prelude.{Some};
     ghost use Rattle.range_terms.specs.WrittenTerms.{version_value};

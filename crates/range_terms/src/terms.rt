@@ -71,7 +71,7 @@ impl<'text> Model for Terms<'text> {
 }
 
 impl<'text> Terms<'text> {
-    // Answer: law answer_laws::ranges::one_terms.
+    // Determined by: law result_laws::ranges::one_terms.
     /// Checks a range string in a dialect, and returns its terms.
     ///
     /// If the part of the string at the span of a version is replaced by another partial version of
@@ -120,7 +120,7 @@ impl<'text> Terms<'text> {
     }
 }
 
-// Answer: equation.
+// Determined by: equation.
 impl<'text> Iterator for Terms<'text> {
     ghost use Rattle.std.specs.Iterator.{YieldsFirstBy, item_count};
     ghost use Rattle.range_terms.specs.WrittenTerms.{term_value};
@@ -142,7 +142,7 @@ impl<'text> Iterator for Terms<'text> {
     }
 }
 
-// Answer: equation.
+// Determined by: equation.
 /// Returns an iterator that has the same terms left.
 #[must_use]
 pub fn copy<'text>(terms: &Terms<'text>) -> Terms<'text>

@@ -244,7 +244,7 @@ selected_text [] = refl
 selected_text (x ∷ xs) = refl
 
 -- of what isn't kept nothing is selected
-pub none_selected : (r : Judged) → ((outline : _) (given : _) → r ≡ Kept outline given → ⊥) → selected_as (verdict_of r) ≡ []
+pub none_selected : (r : Judged) → ((borrowed : _) (given : _) → r ≡ Kept borrowed given → ⊥) → selected_as (verdict_of r) ≡ []
 none_selected (NotAVersion text) isnt = selected_text text.now
 none_selected Outside isnt = refl
-none_selected (Kept outline given) isnt = absurd (isnt outline given refl)
+none_selected (Kept borrowed given) isnt = absurd (isnt borrowed given refl)

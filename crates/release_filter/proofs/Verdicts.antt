@@ -9,7 +9,7 @@ use Rattle.semver_texts.specs.Texts.{Text, is_empty}
 use Rattle.semver_texts.specs.Versions.{VersionValue}
 use Rattle.semver_texts.specs.ToolVersions.{IsVersionTextIn, SpellsIn}
 use Rattle.semver_texts.specs.declared.grammar.Grammar.{Grammar}
-use Rattle.semver_versions.specs.Outlines.{OutlineValue, version_of}
+use Rattle.semver_versions.specs.VersionRefs.{VersionRefValue, version_of}
 use Rattle.version_sets.specs.PreReleaseRules.{numbers_fit}
 use Rattle.version_sets.specs.VersionSets.{contains}
 use Rattle.release_filter.specs.Matching.{matches}
@@ -33,7 +33,7 @@ module _ (grammar : Grammar) (prefix text : Text) where
   none_spelled rest e none p v (is, has) =
       none (v, subst (SpellsIn grammar v) (append_cancel_left prefix has.0 rest (sym has.1 ∙ e)) has.2)
 
-pub matched : (range : RangeValue) (o : OutlineValue) (is : Bool) → numbers_fit (version_of o).plain ≡ true
+pub matched : (range : RangeValue) (o : VersionRefValue) (is : Bool) → numbers_fit (version_of o).plain ≡ true
     → is ≡ contains range.versions (version_of o).plain → matches range (version_of o) ≡ is
 matched range o is fits so = ap (λ b. b && contains range.versions (version_of o).plain) fits ∙ sym so
 

@@ -10,7 +10,7 @@ ghost use Rattle.version_sets.specs.VersionSets.{contains, Fits};
 ghost use Rattle.version_sets.specs.declared.rules.PreReleases.TheVariants.{Excluded};
 ghost use Rattle.release_filter.specs.KeptReleases.{kept_releases};
 
-use crate::kept::kept;
+use crate::contained::contained;
 use semver_ranges::{Compat, RangeError};
 use semver_versions::version::Version;
 use std::alloc::Global;
@@ -30,7 +30,7 @@ const NPM: Meaning = Meaning {
     pre_releases: PreReleases::Excluded,
 };
 
-// Answer: law answer_laws::filters::one_filter_text.
+// Determined by: law result_laws::filters::one_filter_text.
 /// Returns the versions without a pre-release that satisfy a range. They are in the given order,
 /// with repeats. Pre-releases are never in the result, whatever the range says.
 ///
@@ -69,7 +69,7 @@ pub fn filter_text<'v>(
         → map (λ v. v.now) kept.items ≡ kept_releases compat tree versions.now) }
 {
     let set = read_releases(alloc, text, compat)?;
-    match kept(alloc, &set, versions) {
+    match contained(alloc, &set, versions) {
         Ok(kept) => Ok(kept),
         Err(_) => Err(RangeError::OutOfMemory),
     }

@@ -8,7 +8,7 @@ ghost use Rattle.release_filter.specs.Steps.Taking.{HasOne};
 
 use crate::line_texts::{LONGEST, LineEnd, text_after, text_of};
 use semver_versions::laws;
-use semver_versions::version::{Outline, outline_in};
+use semver_versions::version::{VersionRef, read_ref_in};
 use tool_ranges::version_range::VersionRange;
 
 /// The range, and how the lines are read and written.
@@ -28,7 +28,7 @@ pub(crate) enum Judged<'l> {
     /// It has a version that the range doesn't contain.
     Outside,
     /// It has this version, which the range contains, and these are the bytes to write.
-    Kept(Outline<'l>, &'l [u8]),
+    Kept(VersionRef<'l>, &'l [u8]),
 }
 
 impl Judge {
@@ -76,15 +76,15 @@ impl Judge {
             (HasOne (versions_grammar self.now.range) prefix.now text.now) text.now line.now
             result }
     {
-        laws::one_outlined_version();
+        laws::one_borrowed_version();
         let Some(rest) = text_after(prefix, text) else {
             return Judged::NotAVersion(text);
         };
-        let Some(version) = outline_in(rest, self.range.meaning().dialect.grammar()) else {
+        let Some(version) = read_ref_in(rest, self.range.meaning().dialect.grammar()) else {
             return Judged::NotAVersion(text);
         };
-        laws::numbers_of_outlines_fit(&version);
-        if self.range.contains_outline(&version) {
+        laws::numbers_of_refs_fit(&version);
+        if self.range.contains_ref(&version) {
             Judged::Kept(version, self.given(line, prefix.len()))
         } else {
             Judged::Outside

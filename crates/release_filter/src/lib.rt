@@ -3,11 +3,11 @@
 //! decides which versions satisfy a range set.
 #![tactic(auto)]
 
+mod contained;
 mod counts;
 mod filter;
 mod held;
 mod judge;
-mod kept;
 pub mod laws;
 mod line_options;
 mod line_texts;

@@ -39,7 +39,7 @@ pub struct LineOptions {
 }
 
 impl LineOptions {
-    // Answer: equation.
+    // Determined by: equation.
     /// Returns the default options: every kept line is wanted and stays as it is, a line feed ends
     /// a line, and a line without a version is not an error.
     ///

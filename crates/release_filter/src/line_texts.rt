@@ -36,7 +36,7 @@ pub enum LineEnd {
 }
 
 impl LineEnd {
-    // Answer: equation.
+    // Determined by: equation.
     /// Returns the byte that ends a line.
     ///
     /// ```

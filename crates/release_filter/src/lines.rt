@@ -44,7 +44,7 @@ pub enum LinesError {
     NoVersion(u64),
 }
 
-// Answer: equation.
+// Determined by: equation.
 impl From<AllocError> for LinesError {
     ghost use Rattle.std.specs.Prelude.{◌≡◌};
     ghost use Rattle.release_filter.specs.declared.lines.LinesError.TheVariants.{OutOfMemory};
@@ -117,7 +117,7 @@ impl Model for Lines {
 }
 
 impl Lines {
-    // Answer: equation.
+    // Determined by: equation.
     /// Returns the lines of a text from which no byte was taken yet.
     ///
     /// ```
@@ -171,7 +171,7 @@ impl Lines {
         }
     }
 
-    // Answer: law release_filter::laws::one_push.
+    // Determined by: law release_filter::laws::one_push.
     /// Takes the next bytes of the text. Of the lines that end in them, it appends the kept ones
     /// that are wanted at once.
     ///
@@ -222,7 +222,7 @@ impl Lines {
         self.begin_line(begun)
     }
 
-    // Answer: law release_filter::laws::one_finish.
+    // Determined by: law release_filter::laws::one_finish.
     /// Takes the end of the text, and the last line if it has no end of its own, and appends the
     /// rest of the output.
     ///
@@ -264,7 +264,7 @@ impl Lines {
         Ok(())
     }
 
-    // Answer: law release_filter::laws::one_end_file.
+    // Determined by: law release_filter::laws::one_end_file.
     /// Takes the end of a file that is followed by another one in the same text. Its last line gets
     /// an end if it has none of its own, and a byte order mark at the beginning of the next file is
     /// dropped.
@@ -298,7 +298,7 @@ impl Lines {
         self.end(alloc, true, kept)
     }
 
-    // Answer: equation.
+    // Determined by: equation.
     /// Returns the counts of the lines so far. It does not allocate.
     ///
     /// ```

@@ -11,7 +11,7 @@ use crate::precedence;
 use semver_ranges::{Comparator, Op, Range, RangeSet};
 use semver_versions::version::Version;
 
-// Answer: equation.
+// Determined by: equation.
 /// Returns whether a version is a release that satisfies a range set. It must have no pre-release,
 /// and it must satisfy all comparators of at least one range by precedence (SemVer 2.0.0, section
 /// 11).
@@ -36,7 +36,7 @@ pub fn release_meets(set: &RangeSet, version: &Version) -> bool
     version.pre.is_empty() && version_meets(set, version)
 }
 
-// Answer: equation.
+// Determined by: equation.
 /// Returns whether a version, even a pre-release, satisfies a range set. It must satisfy all
 /// comparators of at least one range by precedence (SemVer 2.0.0, section 11). Build metadata is
 /// ignored.

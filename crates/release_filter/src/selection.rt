@@ -5,7 +5,7 @@ ghost use Rattle.std.specs.Cmp.{IsTotalOrder};
 ghost use Rattle.std.specs.Ordering.{nat_cmp, ordering_then};
 ghost use Rattle.semver_texts.specs.Precedence.{precedence};
 ghost use Rattle.semver_texts.specs.Texts.{Text};
-ghost use Rattle.semver_versions.specs.Outlines.{version_of};
+ghost use Rattle.semver_versions.specs.VersionRefs.{version_of};
 ghost use Rattle.semver_versions.specs.ReadVersions.{read_plain};
 ghost use Rattle.release_filter.specs.Selections.{Answers, Holds, IsBest, IsStableSort};
 ghost use Rattle.release_filter.specs.Selections.{SelectedValue, emptied, in_order, is_sorted};
@@ -18,7 +18,7 @@ use crate::held::{Held, SelectedLine};
 use crate::judge::Judged;
 use semver_texts::laws;
 use semver_versions::read_version::ReadVersion;
-use semver_versions::version::Outline;
+use semver_versions::version::VersionRef;
 use std::alloc::{AllocError, Global};
 use std::cmp::Ordering;
 
@@ -105,8 +105,8 @@ impl Held {
             × (kept.new.items ≡ kept.old.items ++ added)) }
         ensures unchanged { IfErr result (λ _. kept.new.items ≡ kept.old.items) }
     {
-        if let Judged::Kept(outline, line) = judged {
-            return self.keep_line(alloc, outline, line, kept);
+        if let Judged::Kept(borrowed, line) = judged {
+            return self.keep_line(alloc, borrowed, line, kept);
         }
         Ok(())
     }
@@ -116,20 +116,20 @@ impl Held {
     fn keep_line(
         &mut self,
         alloc: Global,
-        outline: &Outline<'_>,
+        borrowed: &VersionRef<'_>,
         line: &[u8],
         kept: &mut Vec<u8>,
     ) -> Result<(), AllocError>
         ensures holds { IfOk result (λ _. (added : Text) × Holds (held_value self.old)
-            (record { version = (version_of outline.now).plain; line = line.now } ∷ [])
+            (record { version = (version_of borrowed.now).plain; line = line.now } ∷ [])
             (held_value self.new) added × (kept.new.items ≡ kept.old.items ++ added)) }
         ensures unchanged { IfErr result (λ _. kept.new.items ≡ kept.old.items) }
     {
         match self.selection {
             Selection::Each => kept.extend_from_slice(line),
-            Selection::Highest | Selection::Lowest => self.hold_best(alloc, outline, line),
+            Selection::Highest | Selection::Lowest => self.hold_best(alloc, borrowed, line),
             Selection::Sorted | Selection::Reversed => {
-                let version = ReadVersion::of(alloc, outline)?;
+                let version = ReadVersion::of(alloc, borrowed)?;
                 let bytes = Vec::from_slice(alloc, line)?;
                 self.lines.push(SelectedLine { version, bytes })?;
                 Ok(())
@@ -142,22 +142,22 @@ impl Held {
     fn hold_best(
         &mut self,
         alloc: Global,
-        outline: &Outline<'_>,
+        borrowed: &VersionRef<'_>,
         line: &[u8],
     ) -> Result<(), AllocError>
         requires { (self.old.selection ≡ Selection.Highest)
             ⊎ (self.old.selection ≡ Selection.Lowest) }
         ensures best { IfOk result (λ _. IsBest (order_of self.old.selection)
             (map selected_value self.old.lines.items
-            ++ record { version = (version_of outline.now).plain; line = line.now } ∷ [])
+            ++ record { version = (version_of borrowed.now).plain; line = line.now } ∷ [])
             (map selected_value self.new.lines.items)) }
         ensures selection { self.new.selection ≡ self.old.selection }
     {
         laws::precedence_is_total();
-        if !is_better(self.selection, outline, self.lines.as_slice()) {
+        if !is_better(self.selection, borrowed, self.lines.as_slice()) {
             return Ok(());
         }
-        let version = ReadVersion::of(alloc, outline)?;
+        let version = ReadVersion::of(alloc, borrowed)?;
         let mut bytes = match self.lines.pop() {
             Some(former) => former.bytes,
             None => Vec::new(alloc),
@@ -185,14 +185,14 @@ impl Held {
 /// Returns whether a version is better than the best one so far: there is none, or the version is
 /// above it, or below it if the lowest is wanted.
 #[inline(always)]
-fn is_better(selection: Selection, outline: &Outline<'_>, held: &[SelectedLine]) -> bool
-    ensures { result ≡ is_better selection (version_of outline.now).plain
+fn is_better(selection: Selection, borrowed: &VersionRef<'_>, held: &[SelectedLine]) -> bool
+    ensures { result ≡ is_better selection (version_of borrowed.now).plain
         (map selected_value held.now) }
 {
     let [best, ..] = held else {
         return true;
     };
-    let ordering = best.version.compared_outline(outline, outline.digits());
+    let ordering = best.version.compared_ref(borrowed, borrowed.digits());
     match selection {
         Selection::Lowest => ordering.is_lt(),
         Selection::Each | Selection::Highest | Selection::Sorted | Selection::Reversed => {

@@ -2,7 +2,7 @@
 
 use crate::arguments::Filtering;
 use release_filter::Counts;
-use semver_parser::version::outline_in;
+use semver_parser::version::read_ref_in;
 use std::io::IsTerminal;
 
 /// How many bytes of a line without a version are shown.
@@ -51,7 +51,7 @@ pub fn report_invalid(rt: &HostRuntime, counts: &Counts, filtering: &Filtering, 
 /// Returns whether a line is a version after a `v`.
 fn has_v(front: &[u8], filtering: &Filtering) -> bool {
     match front.strip_prefix(b"v") {
-        Some(version) => outline_in(version, filtering.meaning.dialect.grammar()).is_some(),
+        Some(version) => read_ref_in(version, filtering.meaning.dialect.grammar()).is_some(),
         None => false,
     }
 }

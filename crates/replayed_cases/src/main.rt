@@ -103,7 +103,7 @@ fn answer<W: Write>(
         "refused-as-crate" => prefixes::write_refused(alloc, text, Grammar::Crate, out),
         "refused-as-cargo" => prefixes::write_refused(alloc, text, Grammar::Cargo, out),
         "refused-as-npm" => prefixes::write_refused(alloc, text, Grammar::Npm, out),
-        "outline" => versions::write_outline(text, out),
+        "read-ref" => versions::write_ref(text, out),
         "version-text" => versions::write_printed(alloc, text, out),
         "error-text" => versions::write_error_text(alloc, text, out),
         "concat" => versions::write_joined(alloc, text, steps, out),

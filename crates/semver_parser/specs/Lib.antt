@@ -15,7 +15,7 @@ pub use Rattle.semver_texts.specs.ToolVersions
 pub use Rattle.semver_tokens.specs.VersionReading
 pub use Rattle.semver_texts.specs.VersionViews
 pub use Rattle.semver_texts.specs.Precedence
-pub use Rattle.semver_versions.specs.Outlines
+pub use Rattle.semver_versions.specs.VersionRefs
 pub use Rattle.semver_ranges.specs.RangeTree
 pub use Rattle.semver_ranges.specs.RangeTexts
 pub use Rattle.semver_ranges.specs.Partials

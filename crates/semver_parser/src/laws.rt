@@ -11,12 +11,12 @@ ghost use Rattle.semver_tokens.specs.VersionReading.{IsOutcomeOf};
 ghost use Rattle.semver_parser.specs.Examples.{IsMet, IsMetAsStated, release, version};
 
 pub use semver_ranges::laws::{
-    answered_sets_are_printable, exact_bounds_mean_the_text, meanings_agree, one_tree,
-    printed_sets_read_back, stated_pre_releases_mean_the_text,
+    exact_bounds_mean_the_text, meanings_agree, one_tree, printed_sets_read_back,
+    returned_sets_are_printable, stated_pre_releases_mean_the_text,
 };
 pub use semver_texts::laws::precedence_is_total;
 pub use semver_tokens::laws::one_token_list;
-pub use semver_versions::laws::{one_outlined_version, one_version, one_version_in};
+pub use semver_versions::laws::{one_borrowed_version, one_version, one_version_in};
 
 /// Reading a string as a version has only one outcome.
 pub fn one_outcome()

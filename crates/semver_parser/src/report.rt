@@ -28,7 +28,7 @@ enum Shown {
     Word(&'static str),
 }
 
-// Answer: free, the writer's own errors: must-fail/report_forgets_the_npm_line.edit.
+// Determined by: free, the writer's own errors: must-fail/report_forgets_the_npm_line.edit.
 /// Writes three lines for a string: `version: ` with the version, and `cargo: ` and `npm: ` with
 /// the range set in Cargo and in npm mode. Each line has a printed value or an error word. Returns
 /// whether at least one line has no error word.
@@ -69,7 +69,7 @@ fn write_lines<W: Write>(
     Ok(version.is_value() || (cargo.is_value() || npm.is_value()))
 }
 
-// Answer: equation.
+// Determined by: equation.
 /// Returns the exit status of a run: 0 if at least one line has no error word, 1 if each has one,
 /// and 2 after a failed write.
 ///

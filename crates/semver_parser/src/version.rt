@@ -11,12 +11,12 @@ ghost use Rattle.semver_tokens.specs.ParserViews.{answer_of, UnlessOutOfMemory, 
 
 use crate::parser::{self, Parser};
 pub use semver_versions::version::{
-    Digits, Grammar, Identifier, Outline, Version, cmp_precedence, outline, outline_bytes,
-    outline_in, read, read_bytes,
+    Digits, Grammar, Identifier, Version, VersionRef, cmp_precedence, read, read_bytes, read_ref,
+    read_ref_bytes, read_ref_in,
 };
 use std::alloc::Global;
 
-// Answer: law answer_laws::versions::one_version_parse.
+// Determined by: law result_laws::versions::one_version_parse.
 /// Reads a version string. Printed, the version is the string without the white space around it,
 /// and reading what was printed gives the same version. It is the version that [`read`] returns,
 /// except that an invalid string gives an error.
@@ -81,9 +81,9 @@ pub fn parse(alloc: Global, input: &str) -> Result<Version, parser::Error<'_>>
     }
 }
 
-// Answer: law answer_laws::versions::one_parse_by_tokens.
+// Determined by: law result_laws::versions::one_parse_by_tokens.
 /// Returns the result or the error of [`parse`], using only the tokens. It takes less time for an
-/// invalid version, if [`outline`] has shown that it is one.
+/// invalid version, if [`read_ref`] has shown that it is one.
 ///
 /// ```
 /// use semver_parser::parser::Error;

@@ -1,4 +1,4 @@
--- serves: semver_ranges::laws::answered_sets_are_printable
+-- serves: semver_ranges::laws::returned_sets_are_printable
 -- What a tree that fits is rewritten to is printable.
 use Rattle.std.proofs.Common.{arith}
 use Rattle.std.proofs.Common.{◌≡◌, ℕ, Bool, true, false, not, List, [], ◌∷◌, ◌++◌, map, refl}

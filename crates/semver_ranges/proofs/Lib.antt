@@ -1,4 +1,4 @@
-pub mod AnswerLaws
+pub mod ResultLaws
 pub mod AnsweredLaws
 pub mod CaretPlaces
 pub mod ComponentSteps

@@ -40,7 +40,7 @@ pub struct Events<'input> {
 }
 
 impl<'input> Events<'input> {
-    // Answer: equation.
+    // Determined by: equation.
     /// Returns the events of a string in a dialect. `lower` says how the left side of a hyphen
     /// range is written.
     #[inline(always)]
@@ -56,7 +56,7 @@ impl<'input> Events<'input> {
         }
     }
 
-    // Answer: equation.
+    // Determined by: equation.
     /// Returns the next event in a dialect, or an error if the string isn't in the grammar from
     /// there on. It returns `None` at the end, and after an error.
     #[inline(always)]

@@ -114,7 +114,7 @@ pub(crate) fn read_simple(text: &[u8], grammar: Grammar) -> Option<(Simple<'_>, 
     Some((Simple { form, partial }, after_blanks(rest, grammar)))
 }
 
-// Answer: equation.
+// Determined by: equation.
 /// Returns the operator at the beginning of a string, and what follows it and its blanks.
 #[inline(always)]
 pub fn read_operator(text: &[u8], grammar: Grammar) -> (Form, &[u8])
@@ -150,7 +150,7 @@ fn read_partial(text: &[u8], grammar: Grammar, role: Role) -> Option<(Partial<'_
     }
 }
 
-// Answer: equation.
+// Determined by: equation.
 /// Returns what follows one `v`, which only npm allows.
 #[inline(always)]
 pub fn after_v(text: &[u8], grammar: Grammar) -> &[u8]
@@ -198,7 +198,7 @@ fn is_short(text: &[u8], rest: &[u8], role: Role) -> bool
     is_short_word(&text[..len], role)
 }
 
-// Answer: equation.
+// Determined by: equation.
 /// Returns the components of the partial at the beginning of a string, whatever follows it.
 #[inline(always)]
 pub fn read_components(text: &[u8]) -> Option<(Components<'_>, &[u8])>
@@ -318,7 +318,7 @@ fn with_digit(value: Option<u64>, digit: u8) -> Option<u64>
     decimals::with_digit(value?, digit)
 }
 
-// Answer: equation.
+// Determined by: equation.
 /// Returns what follows the blanks at the beginning of a string.
 #[inline(always)]
 pub fn after_blanks(text: &[u8], grammar: Grammar) -> &[u8]
@@ -345,7 +345,7 @@ fn after_blank(text: &[u8], grammar: Grammar) -> Option<&[u8]>
     }
 }
 
-// Answer: equation.
+// Determined by: equation.
 /// Returns what follows two bars, if the string begins with them.
 #[inline(always)]
 pub fn after_bars(text: &[u8]) -> Option<&[u8]>

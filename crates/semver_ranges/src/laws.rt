@@ -66,7 +66,7 @@ pub fn printed_sets_read_back()
 {}
 
 /// If a tree spells a string and fits, the set to which it is rewritten is printable.
-pub fn answered_sets_are_printable()
+pub fn returned_sets_are_printable()
     ensures printable { (mode : Compat) (tree : SetTree) (text : Text) → Spells tree text
         → IsTrue (fits mode tree) → IsPrintableSet (rewritten mode tree) }
 {}

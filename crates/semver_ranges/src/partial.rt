@@ -100,7 +100,7 @@ pub struct Partial<'input> {
 }
 
 impl<'input> Partial<'input> {
-    // Answer: free, what is kept beside a number above 2^64 - 1: ../replayed_cases/stdin.
+    // Determined by: free, what is kept beside a number above 2^64 - 1: ../replayed_cases/stdin.
     /// Returns the partial of three components, where missing ones are wildcards, and of the parts
     /// of a pre-release, which count only after three numbers.
     #[inline(always)]
@@ -152,7 +152,7 @@ impl<'input> Partial<'input> {
         }
     }
 
-    // Answer: equation.
+    // Determined by: equation.
     /// Returns how many numbers the partial has.
     #[inline(always)]
     pub fn kind(&self) -> PartialKind
@@ -161,7 +161,7 @@ impl<'input> Partial<'input> {
         self.kind
     }
 
-    // Answer: equation.
+    // Determined by: equation.
     /// Returns whether the partial has no number.
     #[inline(always)]
     pub fn states_nothing(&self) -> bool
@@ -178,7 +178,7 @@ impl<'input> Partial<'input> {
         self.fits
     }
 
-    // Answer: equation.
+    // Determined by: equation.
     /// Returns the place of the first number that isn't 0, or that of the last number if all are 0.
     #[inline(always)]
     pub fn leading_place(&self) -> Place
@@ -223,7 +223,7 @@ impl<'input> Partial<'input> {
         self
     }
 
-    // Answer: equation.
+    // Determined by: equation.
     /// Returns whether the partial has three numbers.
     #[inline(always)]
     pub fn states_three(&self) -> bool
@@ -232,7 +232,7 @@ impl<'input> Partial<'input> {
         matches!(self.kind, PartialKind::MajorMinorPatch)
     }
 
-    // Answer: equation.
+    // Determined by: equation.
     /// Returns the first number, or 0 if it is missing.
     #[inline(always)]
     pub fn major(&self) -> u64
@@ -241,7 +241,7 @@ impl<'input> Partial<'input> {
         self.major
     }
 
-    // Answer: equation.
+    // Determined by: equation.
     /// Returns the second number, or 0 if it is missing.
     #[inline(always)]
     pub fn minor(&self) -> u64
@@ -250,7 +250,7 @@ impl<'input> Partial<'input> {
         self.minor
     }
 
-    // Answer: equation.
+    // Determined by: equation.
     /// Returns the third number, or 0 if it is missing.
     #[inline(always)]
     pub fn patch(&self) -> u64
@@ -259,7 +259,7 @@ impl<'input> Partial<'input> {
         self.patch
     }
 
-    // Answer: equation.
+    // Determined by: equation.
     /// Returns the parts of the pre-release after three numbers, joined by dots.
     #[inline(always)]
     pub fn pre(&self) -> &'input [u8]
@@ -269,7 +269,7 @@ impl<'input> Partial<'input> {
         self.pre
     }
 
-    // Answer: equation.
+    // Determined by: equation.
     /// Returns whether the partial has three numbers and a pre-release.
     #[inline(always)]
     pub fn has_pre_release(&self) -> bool
@@ -278,7 +278,7 @@ impl<'input> Partial<'input> {
         !self.pre.is_empty()
     }
 
-    // Answer: equation.
+    // Determined by: equation.
     /// Returns whether all numbers of the partial are at most `most`.
     #[inline(always)]
     pub fn states_at_most(&self, most: u64) -> bool
@@ -295,7 +295,7 @@ impl<'input> Partial<'input> {
             }
     }
 
-    // Answer: equation.
+    // Determined by: equation.
     /// Returns the number at a place.
     #[inline(always)]
     pub fn number(&self, place: Place) -> u64
@@ -322,7 +322,7 @@ impl<'input> Partial<'input> {
         number < u64::MAX
     }
 
-    // Answer: equation.
+    // Determined by: equation.
     /// Returns the comparator of an operator and this partial, with zeros for missing numbers.
     /// `Err` means out of memory.
     #[inline(always)]
@@ -391,7 +391,7 @@ fn raised_pre(alloc: Global, raised: RaisedBounds) -> Result<Vec<Identifier>, Al
     }
 }
 
-// Answer: equation.
+// Determined by: equation.
 /// Returns the lowest pre-release, which is `0`. `Err` means out of memory.
 #[inline(always)]
 pub fn lowest_pre_release(alloc: Global) -> Result<Vec<Identifier>, AllocError>

@@ -106,7 +106,7 @@ pub enum Compat {
     Npm,
 }
 
-// Answer: equation.
+// Determined by: equation.
 impl fmt::Display for Op {
     ghost use Rattle.semver_ranges.specs.PrintedRanges.{op_text};
 
@@ -125,7 +125,7 @@ impl fmt::Display for Op {
     }
 }
 
-// Answer: equation.
+// Determined by: equation.
 impl fmt::Display for Identifier {
     ghost use Rattle.semver_texts.specs.PrintedText.{identifier_text};
 
@@ -145,7 +145,7 @@ impl fmt::Display for Identifier {
     }
 }
 
-// Answer: equation.
+// Determined by: equation.
 impl fmt::Display for Comparator {
     ghost use Rattle.semver_ranges.specs.PrintedRanges.{comparator_text};
 
@@ -161,7 +161,7 @@ impl fmt::Display for Comparator {
     }
 }
 
-// Answer: equation.
+// Determined by: equation.
 impl fmt::Display for Range {
     ghost use Rattle.semver_ranges.specs.PrintedRanges.{range_text};
 

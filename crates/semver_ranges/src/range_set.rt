@@ -73,7 +73,7 @@ pub enum RangeError {
 
 impl RangeSet {
     // In Rust: try_parse.
-    // Answer: law answer_laws::ranges::one_parse.
+    // Determined by: law result_laws::ranges::one_parse.
     /// Reads a range string, such as `>=1.2 <2 || 3.x`, into plain comparators.
     ///
     /// A comma gives `NotARange`. The original crate accepts one comma after a comparator: replace
@@ -151,7 +151,7 @@ impl RangeSet {
         parse_with(alloc, input, compat, RaisedBounds::Plain)
     }
 
-    // Answer: law answer_laws::ranges::one_parse_exact.
+    // Determined by: law result_laws::ranges::one_parse_exact.
     /// Reads a range string like `RangeSet::parse`, but with exact bounds: each upper bound that is
     /// raised by one gets the lowest pre-release, `0`. The Rust crate has no such function; npm
     /// writes its bounds like this.
@@ -206,7 +206,7 @@ impl RangeSet {
     }
 
     // In Rust: try_from_str.
-    // Answer: law answer_laws::ranges::one_from_str.
+    // Determined by: law result_laws::ranges::one_from_str.
     /// Reads a range string in Cargo mode. Result and errors are those of `RangeSet::parse` with
     /// `Compat::Cargo`.
     ///
@@ -295,7 +295,7 @@ fn build_only_simple(
     Ok(RangeSet { ranges, compat })
 }
 
-// Answer: equation.
+// Determined by: equation.
 impl fmt::Display for RangeSet {
     ghost output = { λ s. Some (set_text (set_of s)) };
 

@@ -4,7 +4,7 @@ ghost use Rattle.std.specs.List.{prefix_len, count_by};
 ghost use Rattle.std.specs.Char.{is_ascii_alphanumeric};
 ghost use Rattle.semver_texts.specs.Texts.{is_space, is_part_byte, is_dot};
 
-// Answer: equation.
+// Determined by: equation.
 /// Returns whether the byte is a space, a tab, a line feed or a carriage return.
 #[inline(always)]
 pub fn is_space(byte: u8) -> bool
@@ -13,7 +13,7 @@ pub fn is_space(byte: u8) -> bool
     matches!(byte, b' ' | b'\t' | b'\n' | b'\r')
 }
 
-// Answer: equation.
+// Determined by: equation.
 /// Returns whether the byte is an ASCII letter, a digit or a hyphen.
 #[inline(always)]
 pub fn is_part_byte(byte: u8) -> bool
@@ -22,7 +22,7 @@ pub fn is_part_byte(byte: u8) -> bool
     byte.is_ascii_alphanumeric() || byte == b'-'
 }
 
-// Answer: equation.
+// Determined by: equation.
 /// Returns how many bytes at the beginning are white space: 2 for ` \t1`.
 #[inline(always)]
 pub fn space_len(bytes: &[u8]) -> usize
@@ -31,7 +31,7 @@ pub fn space_len(bytes: &[u8]) -> usize
     bytes.iter().take_while(|&&byte| is_space(byte)).count()
 }
 
-// Answer: equation.
+// Determined by: equation.
 /// Returns how many bytes at the beginning are ASCII letters and digits: 3 for `rc1-2`.
 #[inline(always)]
 pub fn run_len(bytes: &[u8]) -> usize
@@ -43,7 +43,7 @@ pub fn run_len(bytes: &[u8]) -> usize
         .count()
 }
 
-// Answer: equation.
+// Determined by: equation.
 /// Returns how many bytes at the beginning are ASCII letters, digits and hyphens: 5 for `rc1-2.3`.
 #[inline(always)]
 pub fn part_len(bytes: &[u8]) -> usize
@@ -52,7 +52,7 @@ pub fn part_len(bytes: &[u8]) -> usize
     bytes.iter().take_while(|&&byte| is_part_byte(byte)).count()
 }
 
-// Answer: equation.
+// Determined by: equation.
 /// Returns how many of the bytes are dots: 2 for `1.2.3`.
 #[inline(always)]
 pub fn count_dots(bytes: &[u8]) -> usize

@@ -12,7 +12,7 @@ ghost use Rattle.semver_texts.specs.Steps.Decimals.{digits_front};
 /// speed.
 const LIMIT: u64 = 1_000_000_000_000_000_000;
 
-// Answer: equation.
+// Determined by: equation.
 /// Returns the number with one more digit appended, or `None` if it is 2^64 or more.
 #[inline(always)]
 pub fn with_digit(number: u64, digit: u8) -> Option<u64>
@@ -47,7 +47,7 @@ fn digits(bytes: &[u8]) -> Option<(u64, usize)>
     Some((number, bytes.len()))
 }
 
-// Answer: equation.
+// Determined by: equation.
 /// Returns whether the bytes begin with a digit, which is so for `1.2`, but not for `.2` or the
 /// empty string.
 #[inline(always)]
@@ -94,7 +94,7 @@ fn number(bytes: &[u8]) -> Option<(u64, &[u8])>
     number_at_digit(bytes)
 }
 
-// Answer: equation.
+// Determined by: equation.
 /// Returns the number that a part of only digits writes, if it is at most 2^64 - 1. Leading zeros
 /// are allowed, and no digits give 0.
 #[inline(always)]
@@ -118,7 +118,7 @@ pub fn number_of_digits(part: &[u8]) -> Option<u64>
     }
 }
 
-// Answer: law answer_laws::texts::one_whole_number.
+// Determined by: law result_laws::texts::one_whole_number.
 /// Returns the number that the whole string is, if it is a canonical decimal up to 2^64 - 1.
 #[inline(always)]
 pub fn whole_number(text: &str) -> Option<u64>
@@ -143,7 +143,7 @@ fn dot_number(bytes: &[u8]) -> Option<(u64, &[u8])>
     }
 }
 
-// Answer: law answer_laws::texts::one_numbers_at_digit.
+// Determined by: law result_laws::texts::one_numbers_at_digit.
 /// Returns the result of [`numbers`] for bytes that begin with a digit. This isn't tested again,
 /// for speed.
 #[inline(always)]
@@ -159,7 +159,7 @@ pub fn numbers_at_digit(bytes: &[u8]) -> Option<(u64, u64, u64, &[u8])>
     Some((major, minor, patch, rest))
 }
 
-// Answer: law answer_laws::texts::one_numbers.
+// Determined by: law result_laws::texts::one_numbers.
 /// Returns the three numbers at the beginning, joined by dots, and what follows them, which doesn't
 /// begin with a digit: 1, 2, 3 and `-rc` for `1.2.3-rc`. A number is at most 2^64 - 1.
 #[inline(always)]

@@ -71,7 +71,7 @@ fn parts_len(bytes: &[u8], hyphens: Hyphens) -> Option<usize>
     in_run.then_some(bytes.len())
 }
 
-// Answer: equation.
+// Determined by: equation.
 /// Returns what follows the mark, if the bytes begin with it.
 #[inline(always)]
 pub fn strip_mark(bytes: &[u8], mark: u8) -> Option<&[u8]>
@@ -84,7 +84,7 @@ pub fn strip_mark(bytes: &[u8], mark: u8) -> Option<&[u8]>
     }
 }
 
-// Answer: equation.
+// Determined by: equation.
 /// Returns the parts after the mark, and what follows them. If the bytes don't begin with the mark,
 /// there are no parts, and everything follows. Returns `None` if invalid parts follow the mark.
 #[inline(always)]
@@ -99,7 +99,7 @@ pub fn marked_part(bytes: &[u8], mark: u8, hyphens: Hyphens) -> Option<(&[u8], &
     Some(after.split_at(len))
 }
 
-// Answer: equation.
+// Determined by: equation.
 /// Returns the length in bytes of parts with their mark: 5 for `rc.1`, and 0 if there are none.
 #[inline(always)]
 pub fn marked_len(parts: &[u8]) -> usize
@@ -108,7 +108,7 @@ pub fn marked_len(parts: &[u8]) -> usize
     if parts.is_empty() { 0 } else { parts.len() + 1 }
 }
 
-// Answer: equation.
+// Determined by: equation.
 /// Returns parts as a string. Their bytes and the dots between them are ASCII, so this is always
 /// possible.
 pub fn text_of_parts(bytes: &[u8]) -> &str
@@ -121,7 +121,7 @@ pub fn text_of_parts(bytes: &[u8]) -> &str
     }
 }
 
-// Answer: law answer_laws::texts::one_split_at_dot.
+// Determined by: law result_laws::texts::one_split_at_dot.
 /// Returns what is before the first dot, and what follows it. If there is no dot, it returns
 /// everything and `None`.
 #[inline(always)]
@@ -139,7 +139,7 @@ pub fn split_at_dot(bytes: &[u8]) -> (&[u8], Option<&[u8]>)
     (bytes, None)
 }
 
-// Answer: equation.
+// Determined by: equation.
 /// Returns whether no numeric part has a leading zero. It first tests whether any part begins with
 /// a zero at all, for speed.
 #[inline(always)]
@@ -252,7 +252,7 @@ fn cut_parts<T: Drop, F: Fn(&str) -> Result<T, AllocError>>(
     Ok(made)
 }
 
-// Answer: equation.
+// Determined by: equation.
 /// Returns what `make` returns for each part between the dots. For an empty string the result is
 /// empty, and nothing is allocated. `Err` means out of memory.
 #[inline(always)]

@@ -8,8 +8,8 @@ ghost use Rattle.semver_texts.specs.Digits.{digits_in};
 /// ```
 /// use semver_parser::version::{self, Grammar};
 ///
-/// assert!(version::outline_in(b"v1.2.3", Grammar::Npm).is_some());
-/// assert!(version::outline_in(b"v1.2.3", Grammar::Cargo).is_none());
+/// assert!(version::read_ref_in(b"v1.2.3", Grammar::Npm).is_some());
+/// assert!(version::read_ref_in(b"v1.2.3", Grammar::Cargo).is_none());
 /// ```
 #[derive(Clone, Copy, PartialEq, Eq, Hash, Debug)]
 pub enum Grammar {
@@ -39,7 +39,7 @@ pub enum Digits {
 }
 
 impl Grammar {
-    // Answer: equation.
+    // Determined by: equation.
     /// Returns how numeric identifiers are read: `Kept` in the crate's grammar, and `AnySize` in
     /// the others.
     ///

@@ -73,7 +73,7 @@ pub struct Joined<'a, R> {
 }
 
 impl<'a, R: Reading> Joined<'a, R> {
-    // Answer: equation.
+    // Determined by: equation.
     /// Returns the identifiers of a string. An empty string has none.
     #[inline(always)]
     pub fn of(text: &'a [u8], reading: R) -> Joined<'a, R>
@@ -109,7 +109,7 @@ pub struct ByDigits<I> {
 }
 
 impl<'a, I: Identifiers<'a>> ByDigits<I> {
-    // Answer: equation.
+    // Determined by: equation.
     /// Returns these identifiers, read as `digits` says.
     #[inline(always)]
     pub fn of(identifiers: I, digits: Digits) -> ByDigits<I>

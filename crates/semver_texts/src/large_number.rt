@@ -15,7 +15,7 @@ pub struct LargeNumber<'a> {
 }
 
 impl<'a> LargeNumber<'a> {
-    // Answer: equation.
+    // Determined by: equation.
     /// Returns the number that the digits write.
     #[inline(always)]
     pub(crate) fn of(digits: &'a [u8]) -> LargeNumber<'a>
@@ -25,7 +25,7 @@ impl<'a> LargeNumber<'a> {
         LargeNumber { digits }
     }
 
-    // Answer: equation.
+    // Determined by: equation.
     /// Compares two large numbers. The one with more digits is greater; if they have equally many,
     /// the first digits that differ decide. It does not allocate.
     #[inline(always)]

@@ -37,7 +37,7 @@ pub trait Identifiers<'a>: Copy {
             (λ first. left self.old ≡ ref_value first ∷ left self.new) };
 }
 
-// Answer: equation.
+// Determined by: equation.
 /// Compares two versions by precedence (SemVer 2.0.0, section 11). The result is `Less` if the
 /// first version is below the other. Build metadata is ignored. It does not allocate.
 ///
@@ -70,7 +70,7 @@ pub fn cmp_precedence(version: &Version, other: &Version) -> Ordering
     )
 }
 
-// Answer: equation.
+// Determined by: equation.
 /// Compares two versions by precedence, given by their numbers and the identifiers of their
 /// pre-releases. It does not allocate.
 #[inline(always)]
@@ -90,7 +90,7 @@ pub fn compare<'a, A: Identifiers<'a>, B: Identifiers<'a>>(
     compare_pre_releases(pre, other_pre)
 }
 
-// Answer: equation.
+// Determined by: equation.
 /// Compares two pre-releases. No pre-release is above any pre-release, and two pre-releases are
 /// compared by their identifiers.
 #[inline(always)]

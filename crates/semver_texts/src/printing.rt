@@ -5,7 +5,7 @@ ghost use Rattle.semver_texts.specs.Texts.{joined, marked};
 
 use std::fmt;
 
-// Answer: equation.
+// Determined by: equation.
 /// Writes the mark and then the items joined by dots, or nothing if there are no items.
 ///
 /// For the mark `-` and the items 7 and `"rc"` it writes `-7.rc`. It does not allocate, and its
@@ -25,7 +25,7 @@ pub fn write_part<W: fmt::Write, T: fmt::Display>(
     write_joined(f, ".", items)
 }
 
-// Answer: equation.
+// Determined by: equation.
 /// Writes the items, separated by the separator.
 ///
 /// For the separator `.` and the items 7 and `"rc"` it writes `7.rc`. It does not allocate, and its

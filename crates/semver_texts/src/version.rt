@@ -67,7 +67,7 @@ pub enum Identifier {
 
 impl Identifier {
     // In Rust: try_concat.
-    // Answer: equation.
+    // Determined by: equation.
     /// Returns the identifier as a string followed by `add_str`, always as `AlphaNumeric`.
     ///
     /// It allocates once, for the whole new string. If an empty string is added to an
@@ -118,7 +118,7 @@ fn number_and(alloc: Global, number: u64, text: &str) -> Result<String, AllocErr
     Ok(whole)
 }
 
-// Answer: equation.
+// Determined by: equation.
 impl fmt::Display for Identifier {
     ghost output = { λ identifier. Some (identifier_text (identifier_value identifier)) };
 
@@ -138,7 +138,7 @@ impl fmt::Display for Identifier {
     }
 }
 
-// Answer: equation.
+// Determined by: equation.
 impl fmt::Display for Version {
     ghost use Rattle.semver_texts.specs.PrintedText.{version_text};
     ghost use Rattle.semver_texts.specs.VersionViews.{version_value};

@@ -4,7 +4,7 @@ ghost use Rattle.std.specs.Prelude.{◌≡◌, ◌≤◌, length};
 ghost use Rattle.semver_texts.specs.WhiteSpace.{is_ascii_white_space, is_white_space_beyond_ascii};
 ghost use Rattle.semver_texts.specs.WhiteSpace.{white_space_size};
 
-// Answer: equation.
+// Determined by: equation.
 /// Returns whether the byte is ASCII white space: U+0009 to U+000D, or a space.
 #[inline(always)]
 pub fn is_ascii_white_space(byte: u8) -> bool
@@ -13,7 +13,7 @@ pub fn is_ascii_white_space(byte: u8) -> bool
     matches!(byte, 9..=13 | 32)
 }
 
-// Answer: equation.
+// Determined by: equation.
 /// Returns whether a non-ASCII character is white space.
 #[inline(always)]
 pub fn is_white_space_beyond_ascii(character: char) -> bool
@@ -31,7 +31,7 @@ pub fn is_white_space_beyond_ascii(character: char) -> bool
     )
 }
 
-// Answer: equation.
+// Determined by: equation.
 /// Returns the length in UTF-8 of the character at the beginning if it is white space, otherwise 0:
 /// 2 for U+00A0.
 #[inline(always)]

@@ -3,7 +3,7 @@ ghost use Rattle.semver_texts.specs.Writing.{WritesOrBegins};
 
 use std::io::{self, ErrorKind, Write};
 
-// Answer: equation.
+// Determined by: equation.
 /// Writes all of the bytes, in as many writes as needed: if a writer takes four bytes at a time,
 /// `1.2.3` is written as `1.2.` and then `3`.
 ///

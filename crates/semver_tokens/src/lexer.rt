@@ -65,7 +65,7 @@ pub enum Token<'input> {
 impl<'input> Token<'input> {
     ghost use Rattle.semver_tokens.specs.Tokens.{is_wildcard};
 
-    // Answer: equation.
+    // Determined by: equation.
     /// Returns whether the token is white space of any length.
     ///
     /// ```
@@ -82,7 +82,7 @@ impl<'input> Token<'input> {
         matches!(self, Token::Whitespace(_, _))
     }
 
-    // Answer: equation.
+    // Determined by: equation.
     /// Returns whether the token is a wildcard: `*`, `x` or `X`.
     ///
     /// ```
@@ -207,7 +207,7 @@ impl<'input> Model for Lexer<'input> {
 impl<'input> Lexer<'input> {
     ghost use Rattle.semver_tokens.specs.ParserState.{IsStateOf};
 
-    // Answer: law answer_laws::versions::one_lexer.
+    // Determined by: law result_laws::versions::one_lexer.
     /// Returns a lexer at the beginning of a string, which can be any string.
     ///
     /// ```
@@ -229,7 +229,7 @@ impl<'input> Lexer<'input> {
     }
 }
 
-// Answer: equation.
+// Determined by: equation.
 impl<'input> Iterator for Lexer<'input> {
     ghost use Rattle.std.specs.Iterator.{YieldsFirstBy, item_count};
     ghost use Rattle.semver_tokens.specs.Views.{item_value, items_left};
@@ -261,7 +261,7 @@ impl<'input> Iterator for Lexer<'input> {
     }
 }
 
-// Answer: equation.
+// Determined by: equation.
 /// Returns a lexer that has the same items left.
 #[must_use]
 #[inline(always)]
@@ -276,7 +276,7 @@ pub fn copy<'input>(lexer: &Lexer<'input>) -> Lexer<'input>
     }
 }
 
-// Answer: free, which text: must-fail/rest_begins_at_the_start_of_the_text.edit.
+// Determined by: free, which text: must-fail/rest_begins_at_the_start_of_the_text.edit.
 /// Returns the string from the first remaining token to the end of the input. It is empty after the
 /// error was returned. For `1.2`, after the first token, it is `.2`.
 #[must_use]
@@ -290,7 +290,7 @@ pub fn rest<'input>(lexer: &Lexer<'input>) -> &'input str
     &lexer.input[lexer.position..]
 }
 
-// Answer: equation.
+// Determined by: equation.
 /// Returns the number of tokens that are left, and a lexer after the last of them. For `1.2/` the
 /// number is 3, and the next item of the lexer is the error.
 #[must_use]

@@ -61,7 +61,7 @@ pub enum Error<'input> {
     OutOfMemory,
 }
 
-// Answer: equation.
+// Determined by: equation.
 impl<'input> From<lexer::Error> for Error<'input> {
     ghost use Rattle.std.specs.Prelude.{◌≡◌};
     ghost use Rattle.semver_tokens.specs.declared.parser.Error.TheVariants as error;
@@ -75,7 +75,7 @@ impl<'input> From<lexer::Error> for Error<'input> {
     }
 }
 
-// Answer: free, debug text inside some sentences: must-fail/error_prints_another_sentence.edit.
+// Determined by: free, debug text in some sentences: must-fail/error_prints_another_sentence.edit.
 impl<'input> fmt::Display for Error<'input> {
     ghost use Rattle.semver_tokens.specs.ParserViews.{fixed_text};
 
@@ -97,7 +97,7 @@ impl<'input> fmt::Display for Error<'input> {
 }
 
 impl<'input> Error<'input> {
-    // Answer: free, debug text inside some sentences: must-fail/text_of_an_error_is_empty.edit.
+    // Determined by: free, debug text in some sentences: must-fail/text_of_an_error_is_empty.edit.
     /// Returns the string that `Display` writes, for use where the Rust crate converts an error
     /// into a `String`.
     ///
@@ -157,7 +157,7 @@ impl<'input> Model for Parser<'input> {
 }
 
 impl<'input> Parser<'input> {
-    // Answer: law answer_laws::versions::one_parser.
+    // Determined by: law result_laws::versions::one_parser.
     /// Returns a parser at the beginning of a string: all its tokens remain. If the string ends in
     /// a character that begins no token, that character is pending. It does not allocate.
     ///
@@ -205,7 +205,7 @@ impl<'input> Parser<'input> {
         Ok(first)
     }
 
-    // Answer: equation.
+    // Determined by: equation.
     /// Takes a number.
     ///
     /// # Errors
@@ -240,7 +240,7 @@ impl<'input> Parser<'input> {
         self.lookahead.as_ref()
     }
 
-    // Answer: equation.
+    // Determined by: equation.
     /// Takes a number, or a wildcard, which is returned as `None`.
     ///
     /// Its errors are those of `numeric`. It does not allocate.
@@ -270,7 +270,7 @@ impl<'input> Parser<'input> {
         }
     }
 
-    // Answer: equation.
+    // Determined by: equation.
     /// Takes a dot and a component, if a dot is next. Returns `(Some(n), false)` for a number, and
     /// `(None, true)` for a wildcard. If no dot is next, it returns `(None, false)` and takes
     /// nothing.
@@ -299,7 +299,7 @@ impl<'input> Parser<'input> {
         Ok((component, component.is_none()))
     }
 
-    // Answer: equation.
+    // Determined by: equation.
     /// Takes a dot and a number.
     ///
     /// Its errors are those of `numeric`, for either token. What it took before the error stays
@@ -321,7 +321,7 @@ impl<'input> Parser<'input> {
         }
     }
 
-    // Answer: equation.
+    // Determined by: equation.
     /// Returns whether no token remains. A character may still be pending. It changes nothing.
     ///
     /// ```
@@ -391,7 +391,7 @@ impl<'input> Parser<'input> {
         Ok(number)
     }
 
-    // Answer: law answer_laws::versions::one_identifier.
+    // Determined by: law result_laws::versions::one_identifier.
     /// Reads an identifier of a version: one or more sequences of ASCII letters and digits, joined
     /// by single hyphens. A single sequence that is the canonical decimal of a number up to 2^64 -
     /// 1 is returned as `Numeric`, anything else as `AlphaNumeric` with its string. Only the
@@ -498,7 +498,7 @@ impl<'input> Parser<'input> {
         Ok((major, minor, patch))
     }
 
-    // Answer: law answer_laws::versions::one_version_of_parser.
+    // Determined by: law result_laws::versions::one_version_of_parser.
     /// Reads a version and the white space around it. It ends before the first token that doesn't
     /// fit; that token and all after it remain.
     ///
@@ -543,7 +543,7 @@ impl<'input> Parser<'input> {
         })
     }
 
-    // Answer: equation.
+    // Determined by: equation.
     /// Takes and returns all remaining tokens, in order.
     ///
     /// # Errors

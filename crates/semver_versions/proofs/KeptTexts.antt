@@ -26,7 +26,7 @@ use Rattle.semver_texts.proofs.LargeNumbers.{canonical, is_number_of, number_num
 use Rattle.semver_texts.proofs.Numbers.{IsNumber-from_canonical, all_digits, canonical_from_IsNumber, decimal_canonical}
 use Rattle.semver_texts.proofs.Numbers.{digits_value_number}
 use Rattle.semver_texts.proofs.SpelledVersions.{all_passes, identifier_is_part}
-use Rattle.semver_versions.specs.Outlines.{identifier_of, dotted_text}
+use Rattle.semver_versions.specs.VersionRefs.{identifier_of, dotted_text}
 use Rattle.semver_versions.specs.Steps.Reading.{AreIdentifiers, IsKeptBy}
 
 -- ---- one text

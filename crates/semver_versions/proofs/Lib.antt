@@ -1,8 +1,8 @@
 pub mod CutIdentifiers
-pub mod DialectOutlines
+pub mod DialectVersionRefs
 pub mod KeptTexts
 pub mod OneVersion
-pub mod OutlineVersions
+pub mod BorrowedVersions
 pub mod ReadTexts
 pub mod ReadVersions
 pub mod TextSlices

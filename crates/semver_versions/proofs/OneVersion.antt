@@ -8,7 +8,7 @@ use Rattle.semver_texts.specs.VersionGrammar.{SpellsIdentifier, SpellsPart, Spel
 use Rattle.semver_texts.specs.declared.grammar.Digits.TheVariants.{Kept}
 use Rattle.semver_texts.specs.declared.grammar.Grammar.TheVariants.{Crate}
 use Rattle.semver_texts.proofs.Lists.{Passes, all_more, marked_passes}
-use Rattle.semver_versions.proofs.DialectOutlines.{no_space}
+use Rattle.semver_versions.proofs.DialectVersionRefs.{no_space}
 use Rattle.semver_versions.proofs.ReadTexts.{crate_read, digit_begins, one_version_in}
 use Rattle.semver_versions.proofs.KeptTexts.{begins_marked, kept_parts, part_bytes, spelled_kept, spelled_kept_all}
 use Rattle.semver_texts.proofs.Lists.{each_passes}

@@ -19,8 +19,8 @@ use Rattle.semver_texts.specs.declared.grammar.Grammar.TheVariants.{Crate, Cargo
 use Rattle.semver_texts.proofs.Lists.{Passes, all_more, passes_append}
 use Rattle.semver_texts.proofs.Numbers.{all_digits, canonical_decimal}
 use Rattle.semver_versions.specs.AnyLength.{IsVersionAtAnyLength, SpellsAtAnyLength}
-use Rattle.semver_versions.specs.Outlines.{OutlineValue}
-use Rattle.semver_versions.specs.Steps.Reading.{AreAround, AreIdentifiers, IsBefore, IsOutlinedAt, IsOutlinedBy, IsOutlinedFrom}
+use Rattle.semver_versions.specs.VersionRefs.{VersionRefValue}
+use Rattle.semver_versions.specs.Steps.Reading.{AreAround, AreIdentifiers, IsBefore, IsBorrowedAt, IsBorrowedBy, IsBorrowedFrom}
 use Rattle.semver_versions.specs.Steps.Reading.{IsKeptBy, IsRead, IsShort, IsSign, NumbersFit, ZerosFit, around_size, hyphens_of}
 use Rattle.semver_versions.proofs.CutIdentifiers.{spelled_are}
 use Rattle.semver_versions.proofs.KeptTexts.{any_kept_all, kept_any_all, kept_parts, kept_spelled_all, spelled_kept_all}
@@ -313,19 +313,19 @@ pub one_version_in : (d : Grammar) (v u : VersionValue) (text : Text) → Spells
 one_version_in d v u text a b =
     let read = read_of d v text a in one_read d v u read.0 read.2 (read_after d u text read.0 read.1 b)
 
--- ---- its outline
+-- ---- its borrowed version
 
-pub outlined_from : (d : Grammar) (text rest : Text) (found : Option OutlineValue) → IsBefore d text rest
-    → IsOutlinedAt d (before_numbers text) rest found → IsOutlinedFrom d text found
-outlined_from d text rest None at none = λ v other before read. none v (subst (IsRead d v) (one_before d text other rest before at) read)
-outlined_from d text rest (Some o) at is = (is.0, rest, at, is.1, is.2)
+pub borrowed_from : (d : Grammar) (text rest : Text) (found : Option VersionRefValue) → IsBefore d text rest
+    → IsBorrowedAt d (before_numbers text) rest found → IsBorrowedFrom d text found
+borrowed_from d text rest None at none = λ v other before read. none v (subst (IsRead d v) (one_before d text other rest before at) read)
+borrowed_from d text rest (Some o) at is = (is.0, rest, at, is.1, is.2)
 
-pub short_outlined : (d : Grammar) (text : Text) (found : Option OutlineValue) → IsShort d (characters text)
-    → IsOutlinedFrom d text found → IsOutlinedBy d text found
-short_outlined d text None short none = λ w. let read = read_of d w.0 text w.1 in none w.0 read.0 read.1 read.2
-short_outlined d text (Some o) short is = (is.0, in_short d is.0 text short (spells_any d is.0 text is.1 is.2 is.3), is.4)
+pub short_borrowed : (d : Grammar) (text : Text) (found : Option VersionRefValue) → IsShort d (characters text)
+    → IsBorrowedFrom d text found → IsBorrowedBy d text found
+short_borrowed d text None short none = λ w. let read = read_of d w.0 text w.1 in none w.0 read.0 read.1 read.2
+short_borrowed d text (Some o) short is = (is.0, in_short d is.0 text short (spells_any d is.0 text is.1 is.2 is.3), is.4)
 
-pub is_version_from : (d : Grammar) (text : Text) (found : Option OutlineValue) → IsOutlinedFrom d text found
+pub is_version_from : (d : Grammar) (text : Text) (found : Option VersionRefValue) → IsBorrowedFrom d text found
     → IsTrue (is_some found) ↔ IsVersionAtAnyLength d text
 is_version_from d text None none = (λ y. absurd (cc), λ w. let read = read_any d w.0 text w.1 in absurd (none w.0 read.0 read.1 read.2))
 is_version_from d text (Some o) is = (λ y. (is.0, spells_any d is.0 text is.1 is.2 is.3), λ w. refl)

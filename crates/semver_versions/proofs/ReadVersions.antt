@@ -17,10 +17,10 @@ use Rattle.semver_texts.specs.declared.grammar.Grammar.TheVariants.{Crate, Cargo
 use Rattle.semver_texts.specs.Steps.DottedParts.{marked_part}
 use Rattle.semver_texts.proofs.DottedParts.{found_same}
 use Rattle.semver_texts.proofs.Numbers.{same_numbers}
-use Rattle.semver_versions.specs.Outlines.{after_mark, identifier_of, outline_after, version_of}
-use Rattle.semver_versions.specs.Steps.Reading.{AreAround, AreIdentifiers, AreParts, IsKeptBy, IsOutlinedAt, IsRead, NumbersFit, ZerosFit}
+use Rattle.semver_versions.specs.VersionRefs.{after_mark, identifier_of, version_ref_after, version_of}
+use Rattle.semver_versions.specs.Steps.Reading.{AreAround, AreIdentifiers, AreParts, IsKeptBy, IsBorrowedAt, IsRead, NumbersFit, ZerosFit}
 use Rattle.semver_versions.specs.Steps.Reading.{hyphens_of}
-use Rattle.semver_versions.specs.Steps.Reading.{outline_with}
+use Rattle.semver_versions.specs.Steps.Reading.{version_ref_with}
 use Rattle.semver_versions.proofs.CutIdentifiers.{part_found, part_is}
 use Rattle.semver_versions.proofs.KeptTexts.{all_kept, are_parts, begins_marked, kept_dotted, kept_is, kept_parts, no_identifiers}
 use Rattle.semver_versions.proofs.KeptTexts.{kept_texts, parts_cut}
@@ -108,7 +108,7 @@ parts_fit d rest pre build w =
 -- ---- a version, from its numbers and its parts
 
 abbrev pub version_with : Digits → ℕ → ℕ → ℕ → Text → Text → VersionValue
-version_with digits major minor patch pre build = version_of (outline_with digits major minor patch 0 pre build)
+version_with digits major minor patch pre build = version_of (version_ref_with digits major minor patch 0 pre build)
 
 module _ (d : Grammar) (text rest pre build : Text) (major minor patch : ℕ) (n : BeginsWithNumbers text major minor patch rest)
     (w : AreParts d rest pre build) where
@@ -142,10 +142,10 @@ module _ (d : Grammar) (text rest pre build : Text) (major minor patch : ℕ) (n
     whole = n.split ∙ ap (λ t. three ++ t) w.split;
   }
 
-  its_outline : (before numbers_end : ℕ) → numbers_end + length rest ≡ before + length text
-      → outline_with digits major minor patch numbers_end pre build
-      ≡ outline_after digits before (version_with digits major minor patch pre build)
-  its_outline before numbers_end at =
+  its_ref : (before numbers_end : ℕ) → numbers_end + length rest ≡ before + length text
+      → version_ref_with digits major minor patch numbers_end pre build
+      ≡ version_ref_after digits before (version_with digits major minor patch pre build)
+  its_ref before numbers_end at =
       let ids = identifiers_by digits (map identifier_of (cut_at_dots pre)) in
       let pre_is = kept_dotted digits ids pre pre_kept in
       let build_is = kept_dotted digits (identifiers_by digits (map identifier_of (cut_at_dots build))) build build_kept in
@@ -169,10 +169,10 @@ module _ (d : Grammar) (text rest pre build : Text) (major minor patch : ℕ) (n
         digits = digits;
       })
 
-  pub has_outline : NumbersFit d major minor patch → (before numbers_end : ℕ) → numbers_end + length rest ≡ before + length text
-      → IsOutlinedAt d before text (Some (outline_with digits major minor patch numbers_end pre build))
-  has_outline fits before numbers_end at =
-      (version_with digits major minor patch pre build, is_read fits, its_outline before numbers_end at)
+  pub has_version_ref : NumbersFit d major minor patch → (before numbers_end : ℕ) → numbers_end + length rest ≡ before + length text
+      → IsBorrowedAt d before text (Some (version_ref_with digits major minor patch numbers_end pre build))
+  has_version_ref fits before numbers_end at =
+      (version_with digits major minor patch pre build, is_read fits, its_ref before numbers_end at)
 
 -- no parts, where nothing follows the numbers
 pub no_parts : (d : Grammar) (text : Text) → (length text == 0) ≡ true → AreParts d text [] []

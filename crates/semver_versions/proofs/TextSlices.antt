@@ -8,7 +8,7 @@ use Rattle.std.proofs.lemmas.Str.{IsCharBoundary-after_ascii}
 use Rattle.semver_texts.specs.Texts.{Text, cut_at_dots, is_part}
 use Rattle.semver_texts.proofs.DottedParts.{dotted_ascii}
 use Rattle.semver_texts.proofs.PartRuns.{parts_pass}
-use Rattle.semver_versions.specs.Outlines.{StandsAt}
+use Rattle.semver_versions.specs.VersionRefs.{StandsAt}
 
 module _ (offset : ℕ) (part text : Text) (place : StandsAt offset part text) (some : 0 < length part) where
   pub within : offset + length part ≤ length text

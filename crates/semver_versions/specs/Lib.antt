@@ -1,4 +1,4 @@
 pub mod AnyLength
-pub mod Outlines
+pub mod VersionRefs
 pub mod ReadVersions
 pub mod Steps

@@ -1,6 +1,6 @@
 //! Compares the identifiers of a version while they are still a string.
 
-ghost use Rattle.semver_versions.specs.Outlines.{identifier_of};
+ghost use Rattle.semver_versions.specs.VersionRefs.{identifier_of};
 
 use semver_texts::decimals::number_of_digits;
 use semver_texts::identifiers::Reading;

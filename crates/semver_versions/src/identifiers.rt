@@ -4,7 +4,7 @@ ghost use Rattle.std.specs.Prelude.{◌≡◌, ◌<◌, length, map, true, IfOk,
 ghost use Rattle.std.specs.List.{list_all};
 ghost use Rattle.semver_texts.specs.Texts.{cut_at_dots, is_part};
 ghost use Rattle.semver_texts.specs.VersionViews.{identifier_value};
-ghost use Rattle.semver_versions.specs.Outlines.{identifier_of};
+ghost use Rattle.semver_versions.specs.VersionRefs.{identifier_of};
 
 use crate::comparing::InVersions;
 use semver_texts::dotted::{of_parts, text_of_parts};
@@ -24,7 +24,7 @@ fn identifier(alloc: Global, text: &str) -> Result<Identifier, AllocError>
     Ok(Identifier::AlphaNumeric(String::from_str(alloc, text)?))
 }
 
-// Answer: equation.
+// Determined by: equation.
 /// Returns the identifiers that a `Version` keeps of the strings between the dots. If there are no
 /// bytes, there are no identifiers, and nothing is allocated. `Err` means out of memory.
 #[inline(always)]
@@ -40,7 +40,7 @@ pub fn identifiers(alloc: Global, bytes: &[u8]) -> Result<Vec<Identifier>, Alloc
     identifiers_of_text(alloc, text_of_parts(bytes))
 }
 
-// Answer: equation.
+// Determined by: equation.
 /// Returns the result of `identifiers` for a string.
 #[inline(always)]
 pub fn identifiers_of_text(alloc: Global, text: &str) -> Result<Vec<Identifier>, AllocError>

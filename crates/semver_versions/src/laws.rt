@@ -6,10 +6,10 @@ ghost use Rattle.semver_texts.specs.ToolVersions.{SpellsIn};
 ghost use Rattle.semver_texts.specs.VersionGrammar.{SpellsVersion};
 ghost use Rattle.semver_texts.specs.declared.grammar.Grammar.{Grammar};
 ghost use Rattle.semver_texts.specs.declared.grammar.Grammar.TheVariants.{Crate};
-ghost use Rattle.semver_versions.specs.Outlines.{IsOutlineIn, IsOutlineOf, OutlineValue};
-ghost use Rattle.semver_versions.specs.Outlines.{version_of};
+ghost use Rattle.semver_versions.specs.VersionRefs.{IsVersionRefIn, IsVersionRefOf};
+ghost use Rattle.semver_versions.specs.VersionRefs.{VersionRefValue, version_of};
 
-use crate::outlines::Outline;
+use crate::version_ref::VersionRef;
 
 /// A string spells at most one version in the crate's grammar.
 pub fn one_version()
@@ -24,16 +24,16 @@ pub fn one_version_in()
 {}
 
 /// The borrowed version of a string is that of the version that the string spells.
-pub fn one_outlined_version()
-    ensures same_version { (grammar : Grammar) (o : OutlineValue) (v : VersionValue) (text : Text)
-        → IsOutlineIn grammar text o → SpellsIn grammar v text → v ≡ version_of o }
+pub fn one_borrowed_version()
+    ensures same_version { (grammar : Grammar) (o : VersionRefValue) (v : VersionValue)
+        (text : Text) → IsVersionRefIn grammar text o → SpellsIn grammar v text → v ≡ version_of o }
     // In the crate's dialect, a borrowed version is that of the crate's grammar.
-    ensures same_outline { (o : OutlineValue) (text : Text)
-        → IsOutlineIn Crate text o ↔ IsOutlineOf text o }
+    ensures same_version_ref { (o : VersionRefValue) (text : Text)
+        → IsVersionRefIn Crate text o ↔ IsVersionRefOf text o }
 {}
 
 /// The numbers of a borrowed version fit 64 bits. It does nothing.
-pub fn numbers_of_outlines_fit(version: &Outline<'_>)
+pub fn numbers_of_refs_fit(version: &VersionRef<'_>)
     ensures major { version.now.major < 2 ^ 64 }
     ensures minor { version.now.minor < 2 ^ 64 }
     ensures patch { version.now.patch < 2 ^ 64 }

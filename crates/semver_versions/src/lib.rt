@@ -5,7 +5,7 @@
 pub mod comparing;
 pub mod identifiers;
 pub mod laws;
-mod outlines;
 pub mod read_version;
 mod reader;
 pub mod version;
+mod version_ref;

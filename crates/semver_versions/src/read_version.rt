@@ -5,10 +5,10 @@ ghost use Rattle.semver_texts.specs.Digits.{plain_by};
 ghost use Rattle.semver_texts.specs.Precedence.{precedence};
 ghost use Rattle.semver_texts.specs.VersionViews.{version_value};
 ghost use Rattle.semver_texts.specs.Versions.{without_build};
-ghost use Rattle.semver_versions.specs.Outlines.{kept_version_of, version_of};
+ghost use Rattle.semver_versions.specs.VersionRefs.{kept_version_of, version_of};
 ghost use Rattle.semver_versions.specs.ReadVersions.{read_plain};
 
-use crate::outlines::Outline;
+use crate::version_ref::VersionRef;
 use semver_texts::grammar::Digits;
 use semver_texts::identifiers::ByDigits;
 use semver_texts::precedence::{Identifiers, compare};
@@ -27,31 +27,31 @@ pub struct ReadVersion {
 }
 
 impl ReadVersion {
-    // Answer: equation.
+    // Determined by: equation.
     /// Returns a borrowed version without its build metadata. `Err` means out of memory.
     #[inline(always)]
-    pub fn of(alloc: Global, outline: &Outline<'_>) -> Result<ReadVersion, AllocError>
-        ensures plain { IfOk result (λ read. read_plain read ≡ (version_of outline.now).plain) }
+    pub fn of(alloc: Global, borrowed: &VersionRef<'_>) -> Result<ReadVersion, AllocError>
+        ensures plain { IfOk result (λ read. read_plain read ≡ (version_of borrowed.now).plain) }
         // Version and digits are those of the borrowed version, except that there is no build
         // metadata.
         ensures version { IfOk result (λ read. version_value read.version
-            ≡ without_build (kept_version_of outline.now).plain) }
-        ensures digits { IfOk result (λ read. read.digits ≡ outline.now.digits) }
+            ≡ without_build (kept_version_of borrowed.now).plain) }
+        ensures digits { IfOk result (λ read. read.digits ≡ borrowed.now.digits) }
     {
         let version = Version {
-            major: outline.major(),
-            minor: outline.minor(),
-            patch: outline.patch(),
-            pre: outline.pre_identifiers(alloc)?,
+            major: borrowed.major(),
+            minor: borrowed.minor(),
+            patch: borrowed.patch(),
+            pre: borrowed.pre_identifiers(alloc)?,
             build: Vec::new(alloc),
         };
         Ok(ReadVersion {
             version,
-            digits: outline.digits(),
+            digits: borrowed.digits(),
         })
     }
 
-    // Answer: equation.
+    // Determined by: equation.
     /// Returns the same version without its build metadata. `Err` means out of memory.
     pub fn without_build(&self, alloc: Global) -> Result<ReadVersion, AllocError>
         ensures plain { IfOk result (λ same. read_plain same ≡ read_plain self.now) }
@@ -73,7 +73,7 @@ impl ReadVersion {
         })
     }
 
-    // Answer: equation.
+    // Determined by: equation.
     /// Returns the identifiers of the pre-release for comparing.
     #[inline(always)]
     pub fn pre<'a>(&'a self) -> ByDigits<&'a [Identifier]>
@@ -83,7 +83,7 @@ impl ReadVersion {
         ByDigits::of(self.version.pre.as_slice(), self.digits)
     }
 
-    // Answer: equation.
+    // Determined by: equation.
     /// Compares two versions by precedence.
     pub fn compare(&self, other: &ReadVersion) -> Ordering
         ensures { result ≡ precedence (read_plain self.now) (read_plain other.now) }
@@ -91,7 +91,7 @@ impl ReadVersion {
         self.compare_version(&other.version, other.digits)
     }
 
-    // Answer: equation.
+    // Determined by: equation.
     /// Compares it with a version by precedence, where the version's numeric identifiers are read
     /// as `digits` says.
     #[inline(always)]
@@ -107,17 +107,17 @@ impl ReadVersion {
         )
     }
 
-    // Answer: equation.
+    // Determined by: equation.
     /// Compares a borrowed version with it by precedence, where the borrowed version's numeric
     /// identifiers are read as `digits` says.
     #[inline(always)]
-    pub fn compared_outline(&self, outline: &Outline<'_>, digits: Digits) -> Ordering
-        ensures { result ≡ precedence (plain_by digits (kept_version_of outline.now).plain)
+    pub fn compared_ref(&self, borrowed: &VersionRef<'_>, digits: Digits) -> Ordering
+        ensures { result ≡ precedence (plain_by digits (kept_version_of borrowed.now).plain)
             (read_plain self.now) }
     {
         compare(
-            (outline.major, outline.minor, outline.patch),
-            outline.pre_by(digits),
+            (borrowed.major, borrowed.minor, borrowed.patch),
+            borrowed.pre_by(digits),
             (self.version.major, self.version.minor, self.version.patch),
             self.pre(),
         )

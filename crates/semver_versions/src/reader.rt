@@ -13,12 +13,12 @@ ghost use Rattle.std.specs.Char.{is_ascii_digit};
 ghost use Rattle.semver_texts.specs.Texts.{Text, BeginsWithNumbers, cut_at_dots};
 ghost use Rattle.semver_texts.specs.ToolVersions.{characters};
 ghost use Rattle.semver_texts.specs.declared.grammar.Grammar.TheVariants.{Npm};
-ghost use Rattle.semver_versions.specs.Steps.Reading.{AreAround, AreParts, IsBefore, IsOutlinedAt};
-ghost use Rattle.semver_versions.specs.Steps.Reading.{IsOutlinedBy, IsOutlinedFrom, IsShort};
+ghost use Rattle.semver_versions.specs.Steps.Reading.{AreAround, AreParts, IsBefore, IsBorrowedAt};
+ghost use Rattle.semver_versions.specs.Steps.Reading.{IsBorrowedBy, IsBorrowedFrom, IsShort};
 ghost use Rattle.semver_versions.specs.Steps.Reading.{NumbersFit, ZerosFit, around_size};
 ghost use Rattle.semver_versions.specs.Steps.Reading.{hyphens_of};
 
-use crate::outlines::{Outline, with_parts};
+use crate::version_ref::{VersionRef, with_parts};
 use semver_texts::decimals::{begins_with_digit, numbers_at_digit};
 use semver_texts::dotted::{Hyphens, have_no_leading_zeros, marked_part, strip_mark};
 use semver_texts::grammar::Grammar;
@@ -212,12 +212,12 @@ fn with_rest(
     numbers_end: usize,
     rest: &[u8],
     grammar: Grammar,
-) -> Option<Outline<'_>>
+) -> Option<VersionRef<'_>>
     requires within { numbers_end + length rest.now < 2 ^ 64 }
     requires fit { NumbersFit grammar major minor patch }
     ensures { (text : Text) (before : ℕ) → BeginsWithNumbers text major minor patch rest.now
         → numbers_end + length rest.now ≡ before + length text
-        → IsOutlinedAt grammar before text result }
+        → IsBorrowedAt grammar before text result }
 {
     let (pre, build) = parts(rest, grammar)?;
     Some(with_parts(
@@ -243,11 +243,11 @@ fn after_numbers(
     numbers_end: usize,
     rest: &[u8],
     grammar: Grammar,
-) -> Option<Outline<'_>>
+) -> Option<VersionRef<'_>>
     requires { numbers_end + length rest.now < 2 ^ 64 }
     ensures { (text : Text) (before : ℕ) → BeginsWithNumbers text major minor patch rest.now
         → numbers_end + length rest.now ≡ before + length text
-        → IsOutlinedAt grammar before text result }
+        → IsBorrowedAt grammar before text result }
 {
     if !fit(major, minor, patch, grammar) {
         return None;
@@ -260,19 +260,19 @@ fn after_numbers(
 
 /// Returns the borrowed version that the bytes spell, if they spell one.
 #[inline(always)]
-pub(crate) fn outline(input: &[u8], grammar: Grammar) -> Option<Outline<'_>>
-    ensures { IsOutlinedBy grammar input.now result }
+pub(crate) fn read_ref(input: &[u8], grammar: Grammar) -> Option<VersionRef<'_>>
+    ensures { IsBorrowedBy grammar input.now result }
 {
     if !is_short(0, input, grammar) {
         return None;
     }
-    outline_at_any_length(input, grammar)
+    read_ref_at_any_length(input, grammar)
 }
 
 /// Returns the borrowed version that the bytes spell, if they spell one, whatever their length.
 #[inline(always)]
-pub(crate) fn outline_at_any_length(input: &[u8], grammar: Grammar) -> Option<Outline<'_>>
-    ensures { IsOutlinedFrom grammar input.now result }
+pub(crate) fn read_ref_at_any_length(input: &[u8], grammar: Grammar) -> Option<VersionRef<'_>>
+    ensures { IsBorrowedFrom grammar input.now result }
 {
     let at = at_digit(input, grammar)?;
     let (major, minor, patch, rest) = numbers_at_digit(at)?;

@@ -16,17 +16,17 @@ ghost use Rattle.semver_texts.specs.VersionViews.{version_value};
 ghost use Rattle.semver_texts.specs.VersionGrammar.{SpellsVersion, IsVersionText};
 ghost use Rattle.semver_texts.specs.ToolVersions.{IsVersionTextIn, SpellsIn};
 ghost use Rattle.semver_versions.specs.AnyLength.{IsVersionAtAnyLength};
-ghost use Rattle.semver_versions.specs.Outlines.{IsOutlineIn, IsOutlineOf};
-ghost use Rattle.semver_versions.specs.Outlines.{OutlineValue, StandsAt, version_of};
+ghost use Rattle.semver_versions.specs.VersionRefs.{IsVersionRefIn, IsVersionRefOf};
+ghost use Rattle.semver_versions.specs.VersionRefs.{VersionRefValue, StandsAt, version_of};
 
-pub use crate::outlines::Outline;
 use crate::reader;
+pub use crate::version_ref::VersionRef;
 pub use semver_texts::grammar::{Digits, Grammar};
 pub use semver_texts::precedence::cmp_precedence;
 pub use semver_texts::version::{Identifier, Version};
 use std::alloc::{AllocError, Global};
 
-// Answer: law answer_laws::versions::one_read.
+// Determined by: law result_laws::versions::one_read.
 /// Returns the version that the string spells, or `None` if it spells none. To find out what is
 /// wrong with an invalid version, call `semver_parser::version::parse`.
 ///
@@ -55,13 +55,13 @@ pub fn read(alloc: Global, input: &str) -> Result<Option<Version>, AllocError>
     ensures out_of_memory { IfErr result (λ _. (v : VersionValue) × SpellsVersion v input.now
         × ((0 < length v.plain.pre) ⊎ (0 < length v.build))) }
 {
-    let Some(outline) = outline(input) else {
+    let Some(borrowed) = read_ref(input) else {
         return Ok(None);
     };
-    Ok(Some(outline.version_in(alloc, input)?))
+    Ok(Some(borrowed.version_in(alloc, input)?))
 }
 
-// Answer: law answer_laws::versions::one_read_bytes.
+// Determined by: law result_laws::versions::one_read_bytes.
 /// Reads a version like [`read`], from bytes that needn't be UTF-8. Bytes that aren't UTF-8 give
 /// `None`.
 ///
@@ -86,13 +86,13 @@ pub fn read_bytes(alloc: Global, input: &[u8]) -> Result<Option<Version>, AllocE
     ensures out_of_memory { IfErr result (λ _. (v : VersionValue) × SpellsVersion v input.now
         × ((0 < length v.plain.pre) ⊎ (0 < length v.build))) }
 {
-    let Some(outline) = outline_bytes(input) else {
+    let Some(borrowed) = read_ref_bytes(input) else {
         return Ok(None);
     };
-    Ok(Some(outline.version(alloc)?))
+    Ok(Some(borrowed.version(alloc)?))
 }
 
-// Answer: law answer_laws::versions::one_outline.
+// Determined by: law result_laws::versions::one_read_ref.
 /// Returns the version that the string spells as a borrowed version, or `None` if it spells none.
 ///
 /// It does not allocate: its parts are slices of the input.
@@ -100,18 +100,18 @@ pub fn read_bytes(alloc: Global, input: &[u8]) -> Result<Option<Version>, AllocE
 /// ```
 /// use semver_parser::version;
 ///
-/// let outline = version::outline(" 1.2.3-rc.4+b5\n").unwrap();
-/// assert_eq!((outline.pre(), outline.pre_offset()), ("rc.4", 7));
-/// assert_eq!((outline.build(), outline.build_offset()), ("b5", 12));
-/// assert!(version::outline("1.2").is_none() && version::outline("1.2.3 a").is_none());
+/// let borrowed = version::read_ref(" 1.2.3-rc.4+b5\n").unwrap();
+/// assert_eq!((borrowed.pre(), borrowed.pre_offset()), ("rc.4", 7));
+/// assert_eq!((borrowed.build(), borrowed.build_offset()), ("b5", 12));
+/// assert!(version::read_ref("1.2").is_none() && version::read_ref("1.2.3 a").is_none());
 /// ```
 #[must_use]
 #[inline(always)]
-pub fn outline(input: &str) -> Option<Outline<'_>>
+pub fn read_ref(input: &str) -> Option<VersionRef<'_>>
     // The result is a borrowed version if and only if it is that of a version that the string
     // spells.
-    ensures outlined { (o : OutlineValue) →
-        (result ≡ Some o) ↔ IsOutlineOf input.now o }
+    ensures borrowed { (o : VersionRefValue) →
+        (result ≡ Some o) ↔ IsVersionRefOf input.now o }
     // The result is `None` if and only if the string spells no version.
     ensures none { (result ≡ None) ↔ ¬ (IsVersionText input.now) }
     // The pre-release is empty if and only if the version has none.
@@ -124,25 +124,25 @@ pub fn outline(input: &str) -> Option<Outline<'_>>
     ensures places { IfSome result (λ o. StandsAt o.pre_offset o.pre input.now
         × StandsAt o.build_offset o.build input.now) }
 {
-    outline_bytes(input.as_bytes())
+    read_ref_bytes(input.as_bytes())
 }
 
-// Answer: law answer_laws::versions::one_outline_bytes.
-/// Returns the result of [`outline`] for bytes that needn't be UTF-8. Bytes that aren't UTF-8 give
+// Determined by: law result_laws::versions::one_read_ref_bytes.
+/// Returns the result of [`read_ref`] for bytes that needn't be UTF-8. Bytes that aren't UTF-8 give
 /// `None`, without a separate check. It does not allocate.
 ///
 /// ```
 /// use semver_parser::version;
 ///
-/// assert_eq!(version::outline_bytes(b"1.2.3-rc.4").unwrap().pre(), "rc.4");
-/// assert!(version::outline_bytes(b"1.2.3\xff").is_none());
+/// assert_eq!(version::read_ref_bytes(b"1.2.3-rc.4").unwrap().pre(), "rc.4");
+/// assert!(version::read_ref_bytes(b"1.2.3\xff").is_none());
 /// ```
 #[must_use]
 #[inline(always)]
-pub fn outline_bytes(input: &[u8]) -> Option<Outline<'_>>
+pub fn read_ref_bytes(input: &[u8]) -> Option<VersionRef<'_>>
     // The result is a borrowed version if and only if it is that of a version that the bytes spell.
-    ensures outlined { (o : OutlineValue) →
-        (result ≡ Some o) ↔ IsOutlineOf input.now o }
+    ensures borrowed { (o : VersionRefValue) →
+        (result ≡ Some o) ↔ IsVersionRefOf input.now o }
     // The result is `None` if and only if the bytes spell no version.
     ensures none { (result ≡ None) ↔ ¬ (IsVersionText input.now) }
     // The pre-release is empty if and only if the version has none.
@@ -155,11 +155,11 @@ pub fn outline_bytes(input: &[u8]) -> Option<Outline<'_>>
     ensures places { IfSome result (λ o. StandsAt o.pre_offset o.pre input.now
         × StandsAt o.build_offset o.build input.now) }
 {
-    outline_in(input, Grammar::Crate)
+    read_ref_in(input, Grammar::Crate)
 }
 
-// Answer: law answer_laws::versions::one_outline_in.
-/// Returns the result of [`outline_bytes`] in a dialect.
+// Determined by: law result_laws::versions::one_read_ref_in.
+/// Returns the result of [`read_ref_bytes`] in a dialect.
 ///
 /// The bytes needn't be UTF-8, and it does not allocate. The pages `docs::grammar` and
 /// `docs::original_crate` have the grammars.
@@ -168,17 +168,18 @@ pub fn outline_bytes(input: &[u8]) -> Option<Outline<'_>>
 /// use semver_parser::version::{self, Grammar};
 ///
 /// for grammar in [Grammar::Cargo, Grammar::Npm] {
-///     assert!(version::outline_in(b"1.0.0-a--b", grammar).is_some());
-///     assert!(version::outline_in(b"1.0.0-01", grammar).is_none());
+///     assert!(version::read_ref_in(b"1.0.0-a--b", grammar).is_some());
+///     assert!(version::read_ref_in(b"1.0.0-01", grammar).is_none());
 /// }
-/// assert!(version::outline_in(b" v1.2.3", Grammar::Npm).is_some());
-/// assert!(version::outline_in(b" v1.2.3", Grammar::Cargo).is_none());
+/// assert!(version::read_ref_in(b" v1.2.3", Grammar::Npm).is_some());
+/// assert!(version::read_ref_in(b" v1.2.3", Grammar::Cargo).is_none());
 /// ```
 #[must_use]
 #[inline(always)]
-pub fn outline_in(input: &[u8], grammar: Grammar) -> Option<Outline<'_>>
+pub fn read_ref_in(input: &[u8], grammar: Grammar) -> Option<VersionRef<'_>>
     // The result is a borrowed version if and only if it is that of a version that the bytes spell.
-    ensures outlined { (o : OutlineValue) → (result ≡ Some o) ↔ IsOutlineIn grammar input.now o }
+    ensures borrowed { (o : VersionRefValue) →
+        (result ≡ Some o) ↔ IsVersionRefIn grammar input.now o }
     // The result is `None` if and only if the bytes spell no version.
     ensures none { (result ≡ None) ↔ ¬ (IsVersionTextIn grammar input.now) }
     // The borrowed version stands for the version that the bytes spell.
@@ -187,18 +188,18 @@ pub fn outline_in(input: &[u8], grammar: Grammar) -> Option<Outline<'_>>
     ensures places { IfSome result (λ o. StandsAt o.pre_offset o.pre input.now
         × StandsAt o.build_offset o.build input.now) }
 {
-    reader::outline(input, grammar)
+    reader::read_ref(input, grammar)
 }
 
-// Answer: equation.
+// Determined by: equation.
 /// Returns whether the bytes spell a version in a dialect, whatever their length, which only npm
 /// limits. For `1.2.3` after a thousand spaces this is true in npm's dialect, although
-/// [`outline_in`] returns `None`.
+/// [`read_ref_in`] returns `None`.
 ///
 /// The bytes needn't be UTF-8, and it does not allocate.
 #[must_use]
 pub fn is_version_at_any_length(input: &[u8], grammar: Grammar) -> bool
     ensures { IsTrue result ↔ IsVersionAtAnyLength grammar input.now }
 {
-    reader::outline_at_any_length(input, grammar).is_some()
+    reader::read_ref_at_any_length(input, grammar).is_some()
 }

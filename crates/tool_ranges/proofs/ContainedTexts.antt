@@ -4,16 +4,16 @@ use Rattle.std.proofs.Common.{◌≡◌, ap, subst, sym, ◌∙◌}
 use Rattle.semver_texts.specs.Digits.{digits_in, plain_by}
 use Rattle.semver_texts.specs.Texts.{Text}
 use Rattle.semver_texts.specs.declared.grammar.Grammar.{Grammar}
-use Rattle.semver_versions.specs.Outlines.{IsOutlineIn, OutlineValue, kept_version_of, version_of}
+use Rattle.semver_versions.specs.VersionRefs.{IsVersionRefIn, VersionRefValue, kept_version_of, version_of}
 use Rattle.tool_ranges.specs.VersionRanges.{RangeValue, versions_grammar}
 use Rattle.version_sets.specs.VersionSets.{SetValue, contains, contains_kept}
 
--- the outline of a text says how the digits of its version are read
-pub outlined_alike : (grammar : Grammar) (set : SetValue) (text : Text) (o : OutlineValue) → set.digits ≡ digits_in grammar
-    → IsOutlineIn grammar text o → contains_kept set (kept_version_of o).plain ≡ contains set (version_of o).plain
-outlined_alike grammar set text o digits outlined =
-    let (v, spells, is) = outlined in
-    ap (λ d. contains set (plain_by d (kept_version_of o).plain)) (digits ∙ sym (ap (λ (p : OutlineValue). p.digits) is))
+-- the borrowed version of a text says how the digits of its version are read
+pub borrowed_alike : (grammar : Grammar) (set : SetValue) (text : Text) (o : VersionRefValue) → set.digits ≡ digits_in grammar
+    → IsVersionRefIn grammar text o → contains_kept set (kept_version_of o).plain ≡ contains set (version_of o).plain
+borrowed_alike grammar set text o digits borrowed =
+    let (v, spells, is) = borrowed in
+    ap (λ d. contains set (plain_by d (kept_version_of o).plain)) (digits ∙ sym (ap (λ (p : VersionRefValue). p.digits) is))
 
 -- what is so in the grammar that a range returns, is so in that of its versions
 pub in_its_grammar : (P : Grammar → Type 0) (inside range : RangeValue) (grammar : Grammar) → inside ≡ range

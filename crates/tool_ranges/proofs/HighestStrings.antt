@@ -9,7 +9,7 @@ use Rattle.semver_texts.specs.Texts.{Text}
 use Rattle.semver_texts.specs.ToolVersions.{SpellsIn}
 use Rattle.semver_texts.specs.Versions.{PlainVersion, VersionValue}
 use Rattle.semver_texts.specs.declared.grammar.Grammar.{Grammar}
-use Rattle.semver_versions.specs.Outlines.{OutlineValue, version_of}
+use Rattle.semver_versions.specs.VersionRefs.{VersionRefValue, version_of}
 use Rattle.version_sets.specs.VersionSets.{SetValue, contains}
 use Rattle.tool_ranges.specs.Highest.{FindsHighestText, IsMember, IsMemberText, order_for}
 use Rattle.tool_ranges.proofs.HighestMembers.{IsBest, inside, mapped, skipped, stepped, whole}
@@ -133,18 +133,18 @@ module _ (lowest : Bool) (g : Grammar) (set : SetValue) where
         ),
       )
 
-  -- the same of the outlines of the best and of the string, whose bytes were read
-  pub outline_taken : ((h : Grammar) (u w : VersionValue) (t : Text) → SpellsIn h u t → SpellsIn h w t → u ≡ w)
-      → (texts : List (Bor Text)) (x : Bor Text) (found : Option (Bor Text)) (best : Option OutlineValue) (o : OutlineValue) (r : Bool)
+  -- the same of the borrowed versions of the best and of the string, whose bytes were read
+  pub ref_taken : ((h : Grammar) (u w : VersionValue) (t : Text) → SpellsIn h u t → SpellsIn h w t → u ≡ w)
+      → (texts : List (Bor Text)) (x : Bor Text) (found : Option (Bor Text)) (best : Option VersionRefValue) (o : VersionRefValue) (r : Bool)
       → (bytes : Text) → bytes ≡ x.now → SpellsIn g (version_of o) bytes → contains set (version_of o).plain ≡ true
       → MatchOption best (r ≡ true) (λ b. (r ≡ true) ↔ (order_for lowest (version_of b).plain (version_of o).plain ≡ Less))
-      → IsBestString texts found (option_map (λ (b : OutlineValue). (version_of b).plain) best)
+      → IsBestString texts found (option_map (λ (b : VersionRefValue). (version_of b).plain) best)
       → (r ≡ true → IsBestString (texts ++ x ∷ []) (Some x) (Some (version_of o).plain))
-      × (r ≡ false → IsBestString (texts ++ x ∷ []) found (option_map (λ (b : OutlineValue). (version_of b).plain) best))
-  outline_taken one texts x found best o r bytes are spells member said is =
+      × (r ≡ false → IsBestString (texts ++ x ∷ []) found (option_map (λ (b : VersionRefValue). (version_of b).plain) best))
+  ref_taken one texts x found best o r bytes are spells member said is =
       string_taken one texts x found _ (version_of o) r (subst (SpellsIn g (version_of o)) are spells) member
       (mapped (r ≡ true) (λ (b : PlainVersion). (r ≡ true) ↔ (order_for lowest b (version_of o).plain ≡ Less))
-      (λ (b : OutlineValue). (version_of b).plain) best said) is
+      (λ (b : VersionRefValue). (version_of b).plain) best said) is
 
   -- of all of them
   pub best_found : (texts : List (Bor Text)) (found : Option (Bor Text)) (best : Option PlainVersion) → IsBestString texts found best

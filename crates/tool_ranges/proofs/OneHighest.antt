@@ -1,4 +1,4 @@
--- serves: answer_laws::version_ranges::one_highest_of
+-- serves: result_laws::version_ranges::one_highest_of
 -- The index of the highest is one.
 use Rattle.std.proofs.Common.{◌≡◌, ◌≢◌, ◌⊎◌, ◌<◌, ◌∙◌, ℕ, Bool, List, Option, Some, None, arith, refl, rules, ap, subst, sym, Less, Greater, ⊎_elim}
 use Rattle.std.specs.Borrow.{Bor}

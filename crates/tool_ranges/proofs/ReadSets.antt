@@ -1,4 +1,4 @@
--- serves: answer_laws::sets::satisfies_as_the_set
+-- serves: result_laws::sets::satisfies_as_the_set
 -- The releases that meet what a requirement is rewritten to, and the pre-releases that count and are checked so, are what it means.
 use Rattle.std.proofs.Common.{rules}
 use Rattle.std.specs.Prelude.{Result, Err}

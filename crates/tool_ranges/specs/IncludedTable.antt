@@ -1,7 +1,7 @@
 -- The comparators that stand for a range text as npm reads it with node-semver's
--- `includePrerelease`. They are those of the table, but that a lower bound which includes the
--- pre-releases of its numbers has the lowest one, as `>=1.2.0-0`: so it is the bound of pre-releases
--- too.
+-- `includePrerelease`. They are those of the table, with one exception: a lower bound that includes
+-- the pre-releases of its numbers is the lowest of these, such as `>=1.2.0-0`. So it is a bound of
+-- pre-releases, too.
 use Rattle.std.specs.Prelude.{ℕ, Bool, true, false, ◌&&◌, ◌==◌, not, if◌then◌else◌, List, []}
 use Rattle.std.specs.Prelude.{◌∷◌, ◌++◌, map}
 use Rattle.std.specs.List.{flat_map}

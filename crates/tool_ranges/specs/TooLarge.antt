@@ -106,7 +106,8 @@ limit_offset dialect tree t = number_offset dialect
     (begin_of_word (prefix_len (term_fits_as dialect) (stating (terms_as dialect tree))) (words t))
     t
 
--- why, by the text from that number on: it is above the limit, or it is the limit and can't be raised
+-- the reason, by the text from that number on: it is above the limit, or it is the limit and can't
+-- be raised
 abbrev pub is_limit : ℕ → Text → Bool
 is_limit limit t = all_ascii_digits (run_of t) && (digits_value 10 (run_of t) == limit)
 

@@ -34,7 +34,7 @@ use std::alloc::{AllocError, Global};
 /// The maximum number of comparators in a requirement.
 pub(crate) const MOST_COMPARATORS: usize = 32;
 
-// Answer: law answer_laws::ranges::one_cargo_rewrite.
+// Determined by: law result_laws::ranges::one_cargo_rewrite.
 /// Rewrites a requirement in Cargo's dialect into plain comparators with exact bounds.
 ///
 /// A requirement is either a single wildcard, or 1 to 32 comparators separated by commas. The page
@@ -103,7 +103,8 @@ fn rewritten(alloc: Global, requirement: &str) -> Result<RangeSet, RangeError>
 fn set_of_one(alloc: Global, simple: &Simple<'_>) -> Result<RangeSet, AllocError>
     requires { (s : SimpleTree) × IsSimpleOf s simple.now }
     ensures { IfOk result (λ set. (s : SimpleTree) → IsSimpleOf s simple.now
-        → fits_in Cargo s ≡ true → set_of set ≡ in_one_range (printed_term Stated dialect.Cargo s)) }
+        → fits_in Cargo s ≡ true
+        → set_of set ≡ in_one_range (printed_term Stated dialect.Cargo s)) }
 {
     let mut comparator_set = Vec::with_capacity(alloc, 2)?;
     printing::push(

@@ -41,7 +41,7 @@ pub enum Dialect {
 }
 
 impl Dialect {
-    // Answer: equation.
+    // Determined by: equation.
     /// Returns the grammar of versions in this dialect. Both dialects of the crate have the crate's
     /// grammar.
     ///
@@ -63,7 +63,7 @@ impl Dialect {
         }
     }
 
-    // Answer: equation.
+    // Determined by: equation.
     /// Returns the number of the dialect in C, Python and JavaScript.
     ///
     /// ```
@@ -83,7 +83,7 @@ impl Dialect {
         }
     }
 
-    // Answer: law tool_ranges::laws::one_dialect_of_number.
+    // Determined by: law tool_ranges::laws::one_dialect_of_number.
     /// Returns the dialect with a number, or `None` if no dialect has it.
     ///
     /// ```
@@ -106,7 +106,7 @@ impl Dialect {
         }
     }
 
-    // Answer: equation.
+    // Determined by: equation.
     /// Returns the name of the dialect for programs.
     ///
     /// ```
@@ -127,7 +127,7 @@ impl Dialect {
     }
 }
 
-// Answer: law answer_laws::ranges::one_rewrite.
+// Determined by: law result_laws::ranges::one_rewrite.
 /// Rewrites a range in a dialect into plain comparators with exact bounds.
 ///
 /// It calls [`cargo::rewrite`](crate::cargo::rewrite), [`npm::rewrite`](crate::npm::rewrite) or

@@ -5,7 +5,7 @@ ghost use Rattle.std.specs.Borrow.{Bor};
 ghost use Rattle.std.specs.Iterator.{Drains, IsFinite};
 ghost use Rattle.std.specs.declared.cmp.Ordering.TheVariants.{Less};
 ghost use Rattle.semver_texts.specs.Texts.{Text};
-ghost use Rattle.semver_versions.specs.Outlines.{version_of};
+ghost use Rattle.semver_versions.specs.VersionRefs.{version_of};
 ghost use Rattle.semver_texts.specs.ToolVersions.{SpellsIn};
 ghost use Rattle.tool_ranges.specs.Highest.{FindsHighest, FindsHighestText, IsMemberText};
 ghost use Rattle.tool_ranges.specs.Highest.{order_for};
@@ -14,10 +14,10 @@ ghost use Rattle.version_sets.specs.VersionSets.{contains};
 
 use crate::version_range::VersionRange;
 use semver_versions::laws;
-use semver_versions::version::{Outline, outline_in};
+use semver_versions::version::{VersionRef, read_ref_in};
 
 impl VersionRange {
-    // Answer: law answer_laws::version_ranges::one_highest_of.
+    // Determined by: law result_laws::version_ranges::one_highest_of.
     /// Returns the index of the highest of the given versions that the range contains, or `None` if
     /// it contains none of them. Versions are compared by precedence (SemVer 2.0.0, section 11),
     /// and the first of equal versions is chosen. Strings that are invalid versions in the range's
@@ -40,7 +40,7 @@ impl VersionRange {
         best_index(self, versions, false)
     }
 
-    // Answer: law answer_laws::version_ranges::one_lowest_of.
+    // Determined by: law result_laws::version_ranges::one_lowest_of.
     /// Returns the index of the lowest of the given versions that the range contains. It is
     /// otherwise like [`VersionRange::highest_of`].
     ///
@@ -59,7 +59,7 @@ impl VersionRange {
         best_index(self, versions, true)
     }
 
-    // Answer: law answer_laws::version_ranges::one_highest_among.
+    // Determined by: law result_laws::version_ranges::one_highest_among.
     /// Returns the highest of the given versions that the range contains, or `None` if it contains
     /// none of them. Versions are compared by precedence (SemVer 2.0.0, section 11), and the first
     /// of equal versions is returned. Strings that are invalid versions in the range's dialect are
@@ -76,7 +76,7 @@ impl VersionRange {
         best_string(self, versions, false)
     }
 
-    // Answer: law answer_laws::version_ranges::one_lowest_among.
+    // Determined by: law result_laws::version_ranges::one_lowest_among.
     /// Returns the lowest of the given versions that the range contains. It is otherwise like
     /// [`VersionRange::highest_among`].
     pub fn lowest_among<'v, I: Iterator<Item = &'v str> + Drop>(
@@ -105,13 +105,13 @@ fn best_string<'v, I: Iterator<Item = &'v str> + Drop>(
 {
     laws::one_version_in();
     let mut found: Option<&'v str> = None;
-    let mut best: Option<Outline<'v>> = None;
+    let mut best: Option<VersionRef<'v>> = None;
     for version in versions {
-        let Some(outline) = member(range, version.as_bytes()) else {
+        let Some(borrowed) = member(range, version.as_bytes()) else {
             continue;
         };
-        if is_above(&outline, &best, lowest) {
-            best = Some(outline);
+        if is_above(&borrowed, &best, lowest) {
+            best = Some(borrowed);
             found = Some(version);
         }
     }
@@ -125,13 +125,13 @@ fn best_index(range: &VersionRange, versions: &[&[u8]], lowest: bool) -> Option<
 {
     laws::one_version_in();
     let mut found = 0;
-    let mut best: Option<Outline<'_>> = None;
+    let mut best: Option<VersionRef<'_>> = None;
     for at in 0..versions.len() {
-        let Some(outline) = member(range, versions[at]) else {
+        let Some(borrowed) = member(range, versions[at]) else {
             continue;
         };
-        if is_above(&outline, &best, lowest) {
-            best = Some(outline);
+        if is_above(&borrowed, &best, lowest) {
+            best = Some(borrowed);
             found = at;
         }
     }
@@ -143,23 +143,23 @@ fn best_index(range: &VersionRange, versions: &[&[u8]], lowest: bool) -> Option<
 
 /// Returns a string as a borrowed version, if it is one that a range contains.
 #[inline(always)]
-fn member<'t>(range: &VersionRange, version: &'t [u8]) -> Option<Outline<'t>>
+fn member<'t>(range: &VersionRange, version: &'t [u8]) -> Option<VersionRef<'t>>
     ensures { MatchOption result
         (¬ (IsMemberText (versions_grammar range.now) range.now.versions version.now))
-        (λ outline. SpellsIn (versions_grammar range.now) (version_of outline) version.now
-        × (contains range.now.versions (version_of outline).plain ≡ true)) }
+        (λ borrowed. SpellsIn (versions_grammar range.now) (version_of borrowed) version.now
+        × (contains range.now.versions (version_of borrowed).plain ≡ true)) }
 {
     laws::one_version_in();
-    let outline = outline_in(version, range.meaning.dialect.grammar())?;
-    if !range.contains_outline(&outline) {
+    let borrowed = read_ref_in(version, range.meaning.dialect.grammar())?;
+    if !range.contains_ref(&borrowed) {
         return None;
     }
-    Some(outline)
+    Some(borrowed)
 }
 
 /// Returns whether a version is above the best one so far, or below it if `lowest`. It is true if
 /// there is no best one yet.
-fn is_above(version: &Outline<'_>, best: &Option<Outline<'_>>, lowest: bool) -> bool
+fn is_above(version: &VersionRef<'_>, best: &Option<VersionRef<'_>>, lowest: bool) -> bool
     ensures { MatchOption best.now (result ≡ true)
         (λ best. (result ≡ true) ↔ (order_for lowest (version_of best).plain
         (version_of version.now).plain ≡ Less)) }

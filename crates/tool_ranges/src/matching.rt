@@ -28,13 +28,13 @@ use semver_ranges::RangeError;
 use semver_ranges::events::Event;
 use semver_ranges::grammar::{Form, Simple};
 use semver_ranges::partial::{LowerBounds, Partial};
-use semver_versions::version::Outline;
+use semver_versions::version::VersionRef;
 use version_sets::{Interval, PreReleases};
 
 /// Returns whether a version satisfies a range.
 #[inline(always)]
 pub(crate) fn answer(
-    version: &Outline<'_>,
+    version: &VersionRef<'_>,
     range: &str,
     dialect: Dialect,
     rule: PreReleases,
@@ -115,7 +115,7 @@ impl Progress {
     fn with_term(
         self,
         simple: &Simple<'_>,
-        version: &Outline<'_>,
+        version: &VersionRef<'_>,
         dialect: Dialect,
         by_default: bool,
     ) -> Progress
@@ -152,7 +152,7 @@ impl Progress {
 /// counts.
 #[inline(always)]
 fn matches(
-    version: &Outline<'_>,
+    version: &VersionRef<'_>,
     range: &str,
     dialect: Dialect,
     takes_all: bool,
@@ -184,7 +184,7 @@ fn matches(
 
 /// Returns whether a version counts in each range, whatever its terms name.
 #[inline(always)]
-fn counts(version: &Outline<'_>, takes_all: bool) -> bool
+fn counts(version: &VersionRef<'_>, takes_all: bool) -> bool
     ensures { result ≡ counts takes_all (plain_of version.now) }
 {
     takes_all || is_release(version)
@@ -203,7 +203,7 @@ pub(crate) fn lower(dialect: Dialect, takes_all: bool) -> LowerBounds
 
 /// Returns whether a version satisfies a term.
 #[inline(always)]
-fn meets(simple: &Simple<'_>, version: &Outline<'_>, dialect: Dialect, by_default: bool) -> bool
+fn meets(simple: &Simple<'_>, version: &VersionRef<'_>, dialect: Dialect, by_default: bool) -> bool
     requires { (s : SimpleTree) × IsSimpleOf s simple.now }
     ensures { (s : SimpleTree) (all : Bool) → IsSimpleOf s simple.now → term_fits dialect s ≡ true
         → by_default ≡ (not all && not (is_empty (plain_of version.now).pre))
@@ -235,7 +235,7 @@ pub(crate) fn looked_at<'t>(simple: &Simple<'t>, dialect: Dialect, by_default: b
 
 /// Returns whether a version has no pre-release.
 #[inline(always)]
-fn is_release(version: &Outline<'_>) -> bool
+fn is_release(version: &VersionRef<'_>) -> bool
     ensures { result ≡ is_empty (plain_of version.now).pre }
 {
     !version.is_pre_release()
@@ -243,7 +243,7 @@ fn is_release(version: &Outline<'_>) -> bool
 
 /// Returns whether a partial version names the three numbers of a version, and a pre-release.
 #[inline(always)]
-fn is_stated_by(version: &Outline<'_>, partial: &Partial<'_>) -> bool
+fn is_stated_by(version: &VersionRef<'_>, partial: &Partial<'_>) -> bool
     ensures { result ≡ states_at partial.now (plain_of version.now) }
 {
     partial.has_pre_release()

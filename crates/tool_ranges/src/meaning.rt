@@ -8,7 +8,7 @@ ghost use Rattle.semver_texts.specs.declared.grammar.Digits.{Digits};
 ghost use Rattle.semver_texts.specs.declared.grammar.Digits.TheVariants.{AnySize};
 ghost use Rattle.tool_ranges.specs.declared.dialect.Dialect.{Dialect as SomeDialect};
 ghost use Rattle.tool_ranges.specs.declared.dialect.Dialect.TheVariants as dialect;
-ghost use Rattle.semver_versions.specs.Outlines.{version_of};
+ghost use Rattle.semver_versions.specs.VersionRefs.{version_of};
 ghost use Rattle.semver_ranges.specs.RangeTexts.{RefusesExactly};
 ghost use Rattle.semver_ranges.specs.RangeTree.{SetTree, Spells};
 ghost use Rattle.version_sets.specs.Printable.{IsPrintable};
@@ -21,7 +21,7 @@ use crate::matching::{self, answer};
 use crate::sets;
 use semver_ranges::RangeError;
 use semver_versions::laws;
-use semver_versions::version::Outline;
+use semver_versions::version::VersionRef;
 use std::alloc::Global;
 use version_sets::{PreReleases, VersionSet};
 
@@ -46,7 +46,7 @@ pub struct Meaning {
     pub pre_releases: PreReleases,
 }
 
-// Answer: law answer_laws::sets::one_read.
+// Determined by: law result_laws::sets::one_read.
 /// Reads a range string into the set of the versions that satisfy it.
 ///
 /// The set of `^1.2.0, <1.5` contains 1.4.0 in Cargo's dialect; in the others that string is not a
@@ -73,7 +73,7 @@ pub fn read(alloc: Global, meaning: Meaning, range: &str) -> Result<VersionSet, 
     sets::read(alloc, range, meaning.dialect, meaning.pre_releases)
 }
 
-// Answer: law answer_laws::sets::one_satisfies.
+// Determined by: law result_laws::sets::one_satisfies.
 /// Returns whether a version satisfies a range. 1.9.0 satisfies `^1.2` in every dialect and 2.0.0
 /// in none; `>=1.2.3, <2` is a range only in Cargo's.
 ///
@@ -87,7 +87,11 @@ pub fn read(alloc: Global, meaning: Meaning, range: &str) -> Result<VersionSet, 
 /// dialect, and `NumberTooLarge` if it is a range, but one of its numbers, or a bound that is
 /// raised by one, is above the dialect's limit.
 #[inline(always)]
-pub fn satisfies(version: &Outline<'_>, range: &str, meaning: Meaning) -> Result<bool, RangeError>
+pub fn satisfies(
+    version: &VersionRef<'_>,
+    range: &str,
+    meaning: Meaning,
+) -> Result<bool, RangeError>
     // `NotARange` and `NumberTooLarge` are returned for exactly the strings for which they are
     // defined.
     ensures refusals { RefusesAs meaning.dialect range.now result }
@@ -97,7 +101,7 @@ pub fn satisfies(version: &Outline<'_>, range: &str, meaning: Meaning) -> Result
         → SpellsAs meaning.dialect tree range.now
         → met ≡ meant_as meaning tree (version_of version.now)) }
 {
-    laws::numbers_of_outlines_fit(version);
+    laws::numbers_of_refs_fit(version);
     let rule = meaning.pre_releases;
     match meaning.dialect {
         Dialect::Cargo => answer(version, range, Dialect::Cargo, rule),
@@ -107,7 +111,7 @@ pub fn satisfies(version: &Outline<'_>, range: &str, meaning: Meaning) -> Result
     }
 }
 
-// Answer: equation.
+// Determined by: equation.
 /// Checks that a string is a range, with the errors of [`satisfies`]: `^1.2` is one, and `1 ||`
 /// isn't in Cargo's dialect. It does not allocate.
 #[inline(never)]

@@ -26,7 +26,7 @@ use semver_ranges::{Compat, RangeError, RangeSet};
 use semver_texts::white_space::is_white_space_beyond_ascii;
 use std::alloc::Global;
 
-// Answer: law answer_laws::ranges::one_npm_rewrite.
+// Determined by: law result_laws::ranges::one_npm_rewrite.
 /// Rewrites a range in npm's dialect into plain comparators with exact bounds.
 ///
 /// The string is one or more ranges separated by `||`. The page `docs::grammar` has the grammar,
@@ -70,13 +70,13 @@ pub fn rewrite(alloc: Global, range: &str) -> Result<RangeSet, RangeError>
     printing::rewrite(alloc, range, Dialect::Npm, Compat::Npm, LowerBounds::Stated)
 }
 
-// Answer: law answer_laws::ranges::one_npm_rewrite_included.
-/// Rewrites a range, as npm reads it with `includePrerelease`, into plain comparators that say which
-/// pre-releases satisfy it, too: `^1.2` gives `>=1.2.0-0 <2.0.0-0`.
+// Determined by: law result_laws::ranges::one_npm_rewrite_included.
+/// Rewrites a range, as npm reads it with `includePrerelease`, into plain comparators that say
+/// which pre-releases satisfy it, too: `^1.2` gives `>=1.2.0-0 <2.0.0-0`.
 ///
-/// A version satisfies the result, compared by precedence, if and only if it satisfies the range and
-/// pre-releases are included. The result has the ranges in the order of the string, in Npm mode, and
-/// is `>=0.0.0-0` if npm matches everything.
+/// A version satisfies the result, compared by precedence, if and only if it satisfies the range
+/// and pre-releases are included. The result has the ranges in the order of the string, in Npm
+/// mode, and is `>=0.0.0-0` if npm matches everything.
 ///
 /// # Errors
 ///

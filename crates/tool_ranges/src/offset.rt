@@ -63,7 +63,7 @@ fn may_end(byte: u8) -> bool {
     byte.is_ascii_alphanumeric() || matches!(byte, b'*' | b'|')
 }
 
-// Answer: law answer_laws::ranges::one_error_offset.
+// Determined by: law result_laws::ranges::one_error_offset.
 /// Returns the byte offset of the first error in an invalid range string: no range in the dialect
 /// begins with a longer prefix of the string. It is 4 in `1.2 || 3` in Cargo's dialect. It is the
 /// length of the string if something is missing at the end, as in `>=`, or if the only error is a
@@ -93,7 +93,7 @@ pub(crate) fn prefix_end(alloc: Global, dialect: Dialect, text: &str) -> Result<
     longest_prefix(alloc, &RangeTexts { dialect }, text)
 }
 
-// Answer: equation.
+// Determined by: equation.
 /// Returns whether a string is a range in a dialect, even if one of its numbers is too large.
 /// `1.2 || 3` is one in npm's dialect, but not in Cargo's. It does not allocate.
 pub fn is_range(dialect: Dialect, text: &str) -> bool

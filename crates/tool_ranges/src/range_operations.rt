@@ -36,7 +36,7 @@ pub enum OperationError {
 }
 
 impl VersionRange {
-    // Answer: law answer_laws::version_ranges::one_union.
+    // Determined by: law result_laws::version_ranges::one_union.
     /// Returns the range of the versions that are in either range.
     ///
     /// # Errors
@@ -80,7 +80,7 @@ impl VersionRange {
         }
     }
 
-    // Answer: law answer_laws::version_ranges::one_intersection.
+    // Determined by: law result_laws::version_ranges::one_intersection.
     /// Returns the range of the versions that are in both ranges.
     ///
     /// # Errors
@@ -128,7 +128,7 @@ impl VersionRange {
         }
     }
 
-    // Answer: law answer_laws::version_ranges::one_difference.
+    // Determined by: law result_laws::version_ranges::one_difference.
     /// Returns the range of the versions that are in this range, but not in the other.
     ///
     /// # Errors
@@ -176,7 +176,7 @@ impl VersionRange {
         }
     }
 
-    // Answer: equation.
+    // Determined by: equation.
     /// Returns whether the other range contains every version that this one does. Their meanings
     /// may differ. It does not allocate.
     ///
@@ -215,7 +215,7 @@ impl VersionRange {
         }
     }
 
-    // Answer: equation.
+    // Determined by: equation.
     /// Returns whether no version is in both ranges. Their meanings may differ. It does not
     /// allocate.
     ///
@@ -248,7 +248,7 @@ impl VersionRange {
     }
 }
 
-// Answer: equation.
+// Determined by: equation.
 impl PartialEq for VersionRange {
     ghost use Rattle.std.specs.Cmp.{partial_equiv_from_equiv};
     ghost use Rattle.tool_ranges.specs.VersionRanges.{same_range};

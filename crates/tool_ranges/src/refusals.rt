@@ -44,7 +44,7 @@ pub struct Refusal {
     pub reason: Reason,
 }
 
-// Answer: law answer_laws::ranges::one_refusal.
+// Determined by: law result_laws::ranges::one_refusal.
 /// Returns the error of a range string in a dialect, with its offset and reason, or `None` if the
 /// string is valid.
 ///

@@ -4,7 +4,7 @@ ghost use Rattle.tool_ranges.specs.Satisfying.{Satisfies};
 
 use crate::meaning::{self, Meaning};
 use semver_ranges::RangeError;
-use semver_versions::version::outline_in;
+use semver_versions::version::read_ref_in;
 use thiserror::Error;
 
 /// Whether the version or the range is invalid.
@@ -25,7 +25,7 @@ pub enum SatisfiesError {
     InvalidRange(RangeError),
 }
 
-// Answer: law tool_ranges::laws::one_satisfies.
+// Determined by: law tool_ranges::laws::one_satisfies.
 /// Returns whether a version satisfies a range, both in the dialect of the meaning. It does not
 /// allocate.
 ///
@@ -37,10 +37,10 @@ pub enum SatisfiesError {
 pub fn satisfies(version: &[u8], range: &str, meaning: Meaning) -> Result<bool, SatisfiesError>
     ensures answer { Satisfies meaning version.now range.now result }
 {
-    let Some(outline) = outline_in(version, meaning.dialect.grammar()) else {
+    let Some(borrowed) = read_ref_in(version, meaning.dialect.grammar()) else {
         return Err(SatisfiesError::InvalidVersion);
     };
-    match meaning::satisfies(&outline, range, meaning) {
+    match meaning::satisfies(&borrowed, range, meaning) {
         Ok(met) => Ok(met),
         Err(error) => Err(SatisfiesError::InvalidRange(error)),
     }

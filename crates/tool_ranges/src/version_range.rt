@@ -5,7 +5,7 @@ ghost use Rattle.semver_texts.specs.Digits.{digits_in};
 ghost use Rattle.semver_texts.specs.VersionViews.{version_value};
 ghost use Rattle.semver_texts.specs.Texts.{Text};
 ghost use Rattle.semver_texts.specs.Versions.{PlainVersion};
-ghost use Rattle.semver_versions.specs.Outlines.{IsOutlineIn, kept_version_of, version_of};
+ghost use Rattle.semver_versions.specs.VersionRefs.{IsVersionRefIn, kept_version_of, version_of};
 ghost use Rattle.tool_ranges.specs.Dialects.{RefusesAs, grammar_of};
 ghost use Rattle.tool_ranges.specs.Meanings.{MeansAs};
 ghost use Rattle.tool_ranges.specs.VersionRanges.{ContainsText, versions_grammar};
@@ -16,7 +16,7 @@ use crate::meaning::{self, Meaning};
 use crate::range_operations::OperationError;
 use crate::satisfying::SatisfiesError;
 use semver_ranges::RangeError;
-use semver_versions::version::{Outline, Version, outline_in};
+use semver_versions::version::{Version, VersionRef, read_ref_in};
 use std::alloc::Global;
 use std::fmt;
 use std::marker::Model;
@@ -56,7 +56,7 @@ impl Model for VersionRange {
 }
 
 impl VersionRange {
-    // Answer: law answer_laws::version_ranges::one_range.
+    // Determined by: law result_laws::version_ranges::one_range.
     // In Rust: try_parse.
     /// Reads a range string.
     ///
@@ -90,7 +90,7 @@ impl VersionRange {
         Ok(VersionRange { versions, meaning })
     }
 
-    // Answer: equation.
+    // Determined by: equation.
     /// Returns the range that contains the versions of a set.
     ///
     /// # Errors
@@ -127,7 +127,7 @@ impl VersionRange {
         Ok(VersionRange { versions, meaning })
     }
 
-    // Answer: equation.
+    // Determined by: equation.
     /// Returns the meaning of the range: its dialect, and which pre-releases count.
     ///
     /// ```
@@ -145,7 +145,7 @@ impl VersionRange {
         self.meaning
     }
 
-    // Answer: equation.
+    // Determined by: equation.
     /// Returns the set of the versions that the range contains.
     ///
     /// ```
@@ -163,7 +163,7 @@ impl VersionRange {
         &self.versions
     }
 
-    // Answer: law answer_laws::version_ranges::one_contains.
+    // Determined by: law result_laws::version_ranges::one_contains.
     /// Returns whether the range contains a version, which is read in the range's dialect. Build
     /// metadata is ignored. It does not allocate.
     ///
@@ -183,13 +183,13 @@ impl VersionRange {
     pub fn contains_bytes(&self, version: &[u8]) -> Result<bool, SatisfiesError>
         ensures { ContainsText self.now version.now result }
     {
-        match outline_in(version, self.meaning.dialect.grammar()) {
-            Some(outline) => Ok(self.contains_outline(&outline)),
+        match read_ref_in(version, self.meaning.dialect.grammar()) {
+            Some(borrowed) => Ok(self.contains_ref(&borrowed)),
             None => Err(SatisfiesError::InvalidVersion),
         }
     }
 
-    // Answer: equation.
+    // Determined by: equation.
     /// Returns whether the range contains a borrowed version. Its numeric identifiers are read as
     /// in the range's dialect. It does not allocate.
     ///
@@ -197,23 +197,24 @@ impl VersionRange {
     /// use semver_parser::{version, Dialect, VersionRange};
     ///
     /// let range = VersionRange::parse("^1.2", Dialect::Npm)?;
-    /// let outline = version::outline_in(b"v1.9.0", Dialect::Npm.grammar()).unwrap();
-    /// assert!(range.contains_outline(&outline));
+    /// let borrowed = version::read_ref_in(b"v1.9.0", Dialect::Npm.grammar()).unwrap();
+    /// assert!(range.contains_ref(&borrowed));
     /// # Ok::<(), semver_parser::Error>(())
     /// ```
     #[must_use]
     #[inline(always)]
-    pub fn contains_outline(&self, version: &Outline<'_>) -> bool
+    pub fn contains_ref(&self, version: &VersionRef<'_>) -> bool
         ensures contains { result
             ≡ contains_kept self.now.versions (kept_version_of version.now).plain }
         // If the version was read in the range's dialect, that is the version as it was read.
-        ensures of_text { (text : Text) → IsOutlineIn (versions_grammar self.now) text version.now
+        ensures of_text { (text : Text)
+            → IsVersionRefIn (versions_grammar self.now) text version.now
             → result ≡ contains self.now.versions (version_of version.now).plain }
     {
-        self.versions.contains_outline(version)
+        self.versions.contains_ref(version)
     }
 
-    // Answer: equation.
+    // Determined by: equation.
     /// Returns whether the range contains a version. Build metadata is ignored. A `Version` keeps a
     /// numeric identifier above 2^64 - 1 as a string; in Cargo's and npm's dialects it is compared
     /// as a number. It does not allocate.
@@ -234,7 +235,7 @@ impl VersionRange {
         self.versions.contains(version)
     }
 
-    // Answer: equation.
+    // Determined by: equation.
     /// Returns whether the range contains no version.
     ///
     /// ```
@@ -251,7 +252,7 @@ impl VersionRange {
     }
 }
 
-// Answer: equation.
+// Determined by: equation.
 impl fmt::Display for VersionRange {
     ghost use Rattle.std.specs.Prelude.{Some};
     ghost use Rattle.version_sets.specs.SetRanges.{kinds_text};

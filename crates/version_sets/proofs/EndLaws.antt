@@ -25,7 +25,7 @@ use Rattle.version_sets.specs.Steps.SpanViews.{successor}
 use Rattle.version_sets.specs.declared.pre_release_place.PreReleaseEnd.{PreReleaseEnd}
 use Rattle.version_sets.proofs.BoundLaws.{past, stated_numbers}
 use Rattle.version_sets.proofs.DigitLaws.{by_empty, by_zero, prints_plain}
-use Rattle.version_sets.proofs.PrintedEndpoints.{zero_prints}
+use Rattle.version_sets.proofs.PrintedBoundaries.{zero_prints}
 
 -- the three numbers
 then_equal : (o : Ordering) → ordering_then o Equal ≡ o

@@ -6,11 +6,11 @@ pub mod DigitLaws
 mod Lists
 mod SetLaws
 mod SpanLaws
-mod HeldEndpoints
-mod PrintedEndpoints
+mod HeldBoundaries
+mod PrintedBoundaries
 mod BoundLaws
 mod EndLaws
-mod OutlinedPlaces
+mod BorrowedPlaces
 mod SameSets
 mod FirstBoundaries
 mod IntervalLaws

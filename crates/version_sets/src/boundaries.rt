@@ -4,7 +4,7 @@ ghost use Rattle.std.specs.Prelude.{◌≡◌, ◌%◌, map, nat_eq};
 ghost use Rattle.std.specs.Ordering.{eq_by_cmp};
 ghost use Rattle.std.specs.Cmp.Lexicographic.{pointwise};
 ghost use Rattle.semver_texts.specs.Digits.{plain_by};
-ghost use Rattle.semver_versions.specs.Outlines.{kept_version_of};
+ghost use Rattle.semver_versions.specs.VersionRefs.{kept_version_of};
 ghost use Rattle.semver_texts.specs.Precedence.{precedence};
 ghost use Rattle.semver_versions.specs.ReadVersions.{read_plain};
 ghost use Rattle.version_sets.specs.Steps.Places.{version_place};
@@ -15,7 +15,7 @@ use crate::boundary::Boundary;
 use crate::release::Release;
 use semver_texts::grammar::Digits;
 use semver_versions::read_version::ReadVersion;
-use semver_versions::version::{Outline, Version};
+use semver_versions::version::{Version, VersionRef};
 
 /// Returns whether an odd number of the boundaries are at or below a boundary's version. It takes
 /// time logarithmic in their number, and does not allocate.
@@ -67,20 +67,20 @@ pub(crate) fn contains_release(boundaries: &[Release], release: &Release) -> boo
 /// numeric identifiers are read as `digits` says. It takes time logarithmic in their number, and
 /// does not allocate.
 #[inline(always)]
-pub(crate) fn contains_outline(
+pub(crate) fn contains_ref(
     boundaries: &[ReadVersion],
-    outline: &Outline<'_>,
+    borrowed: &VersionRef<'_>,
     digits: Digits,
 ) -> bool
     requires { IsIncreasing precedence (map read_plain boundaries.now) }
     ensures { result ≡ is_inside precedence (map read_plain boundaries.now)
-        (plain_by digits (kept_version_of outline.now).plain) }
+        (plain_by digits (kept_version_of borrowed.now).plain) }
 {
     let mut low = 0;
     let mut high = boundaries.len();
     while low < high {
         let middle = low + (high - low) / 2;
-        if boundaries[middle].compared_outline(outline, digits).is_ge() {
+        if boundaries[middle].compared_ref(borrowed, digits).is_ge() {
             low = middle + 1;
         } else {
             high = middle;

@@ -2,7 +2,7 @@
 
 ghost use Rattle.std.specs.Prelude.{◌≡◌};
 ghost use Rattle.semver_texts.specs.Precedence.{precedence};
-ghost use Rattle.semver_versions.specs.Outlines.{version_of};
+ghost use Rattle.semver_versions.specs.VersionRefs.{version_of};
 ghost use Rattle.version_sets.specs.Steps.Cuts.{beside, first_numbers, is_above_cut};
 ghost use Rattle.version_sets.specs.Steps.Cuts.{beside_kept, is_in_interval};
 
@@ -12,14 +12,14 @@ use semver_ranges::partial::Place;
 use semver_texts::grammar::Digits;
 use semver_texts::identifiers::{ByDigits, Joined};
 use semver_texts::precedence::compare;
-use semver_versions::version::Outline;
+use semver_versions::version::VersionRef;
 use std::cmp::Ordering;
 
 impl Cut<'_> {
-    // Answer: equation.
+    // Determined by: equation.
     /// Returns whether the cut is below a version. `digits` says how numeric identifiers are read.
     #[inline(always)]
-    pub fn is_below(&self, version: &Outline<'_>, digits: Digits) -> bool
+    pub fn is_below(&self, version: &VersionRef<'_>, digits: Digits) -> bool
         ensures { result ≡ is_above_cut digits self.now (version_of version.now).plain }
     {
         match self.side {
@@ -37,7 +37,7 @@ impl Cut<'_> {
 
     /// Compares the numbers of a version with those of the cut.
     #[inline(always)]
-    fn against_numbers(&self, version: &Outline<'_>) -> Ordering
+    fn against_numbers(&self, version: &VersionRef<'_>) -> Ordering
         ensures { result ≡ first_numbers 3 (version_of version.now).plain (beside_kept self.now) }
     {
         let patch = version.patch().cmp(&self.numbers.patch);
@@ -50,7 +50,7 @@ impl Cut<'_> {
 
     /// Compares a version with the version of the cut by precedence.
     #[inline(always)]
-    fn against(&self, version: &Outline<'_>, digits: Digits) -> Ordering
+    fn against(&self, version: &VersionRef<'_>, digits: Digits) -> Ordering
         ensures { result ≡ precedence (version_of version.now).plain (beside digits self.now) }
     {
         compare(
@@ -63,11 +63,11 @@ impl Cut<'_> {
 }
 
 impl Interval<'_> {
-    // Answer: equation.
+    // Determined by: equation.
     /// Returns whether the interval contains a version. `digits` says how numeric identifiers are
     /// read.
     #[inline(always)]
-    pub fn contains(&self, version: &Outline<'_>, digits: Digits) -> bool
+    pub fn contains(&self, version: &VersionRef<'_>, digits: Digits) -> bool
         ensures { result ≡ is_in_interval digits self.now (version_of version.now).plain }
     {
         let is_above = match &self.lower {

@@ -3,12 +3,12 @@
 #![tactic(auto)]
 
 mod batch;
+mod borrowed_boundary;
 mod boundaries;
 mod boundary;
 mod conjunction;
 mod cut;
 mod cut_tests;
-mod endpoint;
 mod intervals;
 pub mod laws;
 mod lowest;

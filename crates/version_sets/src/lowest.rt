@@ -18,7 +18,7 @@ use semver_versions::version::Version;
 use std::alloc::{AllocError, Global};
 
 impl VersionSet {
-    // Answer: law answer_laws::sets::one_lowest.
+    // Determined by: law result_laws::sets::one_lowest.
     /// Returns the lowest version in the set by precedence, without build metadata, or `None` if
     /// and only if the set is empty.
     ///
@@ -45,7 +45,7 @@ impl VersionSet {
         lower_one(alloc, self.releases.first(), self.pre_releases.first())
     }
 
-    // Answer: law answer_laws::sets::one_lowest_release.
+    // Determined by: law result_laws::sets::one_lowest_release.
     /// Returns the lowest release in the set by precedence, or `None` if and only if the set
     /// contains no release. It does not allocate.
     ///

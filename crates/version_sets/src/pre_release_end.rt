@@ -19,8 +19,8 @@ ghost use Rattle.version_sets.specs.Steps.EndPlaces.{end_place, kept_end};
 ghost use Rattle.version_sets.specs.Steps.Spans.{reached};
 ghost use Rattle.version_sets.specs.Steps.SpanViews.{holds_at, successor};
 
+use crate::borrowed_boundary::BorrowedBoundary;
 use crate::cut::{Cut, Side};
-use crate::endpoint::Endpoint;
 use crate::pre_release_place::PreReleaseEnd;
 use crate::release::{Release, next_numbers};
 use crate::successor::Successor;
@@ -145,7 +145,7 @@ impl<'text> PreReleaseEnd<'text> {
     }
 }
 
-impl<'text> Endpoint for PreReleaseEnd<'text> {
+impl<'text> BorrowedBoundary for PreReleaseEnd<'text> {
     type Boundary = ReadVersion;
 
     ghost place = { end_place };

@@ -44,7 +44,7 @@ impl fmt::Display for ShownInterval<'_> {
     }
 }
 
-// Answer: equation.
+// Determined by: equation.
 impl fmt::Display for VersionSet {
     ghost use Rattle.std.specs.Prelude.{Some};
     ghost use Rattle.version_sets.specs.SetRanges.{kinds_text};

@@ -29,7 +29,7 @@ use semver_texts::grammar::Digits;
 use std::alloc::{AllocError, Global};
 
 impl<'text> Conjunction<'text> {
-    // Answer: equation.
+    // Determined by: equation.
     /// Returns the intersection of no intervals, which contains all versions.
     pub fn new() -> Conjunction<'text>
         ensures all { (v : PlainVersion) → Fits v → in_each result v ≡ true }
@@ -47,7 +47,7 @@ impl<'text> Conjunction<'text> {
         }
     }
 
-    // Answer: equation.
+    // Determined by: equation.
     /// Returns the intersection with one more term, which has an interval for releases and one for
     /// pre-releases. `digits` says how numeric identifiers are read.
     pub fn and(
@@ -103,7 +103,7 @@ fn pre_released<'text>(interval: &Interval<'text>, digits: Digits) -> Bounds<Pre
 }
 
 impl<'text> Ranges<'text> {
-    // Answer: equation.
+    // Determined by: equation.
     /// Returns a list of no ranges, which contains no version. It does not allocate.
     pub fn new(alloc: Global) -> Ranges<'text>
         ensures none { (v : PlainVersion) → in_ranges result v ≡ false }
@@ -115,7 +115,7 @@ impl<'text> Ranges<'text> {
         }
     }
 
-    // Answer: equation.
+    // Determined by: equation.
     /// Adds the releases of a range. `Err` means out of memory.
     pub fn push_releases(&mut self, range: &Conjunction<'text>) -> Result<(), AllocError>
         ensures meaning { IfOk result (λ _. (v : PlainVersion) → in_ranges self.new v
@@ -126,7 +126,7 @@ impl<'text> Ranges<'text> {
         range.releases.push_to(&mut self.releases)
     }
 
-    // Answer: equation.
+    // Determined by: equation.
     /// Adds the pre-releases of a range. `Err` means out of memory.
     pub fn push_pre_releases(&mut self, range: &Conjunction<'text>) -> Result<(), AllocError>
         ensures meaning { IfOk result (λ _. (v : PlainVersion) → in_ranges self.new v
@@ -137,7 +137,7 @@ impl<'text> Ranges<'text> {
         range.pre_releases.push_to(&mut self.pre_releases)
     }
 
-    // Answer: equation.
+    // Determined by: equation.
     /// Adds the pre-releases of a range that have one of the given triples of numbers. `Err` means
     /// out of memory.
     pub fn push_stated(
@@ -161,7 +161,7 @@ impl<'text> Ranges<'text> {
             .push_to(&mut self.pre_releases)
     }
 
-    // Answer: equation.
+    // Determined by: equation.
     /// Returns the set of the versions in these ranges, and of the releases in one last range.
     /// `Err` means out of memory.
     pub fn into_set(

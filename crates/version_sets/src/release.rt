@@ -32,7 +32,7 @@ pub struct Release {
 }
 
 impl Release {
-    // Answer: equation.
+    // Determined by: equation.
     /// Returns the numbers of a version, without its pre-release and build metadata.
     ///
     /// ```
@@ -54,7 +54,7 @@ impl Release {
         }
     }
 
-    // Answer: equation.
+    // Determined by: equation.
     /// Returns the release as a version, without a pre-release and build metadata. It does not
     /// allocate.
     ///

@@ -30,7 +30,7 @@ pub enum PreReleases {
 }
 
 impl PreReleases {
-    // Answer: equation.
+    // Determined by: equation.
     /// Returns the number of the rule in C, Python and JavaScript.
     ///
     /// ```
@@ -49,7 +49,7 @@ impl PreReleases {
         }
     }
 
-    // Answer: law version_sets::laws::one_rule_of_number.
+    // Determined by: law version_sets::laws::one_rule_of_number.
     /// Returns the rule with a number, or `None` if no rule has it.
     ///
     /// ```
@@ -71,7 +71,7 @@ impl PreReleases {
         }
     }
 
-    // Answer: equation.
+    // Determined by: equation.
     /// Returns the name of the rule for programs.
     ///
     /// ```

@@ -40,7 +40,7 @@ pub struct Comparison {
 }
 
 impl VersionSet {
-    // Answer: law answer_laws::sets::one_compare.
+    // Determined by: law result_laws::sets::one_compare.
     /// Compares the set with a new one that is to replace it. It takes time linear in the number of
     /// their boundaries.
     ///
@@ -127,7 +127,7 @@ impl VersionSet {
 }
 
 impl VersionSet {
-    // Answer: equation.
+    // Determined by: equation.
     /// Returns whether the set contains no version. It does not allocate.
     ///
     /// ```
@@ -143,7 +143,7 @@ impl VersionSet {
         self.releases.is_empty() && self.pre_releases.is_empty()
     }
 
-    // Answer: equation.
+    // Determined by: equation.
     /// Returns whether every version in this set is in the other, too. It takes time linear in the
     /// number of their boundaries, and does not allocate.
     ///
@@ -175,7 +175,7 @@ impl VersionSet {
         Ok(!self.keeps_some(Combination::Difference, other))
     }
 
-    // Answer: equation.
+    // Determined by: equation.
     /// Returns whether no version is in both sets. It takes time linear in the number of their
     /// boundaries, and does not allocate.
     ///
@@ -218,7 +218,7 @@ impl VersionSet {
     }
 }
 
-// Answer: equation.
+// Determined by: equation.
 impl PartialEq for VersionSet {
     ghost use Rattle.version_sets.specs.VersionSets.{same_set};
     ghost use Rattle.std.specs.Cmp.{partial_equiv_from_equiv};

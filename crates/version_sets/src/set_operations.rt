@@ -35,7 +35,7 @@ pub enum SetError {
     OutOfMemory,
 }
 
-// Answer: equation.
+// Determined by: equation.
 impl From<AllocError> for SetError {
     ghost use Rattle.std.specs.Prelude.{◌≡◌};
     ghost use Rattle.version_sets.specs.declared.set_operations.SetError.TheVariants.{OutOfMemory};
@@ -119,7 +119,7 @@ impl Combination {
 }
 
 impl VersionSet {
-    // Answer: law answer_laws::sets::one_union.
+    // Determined by: law result_laws::sets::one_union.
     /// Returns the versions that are in either set. It takes time linear in the number of their
     /// boundaries.
     ///
@@ -154,7 +154,7 @@ impl VersionSet {
         self.checked(alloc, Combination::Union, other)
     }
 
-    // Answer: law answer_laws::sets::one_intersection.
+    // Determined by: law result_laws::sets::one_intersection.
     /// Returns the versions that are in both sets. It takes time linear in the number of their
     /// boundaries.
     ///
@@ -189,7 +189,7 @@ impl VersionSet {
         self.checked(alloc, Combination::Intersection, other)
     }
 
-    // Answer: law answer_laws::sets::one_difference.
+    // Determined by: law result_laws::sets::one_difference.
     /// Returns the versions that are in this set, but not in the other. It takes time linear in the
     /// number of their boundaries.
     ///

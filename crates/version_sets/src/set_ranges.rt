@@ -45,7 +45,7 @@ pub struct SetRanges {
 }
 
 impl VersionSet {
-    // Answer: equation.
+    // Determined by: equation.
     /// Returns the releases of the set as ranges of plain comparators.
     ///
     /// The ranges are:
@@ -84,7 +84,7 @@ impl VersionSet {
         Ok(in_npm_mode(ranges))
     }
 
-    // Answer: equation.
+    // Determined by: equation.
     /// Returns the pre-releases of the set as ranges of plain comparators, like
     /// [`VersionSet::release_ranges`] for the releases. A pre-release satisfies them by precedence.
     ///
@@ -142,7 +142,7 @@ fn in_npm_mode(ranges: Vec<Range>) -> SetRanges
     }
 }
 
-// Answer: equation.
+// Determined by: equation.
 impl fmt::Display for SetRanges {
     ghost use Rattle.version_sets.specs.SetRanges.{ranges_text};
 

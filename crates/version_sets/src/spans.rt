@@ -15,10 +15,10 @@ ghost use Rattle.version_sets.specs.Steps.Spans.{in_some};
 ghost use Rattle.version_sets.specs.Steps.SpanViews.{span_value, is_within};
 ghost use Rattle.version_sets.specs.Steps.SpanViews.{bounds_hold, spans_hold};
 
-use crate::endpoint::Endpoint;
+use crate::borrowed_boundary::BorrowedBoundary;
 use std::alloc::{AllocError, Global};
 
-/// The versions at or above one endpoint and below another. `None` is an endpoint above all
+/// The versions at or above one boundary and below another. `None` is a boundary above all
 /// versions.
 #[derive(Clone, Copy)]
 pub(crate) struct Bounds<L> {
@@ -28,7 +28,7 @@ pub(crate) struct Bounds<L> {
     pub to: Option<L>,
 }
 
-/// The versions at or above one endpoint, and below another if there is one. The second is above
+/// The versions at or above one boundary, and below another if there is one. The second is above
 /// the first.
 #[derive(Clone, Copy)]
 pub(crate) struct Span<L> {
@@ -38,8 +38,8 @@ pub(crate) struct Span<L> {
     pub to: Option<L>,
 }
 
-/// Returns the higher of two endpoints. `None` is above all versions.
-fn later<L: Endpoint>(first: Option<L>, second: Option<L>) -> Option<L>
+/// Returns the higher of two boundaries. `None` is above all versions.
+fn later<L: BorrowedBoundary>(first: Option<L>, second: Option<L>) -> Option<L>
     ensures { option_map L.place result
         ≡ later precedence (option_map L.place first) (option_map L.place second) }
 {
@@ -51,8 +51,8 @@ fn later<L: Endpoint>(first: Option<L>, second: Option<L>) -> Option<L>
     })
 }
 
-/// Returns the lower of two endpoints. `None` is above all versions.
-fn earlier<L: Endpoint>(first: Option<L>, second: Option<L>) -> Option<L>
+/// Returns the lower of two boundaries. `None` is above all versions.
+fn earlier<L: BorrowedBoundary>(first: Option<L>, second: Option<L>) -> Option<L>
     ensures { option_map L.place result
         ≡ earlier precedence (option_map L.place first) (option_map L.place second) }
 {
@@ -69,7 +69,7 @@ fn earlier<L: Endpoint>(first: Option<L>, second: Option<L>) -> Option<L>
     }
 }
 
-impl<L: Endpoint> Bounds<L> {
+impl<L: BorrowedBoundary> Bounds<L> {
     /// Returns the versions that are within other bounds, too.
     pub(crate) fn and(self, other: Bounds<L>) -> Bounds<L>
         ensures meaning { (v : PlainVersion) → is_within L.place result v
@@ -83,12 +83,12 @@ impl<L: Endpoint> Bounds<L> {
         }
     }
 
-    /// Returns the span of the versions, if there is anything between the endpoints.
+    /// Returns the span of the versions, if there is anything between the boundaries.
     fn span(self) -> Option<Span<L>>
         ensures meaning { MatchOption result ((v : PlainVersion) → is_within L.place self v ≡ false)
             (λ span. IsSpan precedence (span_value L.place span) × ((v : PlainVersion)
             → is_in precedence (span_value L.place span) v ≡ is_within L.place self v)) }
-        ensures endpoints { IfSome result (λ span. (self.from ≡ Some span.from)
+        ensures boundaries { IfSome result (λ span. (self.from ≡ Some span.from)
             × (self.to ≡ span.to)) }
     {
         let from = self.from?;
@@ -100,7 +100,7 @@ impl<L: Endpoint> Bounds<L> {
         Some(Span { from, to: self.to })
     }
 
-    /// Adds the span of the versions to others, if there is anything between the endpoints. `Err`
+    /// Adds the span of the versions to others, if there is anything between the boundaries. `Err`
     /// means out of memory.
     pub(crate) fn push_to(self, spans: &mut Vec<Span<L>>) -> Result<(), AllocError>
         ensures spans { some_empty precedence (map (span_value L.place) spans.old.items) ≡ false
@@ -136,7 +136,7 @@ impl<L: Endpoint> Bounds<L> {
 }
 
 /// Returns the boundaries of the union of the spans. `Err` means out of memory.
-pub(crate) fn boundaries_of<L: Endpoint>(
+pub(crate) fn boundaries_of<L: BorrowedBoundary>(
     alloc: Global,
     spans: &mut [Span<L>],
 ) -> Result<Vec<L::Boundary>, AllocError>
@@ -158,7 +158,10 @@ pub(crate) fn boundaries_of<L: Endpoint>(
 }
 
 /// Returns the boundaries of ascending spans. `Err` means out of memory.
-fn joined<L: Endpoint>(alloc: Global, spans: &[Span<L>]) -> Result<Vec<L::Boundary>, AllocError>
+fn joined<L: BorrowedBoundary>(
+    alloc: Global,
+    spans: &[Span<L>],
+) -> Result<Vec<L::Boundary>, AllocError>
     ensures { IfOk result (λ boundaries.
         AllByRecursion L.IsOfKind (map L.Boundary.place boundaries.items)
         × (map L.Boundary.place boundaries.items
@@ -181,18 +184,18 @@ fn joined<L: Endpoint>(alloc: Global, spans: &[Span<L>]) -> Result<Vec<L::Bounda
     Ok(boundaries)
 }
 
-/// Returns whether there is an end, and it is below an endpoint.
-fn is_apart<L: Endpoint>(end: Option<L>, endpoint: &L) -> bool
-    ensures { result ≡ is_below precedence (option_map L.place end) (L.place endpoint.now) }
+/// Returns whether there is an end, and it is below a boundary.
+fn is_apart<L: BorrowedBoundary>(end: Option<L>, boundary: &L) -> bool
+    ensures { result ≡ is_below precedence (option_map L.place end) (L.place boundary.now) }
 {
     match end {
-        Some(end) => end.compare(endpoint).is_lt(),
+        Some(end) => end.compare(boundary).is_lt(),
         None => false,
     }
 }
 
 /// Adds the boundaries of a span. `Err` means out of memory.
-fn push_boundaries<L: Endpoint>(
+fn push_boundaries<L: BorrowedBoundary>(
     alloc: Global,
     span: &Span<L>,
     boundaries: &mut Vec<L::Boundary>,

@@ -7,7 +7,7 @@ ghost use Rattle.semver_texts.specs.Texts.{Text, is_empty};
 ghost use Rattle.semver_texts.specs.Versions.{PlainVersion, VersionValue};
 ghost use Rattle.semver_texts.specs.VersionGrammar.{SpellsVersion};
 ghost use Rattle.semver_texts.specs.VersionViews.{version_value};
-ghost use Rattle.semver_versions.specs.Outlines.{IsOutlineOf, kept_version_of};
+ghost use Rattle.semver_versions.specs.VersionRefs.{IsVersionRefOf, kept_version_of};
 ghost use Rattle.version_sets.specs.Printable.{IsPrintable};
 ghost use Rattle.version_sets.specs.Releases.{release_value};
 ghost use Rattle.version_sets.specs.VersionSets.{contains, contains_kept, Fits, IsNormal};
@@ -18,7 +18,7 @@ use crate::{batch, boundaries};
 use semver_texts::grammar::Digits;
 use semver_versions::laws;
 use semver_versions::read_version::ReadVersion;
-use semver_versions::version::{Outline, Version};
+use semver_versions::version::{Version, VersionRef};
 use std::alloc::Global;
 use std::marker::Model;
 
@@ -63,7 +63,7 @@ impl Model for VersionSet {
 }
 
 impl VersionSet {
-    // Answer: law answer_laws::sets::one_empty.
+    // Determined by: law result_laws::sets::one_empty.
     /// Returns the empty set, for versions whose numeric identifiers are read as `digits` says. It
     /// does not allocate.
     ///
@@ -98,7 +98,7 @@ impl VersionSet {
         }
     }
 
-    // Answer: equation.
+    // Determined by: equation.
     /// Returns how a numeric identifier above 2^64 - 1 is read, in the versions of the set.
     ///
     /// ```
@@ -115,7 +115,7 @@ impl VersionSet {
         self.digits
     }
 
-    // Answer: law answer_laws::sets::one_only_releases.
+    // Determined by: law result_laws::sets::one_only_releases.
     /// Returns the releases of the set. It does not allocate.
     ///
     /// ```
@@ -137,7 +137,7 @@ impl VersionSet {
         VersionSet::of_boundaries(self.digits, self.releases, Vec::new(alloc))
     }
 
-    // Answer: law answer_laws::sets::one_only_pre_releases.
+    // Determined by: law result_laws::sets::one_only_pre_releases.
     /// Returns the pre-releases of the set. It does not allocate.
     ///
     /// ```
@@ -159,7 +159,7 @@ impl VersionSet {
         VersionSet::of_boundaries(self.digits, Vec::new(alloc), self.pre_releases)
     }
 
-    // Answer: equation.
+    // Determined by: equation.
     /// Returns whether a version is in the set. Its build metadata is ignored. It takes time
     /// logarithmic in the number of boundaries, and does not allocate.
     ///
@@ -196,7 +196,7 @@ impl VersionSet {
         boundaries::contains_version(&self.pre_releases, version, self.digits)
     }
 
-    // Answer: equation.
+    // Determined by: equation.
     /// Writes to `answers`, for each version, whether it is in the set, like
     /// [`VersionSet::contains`]. It is faster for many versions: if the set contains no pre-release
     /// and has at most two boundaries of releases, such as the set of `^1.2.0`, no answer depends
@@ -225,7 +225,7 @@ impl VersionSet {
         }
     }
 
-    // Answer: equation.
+    // Determined by: equation.
     /// Returns whether a release is in the set, like [`VersionSet::contains`] for a version.
     ///
     /// ```
@@ -244,7 +244,7 @@ impl VersionSet {
         boundaries::contains_release(&self.releases, &release)
     }
 
-    // Answer: equation.
+    // Determined by: equation.
     /// Returns whether a borrowed version is in the set, like [`VersionSet::contains`] for a
     /// version. Its identifiers are compared as they are in the string, and the numeric ones are
     /// read as the set reads them, whatever the dialect of the borrowed version. It does not
@@ -255,27 +255,27 @@ impl VersionSet {
     ///
     /// let dialect = Dialect::Npm;
     /// let set = sets::parse("^1.2.0", dialect)?;
-    /// let outline = version::outline_in(b"v1.9.0", dialect.grammar()).unwrap();
-    /// assert!(set.contains_outline(&outline));
+    /// let borrowed = version::read_ref_in(b"v1.9.0", dialect.grammar()).unwrap();
+    /// assert!(set.contains_ref(&borrowed));
     /// # Ok::<(), semver_parser::Error>(())
     /// ```
     #[must_use]
     #[inline(always)]
-    pub fn contains_outline(&self, outline: &Outline<'_>) -> bool
+    pub fn contains_ref(&self, borrowed: &VersionRef<'_>) -> bool
         // The result is that for the version of each string that has this borrowed version.
-        ensures contains { (text : Text) (v : VersionValue) → IsOutlineOf text outline.now
+        ensures contains { (text : Text) (v : VersionValue) → IsVersionRefOf text borrowed.now
             → SpellsVersion v text → result ≡ contains_kept self.now v.plain }
         // It is also that for the version that the borrowed version stands for.
-        ensures of_version { result ≡ contains_kept self.now (kept_version_of outline.now).plain }
+        ensures of_version { result ≡ contains_kept self.now (kept_version_of borrowed.now).plain }
     {
-        laws::one_outlined_version();
-        if outline.is_pre_release() {
-            return boundaries::contains_outline(&self.pre_releases, outline, self.digits);
+        laws::one_borrowed_version();
+        if borrowed.is_pre_release() {
+            return boundaries::contains_ref(&self.pre_releases, borrowed, self.digits);
         }
         self.contains_release(Release {
-            major: outline.major(),
-            minor: outline.minor(),
-            patch: outline.patch(),
+            major: borrowed.major(),
+            minor: borrowed.minor(),
+            patch: borrowed.patch(),
         })
     }
 }

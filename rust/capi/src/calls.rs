@@ -8,7 +8,7 @@ use alloc::{string::String, vec::Vec};
 use core::{ffi::c_char, ptr, str};
 use proved::layers;
 use proved::rattle_std::{FalliblePush, FallibleToString};
-use proved::version::{outline_in, Outline};
+use proved::version::{read_ref_in, VersionRef};
 use proved::{satisfies_bytes, OperationError, SatisfiesError, VersionRange};
 use proved::{Compat, Dialect, Op, RangeError, RangeSet, Terms};
 
@@ -16,8 +16,8 @@ type Answer<'a, T> = Result<T, Problem<'a>>;
 
 /// Reads a version. `index` says which string of the call it is.
 #[inline(always)]
-fn version(bytes: &[u8], dialect: Dialect, index: usize) -> Answer<'_, Outline<'_>> {
-    outline_in(bytes, dialect.grammar()).ok_or(Problem::Version { bytes, dialect, index })
+fn version(bytes: &[u8], dialect: Dialect, index: usize) -> Answer<'_, VersionRef<'_>> {
+    read_ref_in(bytes, dialect.grammar()).ok_or(Problem::Version { bytes, dialect, index })
 }
 
 /// Returns a range string as UTF-8. It is first tried as ASCII, for speed. `index` says which
@@ -82,16 +82,16 @@ pub fn replace_version<'a>(
 }
 
 pub fn parse_version(bytes: &[u8], number: i32) -> Answer<'_, Version> {
-    let outline = version(bytes, dialect(number)?, 0)?;
-    let (major, minor, patch) = (outline.major(), outline.minor(), outline.patch());
-    let pre = StringView::of(outline.pre_bytes());
-    Ok(Version { major, minor, patch, pre, build: StringView::of(outline.build().as_bytes()) })
+    let borrowed = version(bytes, dialect(number)?, 0)?;
+    let (major, minor, patch) = (borrowed.major(), borrowed.minor(), borrowed.patch());
+    let pre = StringView::of(borrowed.pre_bytes());
+    Ok(Version { major, minor, patch, pre, build: StringView::of(borrowed.build().as_bytes()) })
 }
 
 pub fn compare_versions<'a>(bytes: &'a [u8], other: &'a [u8], number: i32) -> Answer<'a, i32> {
     let dialect = dialect(number)?;
-    let outline = version(bytes, dialect, 0)?;
-    Ok(outline.compare(&version(other, dialect, 1)?) as i32)
+    let borrowed = version(bytes, dialect, 0)?;
+    Ok(borrowed.compare(&version(other, dialect, 1)?) as i32)
 }
 
 pub fn parse_range(range: &[u8], options: Options) -> Answer<'_, *mut VersionRange> {

@@ -1,6 +1,6 @@
 //! The terms of a range, as they are written.
 
-use crate::versions::outline;
+use crate::versions::read_ref;
 use crate::{bytes, ranges, state, status};
 use core::str::from_utf8;
 use semver_parser::{layers, Component, Dialect, PartialVersion, Term, Terms};
@@ -111,7 +111,7 @@ pub unsafe extern "C" fn range_replaced(
     else {
         return status::INVALID_RANGE;
     };
-    let Some(version) = outline(unsafe { bytes(at, len) }, dialect) else {
+    let Some(version) = read_ref(unsafe { bytes(at, len) }, dialect) else {
         return status::INVALID_VERSION;
     };
     match layers::replace_version(range, start, &version, known) {

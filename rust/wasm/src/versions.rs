@@ -2,13 +2,13 @@
 
 use crate::{bytes, state, status};
 use semver_parser::layers;
-use semver_parser::version::{outline_in, Outline};
+use semver_parser::version::{read_ref_in, VersionRef};
 use semver_parser::{Dialect, Reason};
 
 /// Returns the borrowed version of a string in a dialect, or `None` if it is invalid, or if no
 /// dialect has the number.
-pub fn outline(string: &[u8], dialect: i32) -> Option<Outline<'_>> {
-    outline_in(string, Dialect::from_number(dialect)?.grammar())
+pub fn read_ref(string: &[u8], dialect: i32) -> Option<VersionRef<'_>> {
+    read_ref_in(string, Dialect::from_number(dialect)?.grammar())
 }
 
 /// Reads a version. The output numbers are its three numbers, the offset and the length of the
@@ -18,7 +18,7 @@ pub fn outline(string: &[u8], dialect: i32) -> Option<Outline<'_>> {
 /// There are `len` bytes at the address.
 #[no_mangle]
 pub unsafe extern "C" fn version_read(at: *const u8, len: usize, dialect: i32) -> i32 {
-    let Some(it) = outline(unsafe { bytes(at, len) }, dialect) else {
+    let Some(it) = read_ref(unsafe { bytes(at, len) }, dialect) else {
         return status::INVALID_VERSION;
     };
     let parts = [it.pre_offset(), it.pre().len(), it.build_offset(), it.build().len()];
@@ -41,8 +41,8 @@ pub unsafe extern "C" fn version_compare(
     other_len: usize,
     dialect: i32,
 ) -> i32 {
-    let version = outline(unsafe { bytes(at, len) }, dialect);
-    let other = outline(unsafe { bytes(other, other_len) }, dialect);
+    let version = read_ref(unsafe { bytes(at, len) }, dialect);
+    let other = read_ref(unsafe { bytes(other, other_len) }, dialect);
     match (version, other) {
         (Some(version), Some(other)) => version.compare(&other) as i32 + 1,
         _ => status::INVALID_VERSION,

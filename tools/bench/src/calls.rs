@@ -196,9 +196,9 @@ pub fn here_read_kept(range: &str, versions: &str) -> u64 {
 fn read_kept(range: &str, versions: &str) -> Option<Vec<here::version::Version>> {
     let meaning = Meaning { dialect: Dialect::CrateCargo, pre_releases: PreReleases::Excluded };
     let range = VersionRange::parse(range, meaning).ok()?;
-    let outlines = versions.lines().filter_map(here::version::outline);
-    let kept = outlines.filter(|outline| range.contains_outline(outline));
-    kept.map(|outline| outline.version()).collect::<Result<_, _>>().ok()
+    let borrowed = versions.lines().filter_map(here::version::read_ref);
+    let kept = borrowed.filter(|borrowed| range.contains_ref(borrowed));
+    kept.map(|borrowed| borrowed.version()).collect::<Result<_, _>>().ok()
 }
 
 /// The same work by the crate `semver`: each version is let go at once that the range doesn't mean.

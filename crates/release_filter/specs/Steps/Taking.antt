@@ -3,7 +3,7 @@ use Rattle.std.specs.Prelude.{◌≡◌, ◌≢◌, ◌≤◌, ◌++◌, ◌⊎�
 use Rattle.std.specs.Prelude.{IsTrue, String, length, map, string_bytes, take}
 use Rattle.std.specs.Global.{Global}
 use Rattle.std.specs.Io.{IsEmptyOrEndsWith}
-use Rattle.semver_versions.specs.Outlines.{version_of}
+use Rattle.semver_versions.specs.VersionRefs.{version_of}
 use Rattle.semver_versions.specs.ReadVersions.{read_plain}
 use Rattle.semver_texts.specs.Texts.{Text}
 use Rattle.semver_texts.specs.Versions.{VersionValue}
@@ -57,7 +57,7 @@ without_version (x ∷ xs) = invalid (take reported (x ∷ xs))
 abbrev pub verdict_of : Judged → Verdict
 verdict_of (NotAVersion text) = without_version text.now
 verdict_of Outside = dropped
-verdict_of (Kept outline given) = kept (version_of outline).plain given.now
+verdict_of (Kept borrowed given) = kept (version_of borrowed).plain given.now
 
 -- the text has this version after this one prefix
 abbrev pub HasOne : Grammar → Text → Text → Text → VersionValue → Type 0
@@ -69,8 +69,8 @@ Judges rule Has text line (NotAVersion said) =
     ((prefix : Text) (v : VersionValue) → ¬ (Has prefix v)) × (said.now ≡ text)
 Judges rule Has text line Outside = (prefix : Text) × (v : VersionValue) × Has prefix v
     × (matches rule.filter v ≡ false)
-Judges rule Has text line (Kept outline given) = (prefix : Text) × (v : VersionValue)
-    × Has prefix v × IsTrue (matches rule.filter v) × (v ≡ version_of outline)
+Judges rule Has text line (Kept borrowed given) = (prefix : Text) × (v : VersionValue)
+    × Has prefix v × IsTrue (matches rule.filter v) × (v ≡ version_of borrowed)
     × (given.now ≡ given_after rule (length prefix) line)
 
 -- ---- a piece

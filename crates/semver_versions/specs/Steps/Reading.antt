@@ -19,8 +19,8 @@ use Rattle.semver_texts.specs.declared.grammar.Grammar.TheVariants.{Crate, Cargo
 use Rattle.semver_texts.specs.declared.dotted.Hyphens.{Hyphens}
 use Rattle.semver_texts.specs.declared.dotted.Hyphens.TheVariants.{Any, BetweenRuns}
 use Rattle.semver_texts.specs.declared.grammar.Digits.{Digits}
-use Rattle.semver_versions.specs.Outlines.{OutlineValue, IsOutlineIn, after_mark, identifier_of}
-use Rattle.semver_versions.specs.Outlines.{outline_after}
+use Rattle.semver_versions.specs.VersionRefs.{VersionRefValue, IsVersionRefIn, after_mark}
+use Rattle.semver_versions.specs.VersionRefs.{identifier_of, version_ref_after}
 
 -- ---- what differs by dialect
 
@@ -102,9 +102,10 @@ pub record AreParts (grammar : Grammar) (text pre build : Text) : Type 0 where
   pub split : text
       ≡ marked (codes "-") (cut_at_dots pre) ++ (marked (codes "+") (cut_at_dots build) ++ after)
 
--- the outline of numbers that end at a place, and of the texts of both parts, each after its mark
-abbrev pub outline_with : Digits → ℕ → ℕ → ℕ → ℕ → Text → Text → OutlineValue
-outline_with digits major minor patch numbers_end pre build = record {
+-- the borrowed version of numbers that end at an offset, and of the texts of both parts, each after
+-- its mark
+abbrev pub version_ref_with : Digits → ℕ → ℕ → ℕ → ℕ → Text → Text → VersionRefValue
+version_ref_with digits major minor patch numbers_end pre build = record {
   major = major;
   minor = minor;
   patch = patch;
@@ -140,23 +141,23 @@ pub record IsRead (grammar : Grammar) (v : VersionValue) (text : Text) : Type 0 
   pub whole : text ≡ join_with_byte (code ".") (map decimal (numbers v.plain))
       ++ (marked (codes "-") pre_texts ++ (marked (codes "+") build_texts ++ after))
 
--- the outline of a version that is read so after so many bytes, or none where there is none
-abbrev pub IsOutlinedAt : Grammar → ℕ → Text → Option OutlineValue → Type 0
-IsOutlinedAt grammar before text None = (v : VersionValue) → ¬ (IsRead grammar v text)
-IsOutlinedAt grammar before text (Some o) =
+-- the borrowed version of a version that is read after so many bytes, or none if there is none
+abbrev pub IsBorrowedAt : Grammar → ℕ → Text → Option VersionRefValue → Type 0
+IsBorrowedAt grammar before text None = (v : VersionValue) → ¬ (IsRead grammar v text)
+IsBorrowedAt grammar before text (Some o) =
     (v : VersionValue) × IsRead grammar v text
-    × (o ≡ outline_after (digits_in grammar) before v)
+    × (o ≡ version_ref_after (digits_in grammar) before v)
 
--- the outline of a version that is read so after what is before it, whatever the length of the
--- text, or none where there is none
-abbrev pub IsOutlinedFrom : Grammar → Text → Option OutlineValue → Type 0
-IsOutlinedFrom grammar text None =
+-- the borrowed version of a version that is read after what is before it, whatever the length of
+-- the text, or none if there is none
+abbrev pub IsBorrowedFrom : Grammar → Text → Option VersionRefValue → Type 0
+IsBorrowedFrom grammar text None =
     (v : VersionValue) (rest : Text) → IsBefore grammar text rest → ¬ (IsRead grammar v rest)
-IsOutlinedFrom grammar text (Some o) = (v : VersionValue) × (rest : Text)
+IsBorrowedFrom grammar text (Some o) = (v : VersionValue) × (rest : Text)
     × IsBefore grammar text rest × IsRead grammar v rest
-    × (o ≡ outline_after (digits_in grammar) (before_numbers text) v)
+    × (o ≡ version_ref_after (digits_in grammar) (before_numbers text) v)
 
--- the outline of a version that the text spells, or none where it spells none
-abbrev pub IsOutlinedBy : Grammar → Text → Option OutlineValue → Type 0
-IsOutlinedBy grammar text None = ¬ (IsVersionTextIn grammar text)
-IsOutlinedBy grammar text (Some o) = IsOutlineIn grammar text o
+-- the borrowed version of a version that the text spells, or none if it spells none
+abbrev pub IsBorrowedBy : Grammar → Text → Option VersionRefValue → Type 0
+IsBorrowedBy grammar text None = ¬ (IsVersionTextIn grammar text)
+IsBorrowedBy grammar text (Some o) = IsVersionRefIn grammar text o

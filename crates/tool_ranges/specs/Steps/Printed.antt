@@ -50,7 +50,8 @@ printed lower first last z =
 -- those of a term, and of the ranges of a tree
 abbrev pub printed_term : LowerBounds → Dialect → Simple → List PlainComparator
 printed_term lower dialect s =
-    printed lower (sides dialect s.form (stated s.partial) (not (is_empty (zero_filled s.partial).pre))).0
+    printed lower
+    (sides dialect s.form (stated s.partial) (not (is_empty (zero_filled s.partial).pre))).0
     (sides dialect s.form (stated s.partial) (not (is_empty (zero_filled s.partial).pre))).1
     (zero_filled s.partial)
 

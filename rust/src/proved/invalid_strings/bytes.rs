@@ -4,7 +4,7 @@
 use crate::rattle_std::prelude::*;
 use crate::proved::invalid_strings::buffers::write;
 use crate::proved::semver_texts::grammar::Grammar;
-use crate::proved::semver_versions::version::{is_version_at_any_length, outline_in};
+use crate::proved::semver_versions::version::{is_version_at_any_length, read_ref_in};
 
 /// The bytes that complete a prefix.
 const COMPLETIONS: [&[u8]; 23] = [
@@ -69,7 +69,7 @@ fn goes_on(
 /// Returns whether the bytes are a version of an allowed length.
 pub(crate) fn is_version(bytes: &[u8], len: Length, grammar: Grammar) -> bool {
     match len {
-        Length::Allowed => outline_in(bytes, grammar).is_some(),
+        Length::Allowed => read_ref_in(bytes, grammar).is_some(),
         Length::Any => is_version_at_any_length(bytes, grammar),
     }
 }

@@ -5,7 +5,7 @@ use crate::rattle_std::prelude::*;
 use crate::proved::invalid_strings::longest::Language;
 use crate::proved::semver_texts::bytes::count_dots;
 use crate::proved::semver_texts::grammar::Grammar;
-use crate::proved::semver_versions::version::outline_in;
+use crate::proved::semver_versions::version::read_ref_in;
 
 /// The strings that complete a prefix of a version. After a number or an identifier nothing is
 /// missing; an identifier needs a letter; before that, numbers are missing.
@@ -19,7 +19,7 @@ pub(crate) struct Versions {
 
 impl Language for Versions {
     fn contains(&self, text: &str) -> bool {
-        outline_in(text.as_bytes(), self.grammar).is_some()
+        read_ref_in(text.as_bytes(), self.grammar).is_some()
     }
 
     fn all_completions(&self) -> &[&str] {

@@ -2,7 +2,7 @@
 //! A term of a range string, as it is written.
 
 use crate::rattle_std::prelude::*;
-use crate::proved::semver_versions::version::Outline;
+use crate::proved::semver_versions::version::VersionRef;
 use crate::rattle_std::fmt;
 
 /// The operator at the beginning of a term, or that of a hyphen range.
@@ -183,7 +183,7 @@ impl<'text> PartialVersion<'text> {
     /// # Ok::<(), semver_parser::Error>(())
     /// ```
     #[must_use]
-    pub fn with_version<'version>(&self, version: &Outline<'version>) -> PartialVersion<'version> {
+    pub fn with_version<'version>(&self, version: &VersionRef<'version>) -> PartialVersion<'version> {
         PartialVersion {
             span: self.span,
             has_v: self.has_v,

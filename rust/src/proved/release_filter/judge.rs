@@ -3,7 +3,7 @@
 
 use crate::rattle_std::prelude::*;
 use crate::proved::release_filter::line_texts::{LONGEST, LineEnd, text_after, text_of};
-use crate::proved::semver_versions::version::{Outline, outline_in};
+use crate::proved::semver_versions::version::{VersionRef, read_ref_in};
 use crate::proved::tool_ranges::version_range::VersionRange;
 
 /// The range, and how the lines are read and written.
@@ -23,7 +23,7 @@ pub(crate) enum Judged<'l> {
     /// It has a version that the range doesn't contain.
     Outside,
     /// It has this version, which the range contains, and these are the bytes to write.
-    Kept(Outline<'l>, &'l [u8]),
+    Kept(VersionRef<'l>, &'l [u8]),
 }
 
 impl Judge {
@@ -64,10 +64,10 @@ impl Judge {
         let Some(rest) = text_after(prefix, text) else {
             return Judged::NotAVersion(text);
         };
-        let Some(version) = outline_in(rest, self.range.meaning().dialect.grammar()) else {
+        let Some(version) = read_ref_in(rest, self.range.meaning().dialect.grammar()) else {
             return Judged::NotAVersion(text);
         };
-        if self.range.contains_outline(&version) {
+        if self.range.contains_ref(&version) {
             Judged::Kept(version, self.given(line, prefix.len()))
         } else {
             Judged::Outside

@@ -4,11 +4,11 @@
 //! decides which versions satisfy a range set.
 
 use crate::rattle_std::prelude::*;
+mod contained;
 mod counts;
 mod filter;
 mod held;
 mod judge;
-mod kept;
 mod line_options;
 mod line_texts;
 mod lines;

@@ -5,7 +5,7 @@ use crate::rattle_std::prelude::*;
 use crate::proved::release_filter::held::{Held, SelectedLine};
 use crate::proved::release_filter::judge::Judged;
 use crate::proved::semver_versions::read_version::ReadVersion;
-use crate::proved::semver_versions::version::Outline;
+use crate::proved::semver_versions::version::VersionRef;
 use crate::rattle_std::AllocError;
 use crate::rattle_std::cmp::Ordering;
 
@@ -79,8 +79,8 @@ impl Held {
         judged: &Judged<'_>,
         kept: &mut Vec<u8>,
     ) -> Result<(), AllocError> {
-        if let Judged::Kept(outline, line) = judged {
-            return self.keep_line(outline, line, kept);
+        if let Judged::Kept(borrowed, line) = judged {
+            return self.keep_line(borrowed, line, kept);
         }
         Ok(())
     }
@@ -89,15 +89,15 @@ impl Held {
     #[inline(always)]
     fn keep_line(
         &mut self,
-        outline: &Outline<'_>,
+        borrowed: &VersionRef<'_>,
         line: &[u8],
         kept: &mut Vec<u8>,
     ) -> Result<(), AllocError> {
         match self.selection {
             Selection::Each => kept.fallible_extend_from_slice(line),
-            Selection::Highest | Selection::Lowest => self.hold_best(outline, line),
+            Selection::Highest | Selection::Lowest => self.hold_best(borrowed, line),
             Selection::Sorted | Selection::Reversed => {
-                let version = ReadVersion::of(outline)?;
+                let version = ReadVersion::of(borrowed)?;
                 let bytes = Vec::fallible_from_slice(line)?;
                 self.lines.fallible_push(SelectedLine { version, bytes })?;
                 Ok(())
@@ -109,13 +109,13 @@ impl Held {
     /// one. `Err` means out of memory.
     fn hold_best(
         &mut self,
-        outline: &Outline<'_>,
+        borrowed: &VersionRef<'_>,
         line: &[u8],
     ) -> Result<(), AllocError> {
-        if !is_better(self.selection, outline, self.lines.as_slice()) {
+        if !is_better(self.selection, borrowed, self.lines.as_slice()) {
             return Ok(());
         }
-        let version = ReadVersion::of(outline)?;
+        let version = ReadVersion::of(borrowed)?;
         let mut bytes = match self.lines.pop() {
             Some(former) => former.bytes,
             None => Vec::new(),
@@ -138,11 +138,11 @@ impl Held {
 /// Returns whether a version is better than the best one so far: there is none, or the version is
 /// above it, or below it if the lowest is wanted.
 #[inline(always)]
-fn is_better(selection: Selection, outline: &Outline<'_>, held: &[SelectedLine]) -> bool {
+fn is_better(selection: Selection, borrowed: &VersionRef<'_>, held: &[SelectedLine]) -> bool {
     let [best, ..] = held else {
         return true;
     };
-    let ordering = best.version.compared_outline(outline, outline.digits());
+    let ordering = best.version.compared_ref(borrowed, borrowed.digits());
     match selection {
         Selection::Lowest => ordering.is_lt(),
         Selection::Each | Selection::Highest | Selection::Sorted | Selection::Reversed => {

@@ -103,7 +103,7 @@ fn answer<W: Write>(
         "refused-as-crate" => prefixes::write_refused(text, Grammar::Crate, out),
         "refused-as-cargo" => prefixes::write_refused(text, Grammar::Cargo, out),
         "refused-as-npm" => prefixes::write_refused(text, Grammar::Npm, out),
-        "outline" => versions::write_outline(text, out),
+        "read-ref" => versions::write_ref(text, out),
         "version-text" => versions::write_printed(text, out),
         "error-text" => versions::write_error_text(text, out),
         "concat" => versions::write_joined(text, steps, out),

@@ -52,9 +52,9 @@ pub fn write_meant<W: Write>(
 
 /// Returns whether checking one version against a range gives `is_meant`.
 fn is_asked_so(tool: Meaning, text: &str, item: &str, is_meant: bool) -> bool {
-    match version::outline_in(item.as_bytes(), tool.dialect.grammar()) {
-        Some(outline) =>
-            matches!(meaning::satisfies(&outline, text, tool), Ok(met) if met == is_meant),
+    match version::read_ref_in(item.as_bytes(), tool.dialect.grammar()) {
+        Some(borrowed) =>
+            matches!(meaning::satisfies(&borrowed, text, tool), Ok(met) if met == is_meant),
         None => false,
     }
 }

@@ -33,22 +33,22 @@ pub fn write_read_in<W: Write>(
     grammar: Grammar,
     out: &mut W,
 ) -> io::Result<()> {
-    let Some(outline) = version::outline_in(text.as_bytes(), grammar) else {
+    let Some(borrowed) = version::read_ref_in(text.as_bytes(), grammar) else {
         return write!(out, "none");
     };
-    match outline.version() {
+    match borrowed.version() {
         Ok(version) => write_fields(&version, out),
         Err(_) => write!(out, "OutOfMemory"),
     }
 }
 
 /// Writes the borrowed version that a string spells, or `none` if it spells none.
-pub fn write_outline<W: Write>(text: &str, out: &mut W) -> io::Result<()> {
-    let Some(outline) = version::outline(text) else {
+pub fn write_ref<W: Write>(text: &str, out: &mut W) -> io::Result<()> {
+    let Some(borrowed) = version::read_ref(text) else {
         return write!(out, "none");
     };
-    let (major, minor, patch) = (outline.major(), outline.minor(), outline.patch());
-    let (pre, build) = (outline.pre(), outline.build());
+    let (major, minor, patch) = (borrowed.major(), borrowed.minor(), borrowed.patch());
+    let (pre, build) = (borrowed.pre(), borrowed.build());
     write!(out, "{major} {minor} {patch} pre[{pre}] build[{build}]")
 }
 

@@ -5,8 +5,8 @@
 use crate::rattle_std::prelude::*;
 use crate::proved::semver_parser::parser::{self, Parser};
 pub use crate::proved::semver_versions::version::{
-    Digits, Grammar, Identifier, Outline, Version, cmp_precedence, outline, outline_bytes,
-    outline_in, read, read_bytes,
+    Digits, Grammar, Identifier, Version, VersionRef, cmp_precedence, read, read_bytes, read_ref,
+    read_ref_bytes, read_ref_in,
 };
 
 /// Reads a version string. Printed, the version is the string without the white space around it,
@@ -52,7 +52,7 @@ pub fn parse(input: &str) -> Result<Version, parser::Error<'_>> {
 }
 
 /// Returns the result or the error of [`parse`], using only the tokens. It takes less time for an
-/// invalid version, if [`outline`] has shown that it is one.
+/// invalid version, if [`read_ref`] has shown that it is one.
 ///
 /// ```
 /// use semver_parser::parser::Error;

@@ -7,8 +7,8 @@ use crate::rattle_std::prelude::*;
 /// ```
 /// use semver_parser::version::{self, Grammar};
 ///
-/// assert!(version::outline_in(b"v1.2.3", Grammar::Npm).is_some());
-/// assert!(version::outline_in(b"v1.2.3", Grammar::Cargo).is_none());
+/// assert!(version::read_ref_in(b"v1.2.3", Grammar::Npm).is_some());
+/// assert!(version::read_ref_in(b"v1.2.3", Grammar::Cargo).is_none());
 /// ```
 #[derive(Clone, Copy, PartialEq, Eq, Hash, Debug)]
 pub enum Grammar {

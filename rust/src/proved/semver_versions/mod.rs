@@ -5,7 +5,7 @@
 use crate::rattle_std::prelude::*;
 pub mod comparing;
 pub mod identifiers;
-mod outlines;
 pub mod read_version;
 mod reader;
 pub mod version;
+mod version_ref;

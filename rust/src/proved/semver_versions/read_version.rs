@@ -2,7 +2,7 @@
 //! Versions that own their identifiers, and know how the numeric ones are read.
 
 use crate::rattle_std::prelude::*;
-use crate::proved::semver_versions::outlines::Outline;
+use crate::proved::semver_versions::version_ref::VersionRef;
 use crate::proved::semver_texts::grammar::Digits;
 use crate::proved::semver_texts::identifiers::ByDigits;
 use crate::proved::semver_texts::precedence::{Identifiers, compare};
@@ -31,17 +31,17 @@ impl crate::rattle_std::FallibleClone for ReadVersion {
 impl ReadVersion {
     /// Returns a borrowed version without its build metadata. `Err` means out of memory.
     #[inline(always)]
-    pub fn of(outline: &Outline<'_>) -> Result<ReadVersion, AllocError> {
+    pub fn of(borrowed: &VersionRef<'_>) -> Result<ReadVersion, AllocError> {
         let version = Version {
-            major: outline.major(),
-            minor: outline.minor(),
-            patch: outline.patch(),
-            pre: outline.pre_identifiers()?,
+            major: borrowed.major(),
+            minor: borrowed.minor(),
+            patch: borrowed.patch(),
+            pre: borrowed.pre_identifiers()?,
             build: Vec::new(),
         };
         Ok(ReadVersion {
             version,
-            digits: outline.digits(),
+            digits: borrowed.digits(),
         })
     }
 
@@ -86,10 +86,10 @@ impl ReadVersion {
     /// Compares a borrowed version with it by precedence, where the borrowed version's numeric
     /// identifiers are read as `digits` says.
     #[inline(always)]
-    pub fn compared_outline(&self, outline: &Outline<'_>, digits: Digits) -> Ordering {
+    pub fn compared_ref(&self, borrowed: &VersionRef<'_>, digits: Digits) -> Ordering {
         compare(
-            (outline.major, outline.minor, outline.patch),
-            outline.pre_by(digits),
+            (borrowed.major, borrowed.minor, borrowed.patch),
+            borrowed.pre_by(digits),
             (self.version.major, self.version.minor, self.version.patch),
             self.pre(),
         )

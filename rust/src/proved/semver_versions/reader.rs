@@ -9,7 +9,7 @@
 //! are called, not inlined.
 
 use crate::rattle_std::prelude::*;
-use crate::proved::semver_versions::outlines::{Outline, with_parts};
+use crate::proved::semver_versions::version_ref::{VersionRef, with_parts};
 use crate::proved::semver_texts::decimals::{begins_with_digit, numbers_at_digit};
 use crate::proved::semver_texts::dotted::{Hyphens, have_no_leading_zeros, marked_part, strip_mark};
 use crate::proved::semver_texts::grammar::Grammar;
@@ -164,7 +164,7 @@ fn with_rest(
     numbers_end: usize,
     rest: &[u8],
     grammar: Grammar,
-) -> Option<Outline<'_>> {
+) -> Option<VersionRef<'_>> {
     let (pre, build) = parts(rest, grammar)?;
     Some(with_parts(
         major,
@@ -189,7 +189,7 @@ fn after_numbers(
     numbers_end: usize,
     rest: &[u8],
     grammar: Grammar,
-) -> Option<Outline<'_>> {
+) -> Option<VersionRef<'_>> {
     if !fit(major, minor, patch, grammar) {
         return None;
     }
@@ -201,16 +201,16 @@ fn after_numbers(
 
 /// Returns the borrowed version that the bytes spell, if they spell one.
 #[inline(always)]
-pub(crate) fn outline(input: &[u8], grammar: Grammar) -> Option<Outline<'_>> {
+pub(crate) fn read_ref(input: &[u8], grammar: Grammar) -> Option<VersionRef<'_>> {
     if !is_short(0, input, grammar) {
         return None;
     }
-    outline_at_any_length(input, grammar)
+    read_ref_at_any_length(input, grammar)
 }
 
 /// Returns the borrowed version that the bytes spell, if they spell one, whatever their length.
 #[inline(always)]
-pub(crate) fn outline_at_any_length(input: &[u8], grammar: Grammar) -> Option<Outline<'_>> {
+pub(crate) fn read_ref_at_any_length(input: &[u8], grammar: Grammar) -> Option<VersionRef<'_>> {
     let at = at_digit(input, grammar)?;
     let (major, minor, patch, rest) = numbers_at_digit(at)?;
     after_numbers(major, minor, patch, input.len() - rest.len(), rest, grammar)

@@ -11,8 +11,8 @@
 //! identifiers and the length of a string aren't limited.
 
 use crate::rattle_std::prelude::*;
-pub use crate::proved::semver_versions::outlines::Outline;
 use crate::proved::semver_versions::reader;
+pub use crate::proved::semver_versions::version_ref::VersionRef;
 pub use crate::proved::semver_texts::grammar::{Digits, Grammar};
 pub use crate::proved::semver_texts::precedence::cmp_precedence;
 pub use crate::proved::semver_texts::version::{Identifier, Version};
@@ -37,10 +37,10 @@ use crate::rattle_std::AllocError;
 /// ```
 #[inline(always)]
 pub fn read(input: &str) -> Result<Option<Version>, AllocError> {
-    let Some(outline) = outline(input) else {
+    let Some(borrowed) = read_ref(input) else {
         return Ok(None);
     };
-    Ok(Some(outline.version_in(input)?))
+    Ok(Some(borrowed.version_in(input)?))
 }
 
 /// Reads a version like [`read`], from bytes that needn't be UTF-8. Bytes that aren't UTF-8 give
@@ -58,10 +58,10 @@ pub fn read(input: &str) -> Result<Option<Version>, AllocError> {
 /// ```
 #[inline(always)]
 pub fn read_bytes(input: &[u8]) -> Result<Option<Version>, AllocError> {
-    let Some(outline) = outline_bytes(input) else {
+    let Some(borrowed) = read_ref_bytes(input) else {
         return Ok(None);
     };
-    Ok(Some(outline.version()?))
+    Ok(Some(borrowed.version()?))
 }
 
 /// Returns the version that the string spells as a borrowed version, or `None` if it spells none.
@@ -71,33 +71,33 @@ pub fn read_bytes(input: &[u8]) -> Result<Option<Version>, AllocError> {
 /// ```
 /// use semver_parser::version;
 ///
-/// let outline = version::outline(" 1.2.3-rc.4+b5\n").unwrap();
-/// assert_eq!((outline.pre(), outline.pre_offset()), ("rc.4", 7));
-/// assert_eq!((outline.build(), outline.build_offset()), ("b5", 12));
-/// assert!(version::outline("1.2").is_none() && version::outline("1.2.3 a").is_none());
+/// let borrowed = version::read_ref(" 1.2.3-rc.4+b5\n").unwrap();
+/// assert_eq!((borrowed.pre(), borrowed.pre_offset()), ("rc.4", 7));
+/// assert_eq!((borrowed.build(), borrowed.build_offset()), ("b5", 12));
+/// assert!(version::read_ref("1.2").is_none() && version::read_ref("1.2.3 a").is_none());
 /// ```
 #[must_use]
 #[inline(always)]
-pub fn outline(input: &str) -> Option<Outline<'_>> {
-    outline_bytes(input.as_bytes())
+pub fn read_ref(input: &str) -> Option<VersionRef<'_>> {
+    read_ref_bytes(input.as_bytes())
 }
 
-/// Returns the result of [`outline`] for bytes that needn't be UTF-8. Bytes that aren't UTF-8 give
+/// Returns the result of [`read_ref`] for bytes that needn't be UTF-8. Bytes that aren't UTF-8 give
 /// `None`, without a separate check. It does not allocate.
 ///
 /// ```
 /// use semver_parser::version;
 ///
-/// assert_eq!(version::outline_bytes(b"1.2.3-rc.4").unwrap().pre(), "rc.4");
-/// assert!(version::outline_bytes(b"1.2.3\xff").is_none());
+/// assert_eq!(version::read_ref_bytes(b"1.2.3-rc.4").unwrap().pre(), "rc.4");
+/// assert!(version::read_ref_bytes(b"1.2.3\xff").is_none());
 /// ```
 #[must_use]
 #[inline(always)]
-pub fn outline_bytes(input: &[u8]) -> Option<Outline<'_>> {
-    outline_in(input, Grammar::Crate)
+pub fn read_ref_bytes(input: &[u8]) -> Option<VersionRef<'_>> {
+    read_ref_in(input, Grammar::Crate)
 }
 
-/// Returns the result of [`outline_bytes`] in a dialect.
+/// Returns the result of [`read_ref_bytes`] in a dialect.
 ///
 /// The bytes needn't be UTF-8, and it does not allocate. The pages `docs::grammar` and
 /// `docs::original_crate` have the grammars.
@@ -106,24 +106,24 @@ pub fn outline_bytes(input: &[u8]) -> Option<Outline<'_>> {
 /// use semver_parser::version::{self, Grammar};
 ///
 /// for grammar in [Grammar::Cargo, Grammar::Npm] {
-///     assert!(version::outline_in(b"1.0.0-a--b", grammar).is_some());
-///     assert!(version::outline_in(b"1.0.0-01", grammar).is_none());
+///     assert!(version::read_ref_in(b"1.0.0-a--b", grammar).is_some());
+///     assert!(version::read_ref_in(b"1.0.0-01", grammar).is_none());
 /// }
-/// assert!(version::outline_in(b" v1.2.3", Grammar::Npm).is_some());
-/// assert!(version::outline_in(b" v1.2.3", Grammar::Cargo).is_none());
+/// assert!(version::read_ref_in(b" v1.2.3", Grammar::Npm).is_some());
+/// assert!(version::read_ref_in(b" v1.2.3", Grammar::Cargo).is_none());
 /// ```
 #[must_use]
 #[inline(always)]
-pub fn outline_in(input: &[u8], grammar: Grammar) -> Option<Outline<'_>> {
-    reader::outline(input, grammar)
+pub fn read_ref_in(input: &[u8], grammar: Grammar) -> Option<VersionRef<'_>> {
+    reader::read_ref(input, grammar)
 }
 
 /// Returns whether the bytes spell a version in a dialect, whatever their length, which only npm
 /// limits. For `1.2.3` after a thousand spaces this is true in npm's dialect, although
-/// [`outline_in`] returns `None`.
+/// [`read_ref_in`] returns `None`.
 ///
 /// The bytes needn't be UTF-8, and it does not allocate.
 #[must_use]
 pub fn is_version_at_any_length(input: &[u8], grammar: Grammar) -> bool {
-    reader::outline_at_any_length(input, grammar).is_some()
+    reader::read_ref_at_any_length(input, grammar).is_some()
 }

@@ -3,7 +3,7 @@
 
 use crate::rattle_std::prelude::*;
 use crate::proved::tool_ranges::version_range::VersionRange;
-use crate::proved::semver_versions::version::{Outline, outline_in};
+use crate::proved::semver_versions::version::{VersionRef, read_ref_in};
 
 impl VersionRange {
     /// Returns the index of the highest of the given versions that the range contains, or `None` if
@@ -68,13 +68,13 @@ fn best_string<'v, I: Iterator<Item = &'v str> >(
     lowest: bool,
 ) -> Option<&'v str> {
     let mut found: Option<&'v str> = None;
-    let mut best: Option<Outline<'v>> = None;
+    let mut best: Option<VersionRef<'v>> = None;
     for version in versions {
-        let Some(outline) = member(range, version.as_bytes()) else {
+        let Some(borrowed) = member(range, version.as_bytes()) else {
             continue;
         };
-        if is_above(&outline, &best, lowest) {
-            best = Some(outline);
+        if is_above(&borrowed, &best, lowest) {
+            best = Some(borrowed);
             found = Some(version);
         }
     }
@@ -84,13 +84,13 @@ fn best_string<'v, I: Iterator<Item = &'v str> >(
 /// Returns the index of the highest version, or of the lowest if `lowest`.
 fn best_index(range: &VersionRange, versions: &[&[u8]], lowest: bool) -> Option<usize> {
     let mut found = 0;
-    let mut best: Option<Outline<'_>> = None;
+    let mut best: Option<VersionRef<'_>> = None;
     for at in 0..versions.len() {
-        let Some(outline) = member(range, versions[at]) else {
+        let Some(borrowed) = member(range, versions[at]) else {
             continue;
         };
-        if is_above(&outline, &best, lowest) {
-            best = Some(outline);
+        if is_above(&borrowed, &best, lowest) {
+            best = Some(borrowed);
             found = at;
         }
     }
@@ -102,17 +102,17 @@ fn best_index(range: &VersionRange, versions: &[&[u8]], lowest: bool) -> Option<
 
 /// Returns a string as a borrowed version, if it is one that a range contains.
 #[inline(always)]
-fn member<'t>(range: &VersionRange, version: &'t [u8]) -> Option<Outline<'t>> {
-    let outline = outline_in(version, range.meaning.dialect.grammar())?;
-    if !range.contains_outline(&outline) {
+fn member<'t>(range: &VersionRange, version: &'t [u8]) -> Option<VersionRef<'t>> {
+    let borrowed = read_ref_in(version, range.meaning.dialect.grammar())?;
+    if !range.contains_ref(&borrowed) {
         return None;
     }
-    Some(outline)
+    Some(borrowed)
 }
 
 /// Returns whether a version is above the best one so far, or below it if `lowest`. It is true if
 /// there is no best one yet.
-fn is_above(version: &Outline<'_>, best: &Option<Outline<'_>>, lowest: bool) -> bool {
+fn is_above(version: &VersionRef<'_>, best: &Option<VersionRef<'_>>, lowest: bool) -> bool {
     let Some(best) = best else {
         return true;
     };

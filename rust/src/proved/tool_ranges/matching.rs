@@ -9,13 +9,13 @@ use crate::proved::semver_ranges::RangeError;
 use crate::proved::semver_ranges::events::Event;
 use crate::proved::semver_ranges::grammar::{Form, Simple};
 use crate::proved::semver_ranges::partial::{LowerBounds, Partial};
-use crate::proved::semver_versions::version::Outline;
+use crate::proved::semver_versions::version::VersionRef;
 use crate::proved::version_sets::{Interval, PreReleases};
 
 /// Returns whether a version satisfies a range.
 #[inline(always)]
 pub(crate) fn answer(
-    version: &Outline<'_>,
+    version: &VersionRef<'_>,
     range: &str,
     dialect: Dialect,
     rule: PreReleases,
@@ -83,7 +83,7 @@ impl Progress {
     fn with_term(
         self,
         simple: &Simple<'_>,
-        version: &Outline<'_>,
+        version: &VersionRef<'_>,
         dialect: Dialect,
         by_default: bool,
     ) -> Progress {
@@ -112,7 +112,7 @@ impl Progress {
 /// counts.
 #[inline(always)]
 fn matches(
-    version: &Outline<'_>,
+    version: &VersionRef<'_>,
     range: &str,
     dialect: Dialect,
     takes_all: bool,
@@ -139,7 +139,7 @@ fn matches(
 
 /// Returns whether a version counts in each range, whatever its terms name.
 #[inline(always)]
-fn counts(version: &Outline<'_>, takes_all: bool) -> bool {
+fn counts(version: &VersionRef<'_>, takes_all: bool) -> bool {
     takes_all || is_release(version)
 }
 
@@ -154,7 +154,7 @@ pub(crate) fn lower(dialect: Dialect, takes_all: bool) -> LowerBounds {
 
 /// Returns whether a version satisfies a term.
 #[inline(always)]
-fn meets(simple: &Simple<'_>, version: &Outline<'_>, dialect: Dialect, by_default: bool) -> bool {
+fn meets(simple: &Simple<'_>, version: &VersionRef<'_>, dialect: Dialect, by_default: bool) -> bool {
     looked_at(simple, dialect, by_default).contains(version, dialect.grammar().digits())
 }
 
@@ -171,13 +171,13 @@ pub(crate) fn looked_at<'t>(simple: &Simple<'t>, dialect: Dialect, by_default: b
 
 /// Returns whether a version has no pre-release.
 #[inline(always)]
-fn is_release(version: &Outline<'_>) -> bool {
+fn is_release(version: &VersionRef<'_>) -> bool {
     !version.is_pre_release()
 }
 
 /// Returns whether a partial version names the three numbers of a version, and a pre-release.
 #[inline(always)]
-fn is_stated_by(version: &Outline<'_>, partial: &Partial<'_>) -> bool {
+fn is_stated_by(version: &VersionRef<'_>, partial: &Partial<'_>) -> bool {
     partial.has_pre_release()
         && partial.states_three()
         && version.major() == partial.major()

@@ -6,7 +6,7 @@ use crate::proved::tool_ranges::dialect::Dialect;
 use crate::proved::tool_ranges::matching::{self, answer};
 use crate::proved::tool_ranges::sets;
 use crate::proved::semver_ranges::RangeError;
-use crate::proved::semver_versions::version::Outline;
+use crate::proved::semver_versions::version::VersionRef;
 use crate::proved::version_sets::{PreReleases, VersionSet};
 
 /// The dialect of a range string, and which pre-releases satisfy it (page `docs::meaning`). The
@@ -59,7 +59,11 @@ pub fn read(meaning: Meaning, range: &str) -> Result<VersionSet, RangeError> {
 /// dialect, and `NumberTooLarge` if it is a range, but one of its numbers, or a bound that is
 /// raised by one, is above the dialect's limit.
 #[inline(always)]
-pub fn satisfies(version: &Outline<'_>, range: &str, meaning: Meaning) -> Result<bool, RangeError> {
+pub fn satisfies(
+    version: &VersionRef<'_>,
+    range: &str,
+    meaning: Meaning,
+) -> Result<bool, RangeError> {
     let rule = meaning.pre_releases;
     match meaning.dialect {
         Dialect::Cargo => answer(version, range, Dialect::Cargo, rule),

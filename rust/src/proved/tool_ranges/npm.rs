@@ -34,12 +34,12 @@ pub fn rewrite(range: &str) -> Result<RangeSet, RangeError> {
     printing::rewrite(range, Dialect::Npm, Compat::Npm, LowerBounds::Stated)
 }
 
-/// Rewrites a range, as npm reads it with `includePrerelease`, into plain comparators that say which
-/// pre-releases satisfy it, too: `^1.2` gives `>=1.2.0-0 <2.0.0-0`.
+/// Rewrites a range, as npm reads it with `includePrerelease`, into plain comparators that say
+/// which pre-releases satisfy it, too: `^1.2` gives `>=1.2.0-0 <2.0.0-0`.
 ///
-/// A version satisfies the result, compared by precedence, if and only if it satisfies the range and
-/// pre-releases are included. The result has the ranges in the order of the string, in Npm mode, and
-/// is `>=0.0.0-0` if npm matches everything.
+/// A version satisfies the result, compared by precedence, if and only if it satisfies the range
+/// and pre-releases are included. The result has the ranges in the order of the string, in Npm
+/// mode, and is `>=0.0.0-0` if npm matches everything.
 ///
 /// # Errors
 ///

@@ -4,7 +4,7 @@
 use crate::rattle_std::prelude::*;
 use crate::proved::tool_ranges::meaning::{self, Meaning};
 use crate::proved::semver_ranges::RangeError;
-use crate::proved::semver_versions::version::outline_in;
+use crate::proved::semver_versions::version::read_ref_in;
 
 /// Whether the version or the range is invalid.
 ///
@@ -43,10 +43,10 @@ impl crate::rattle_std::Error for SatisfiesError {}
 /// is invalid, or one of its numbers is too large.
 #[inline(always)]
 pub fn satisfies(version: &[u8], range: &str, meaning: Meaning) -> Result<bool, SatisfiesError> {
-    let Some(outline) = outline_in(version, meaning.dialect.grammar()) else {
+    let Some(borrowed) = read_ref_in(version, meaning.dialect.grammar()) else {
         return Err(SatisfiesError::InvalidVersion);
     };
-    match meaning::satisfies(&outline, range, meaning) {
+    match meaning::satisfies(&borrowed, range, meaning) {
         Ok(met) => Ok(met),
         Err(error) => Err(SatisfiesError::InvalidRange(error)),
     }

@@ -6,7 +6,7 @@ use crate::proved::tool_ranges::meaning::{self, Meaning};
 use crate::proved::tool_ranges::range_operations::OperationError;
 use crate::proved::tool_ranges::satisfying::SatisfiesError;
 use crate::proved::semver_ranges::RangeError;
-use crate::proved::semver_versions::version::{Outline, Version, outline_in};
+use crate::proved::semver_versions::version::{Version, VersionRef, read_ref_in};
 use crate::rattle_std::fmt;
 use crate::proved::version_sets::VersionSet;
 
@@ -130,8 +130,8 @@ impl VersionRange {
     /// ```
     #[inline(always)]
     pub fn contains_bytes(&self, version: &[u8]) -> Result<bool, SatisfiesError> {
-        match outline_in(version, self.meaning.dialect.grammar()) {
-            Some(outline) => Ok(self.contains_outline(&outline)),
+        match read_ref_in(version, self.meaning.dialect.grammar()) {
+            Some(borrowed) => Ok(self.contains_ref(&borrowed)),
             None => Err(SatisfiesError::InvalidVersion),
         }
     }
@@ -143,14 +143,14 @@ impl VersionRange {
     /// use semver_parser::{version, Dialect, VersionRange};
     ///
     /// let range = VersionRange::parse("^1.2", Dialect::Npm)?;
-    /// let outline = version::outline_in(b"v1.9.0", Dialect::Npm.grammar()).unwrap();
-    /// assert!(range.contains_outline(&outline));
+    /// let borrowed = version::read_ref_in(b"v1.9.0", Dialect::Npm.grammar()).unwrap();
+    /// assert!(range.contains_ref(&borrowed));
     /// # Ok::<(), semver_parser::Error>(())
     /// ```
     #[must_use]
     #[inline(always)]
-    pub fn contains_outline(&self, version: &Outline<'_>) -> bool {
-        self.versions.contains_outline(version)
+    pub fn contains_ref(&self, version: &VersionRef<'_>) -> bool {
+        self.versions.contains_ref(version)
     }
 
     /// Returns whether the range contains a version. Build metadata is ignored. A `Version` keeps a

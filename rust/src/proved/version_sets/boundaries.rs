@@ -6,7 +6,7 @@ use crate::proved::version_sets::boundary::Boundary;
 use crate::proved::version_sets::release::Release;
 use crate::proved::semver_texts::grammar::Digits;
 use crate::proved::semver_versions::read_version::ReadVersion;
-use crate::proved::semver_versions::version::{Outline, Version};
+use crate::proved::semver_versions::version::{Version, VersionRef};
 
 /// Returns whether an odd number of the boundaries are at or below a boundary's version. It takes
 /// time logarithmic in their number, and does not allocate.
@@ -47,16 +47,16 @@ pub(crate) fn contains_release(boundaries: &[Release], release: &Release) -> boo
 /// numeric identifiers are read as `digits` says. It takes time logarithmic in their number, and
 /// does not allocate.
 #[inline(always)]
-pub(crate) fn contains_outline(
+pub(crate) fn contains_ref(
     boundaries: &[ReadVersion],
-    outline: &Outline<'_>,
+    borrowed: &VersionRef<'_>,
     digits: Digits,
 ) -> bool {
     let mut low = 0;
     let mut high = boundaries.len();
     while low < high {
         let middle = low + (high - low) / 2;
-        if boundaries[middle].compared_outline(outline, digits).is_ge() {
+        if boundaries[middle].compared_ref(borrowed, digits).is_ge() {
             low = middle + 1;
         } else {
             high = middle;

@@ -8,13 +8,13 @@ use crate::proved::semver_ranges::partial::Place;
 use crate::proved::semver_texts::grammar::Digits;
 use crate::proved::semver_texts::identifiers::{ByDigits, Joined};
 use crate::proved::semver_texts::precedence::compare;
-use crate::proved::semver_versions::version::Outline;
+use crate::proved::semver_versions::version::VersionRef;
 use crate::rattle_std::cmp::Ordering;
 
 impl Cut<'_> {
     /// Returns whether the cut is below a version. `digits` says how numeric identifiers are read.
     #[inline(always)]
-    pub fn is_below(&self, version: &Outline<'_>, digits: Digits) -> bool {
+    pub fn is_below(&self, version: &VersionRef<'_>, digits: Digits) -> bool {
         match self.side {
             Side::Below => self.against_numbers(version).is_ge(),
             Side::At => self.against(version, digits).is_ge(),
@@ -30,7 +30,7 @@ impl Cut<'_> {
 
     /// Compares the numbers of a version with those of the cut.
     #[inline(always)]
-    fn against_numbers(&self, version: &Outline<'_>) -> Ordering {
+    fn against_numbers(&self, version: &VersionRef<'_>) -> Ordering {
         let patch = version.patch().cmp(&self.numbers.patch);
         let minor = version.minor().cmp(&self.numbers.minor);
         version
@@ -41,7 +41,7 @@ impl Cut<'_> {
 
     /// Compares a version with the version of the cut by precedence.
     #[inline(always)]
-    fn against(&self, version: &Outline<'_>, digits: Digits) -> Ordering {
+    fn against(&self, version: &VersionRef<'_>, digits: Digits) -> Ordering {
         compare(
             (version.major(), version.minor(), version.patch()),
             version.compared_pre(),
@@ -55,7 +55,7 @@ impl Interval<'_> {
     /// Returns whether the interval contains a version. `digits` says how numeric identifiers are
     /// read.
     #[inline(always)]
-    pub fn contains(&self, version: &Outline<'_>, digits: Digits) -> bool {
+    pub fn contains(&self, version: &VersionRef<'_>, digits: Digits) -> bool {
         let is_above = match &self.lower {
             Some(cut) => cut.is_below(version, digits),
             None => true,

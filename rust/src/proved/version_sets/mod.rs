@@ -4,12 +4,12 @@
 
 use crate::rattle_std::prelude::*;
 mod batch;
+mod borrowed_boundary;
 mod boundaries;
 mod boundary;
 mod conjunction;
 mod cut;
 mod cut_tests;
-mod endpoint;
 mod intervals;
 mod lowest;
 mod pre_release;

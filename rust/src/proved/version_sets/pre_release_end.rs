@@ -2,8 +2,8 @@
 //! The lowest release and the lowest pre-release above a cut.
 
 use crate::rattle_std::prelude::*;
+use crate::proved::version_sets::borrowed_boundary::BorrowedBoundary;
 use crate::proved::version_sets::cut::{Cut, Side};
-use crate::proved::version_sets::endpoint::Endpoint;
 use crate::proved::version_sets::pre_release_place::PreReleaseEnd;
 use crate::proved::version_sets::release::{Release, next_numbers};
 use crate::proved::version_sets::successor::Successor;
@@ -101,7 +101,7 @@ impl<'text> PreReleaseEnd<'text> {
     }
 }
 
-impl<'text> Endpoint for PreReleaseEnd<'text> {
+impl<'text> BorrowedBoundary for PreReleaseEnd<'text> {
     type Boundary = ReadVersion;
 
     fn compare(&self, other: &PreReleaseEnd<'text>) -> Ordering {

@@ -2,10 +2,10 @@
 //! Spans of one kind of versions, and the boundaries of their union.
 
 use crate::rattle_std::prelude::*;
-use crate::proved::version_sets::endpoint::Endpoint;
+use crate::proved::version_sets::borrowed_boundary::BorrowedBoundary;
 use crate::rattle_std::AllocError;
 
-/// The versions at or above one endpoint and below another. `None` is an endpoint above all
+/// The versions at or above one boundary and below another. `None` is a boundary above all
 /// versions.
 #[derive(Clone, Copy)]
 pub(crate) struct Bounds<L> {
@@ -15,7 +15,7 @@ pub(crate) struct Bounds<L> {
     pub to: Option<L>,
 }
 
-/// The versions at or above one endpoint, and below another if there is one. The second is above
+/// The versions at or above one boundary, and below another if there is one. The second is above
 /// the first.
 #[derive(Clone, Copy)]
 pub(crate) struct Span<L> {
@@ -25,8 +25,8 @@ pub(crate) struct Span<L> {
     pub to: Option<L>,
 }
 
-/// Returns the higher of two endpoints. `None` is above all versions.
-fn later<L: Endpoint>(first: Option<L>, second: Option<L>) -> Option<L> {
+/// Returns the higher of two boundaries. `None` is above all versions.
+fn later<L: BorrowedBoundary>(first: Option<L>, second: Option<L>) -> Option<L> {
     let (first, second) = (first?, second?);
     Some(if first.compare(&second).is_ge() {
         first
@@ -35,8 +35,8 @@ fn later<L: Endpoint>(first: Option<L>, second: Option<L>) -> Option<L> {
     })
 }
 
-/// Returns the lower of two endpoints. `None` is above all versions.
-fn earlier<L: Endpoint>(first: Option<L>, second: Option<L>) -> Option<L> {
+/// Returns the lower of two boundaries. `None` is above all versions.
+fn earlier<L: BorrowedBoundary>(first: Option<L>, second: Option<L>) -> Option<L> {
     let Some(first) = first else {
         return second;
     };
@@ -50,7 +50,7 @@ fn earlier<L: Endpoint>(first: Option<L>, second: Option<L>) -> Option<L> {
     }
 }
 
-impl<L: Endpoint> Bounds<L> {
+impl<L: BorrowedBoundary> Bounds<L> {
     /// Returns the versions that are within other bounds, too.
     pub(crate) fn and(self, other: Bounds<L>) -> Bounds<L> {
         Bounds {
@@ -59,7 +59,7 @@ impl<L: Endpoint> Bounds<L> {
         }
     }
 
-    /// Returns the span of the versions, if there is anything between the endpoints.
+    /// Returns the span of the versions, if there is anything between the boundaries.
     fn span(self) -> Option<Span<L>> {
         let from = self.from?;
         if let Some(to) = self.to {
@@ -70,7 +70,7 @@ impl<L: Endpoint> Bounds<L> {
         Some(Span { from, to: self.to })
     }
 
-    /// Adds the span of the versions to others, if there is anything between the endpoints. `Err`
+    /// Adds the span of the versions to others, if there is anything between the boundaries. `Err`
     /// means out of memory.
     pub(crate) fn push_to(self, spans: &mut Vec<Span<L>>) -> Result<(), AllocError> {
         if let Some(span) = self.span() {
@@ -91,7 +91,7 @@ impl<L: Endpoint> Bounds<L> {
 }
 
 /// Returns the boundaries of the union of the spans. `Err` means out of memory.
-pub(crate) fn boundaries_of<L: Endpoint>(
+pub(crate) fn boundaries_of<L: BorrowedBoundary>(
     spans: &mut [Span<L>],
 ) -> Result<Vec<L::Boundary>, AllocError> {
     spans.sort_unstable_by(|span, other| span.from.compare(&other.from));
@@ -99,7 +99,9 @@ pub(crate) fn boundaries_of<L: Endpoint>(
 }
 
 /// Returns the boundaries of ascending spans. `Err` means out of memory.
-fn joined<L: Endpoint>(spans: &[Span<L>]) -> Result<Vec<L::Boundary>, AllocError> {
+fn joined<L: BorrowedBoundary>(
+    spans: &[Span<L>],
+) -> Result<Vec<L::Boundary>, AllocError> {
     let [first, others @ ..] = spans else {
         return Ok(Vec::new());
     };
@@ -117,16 +119,16 @@ fn joined<L: Endpoint>(spans: &[Span<L>]) -> Result<Vec<L::Boundary>, AllocError
     Ok(boundaries)
 }
 
-/// Returns whether there is an end, and it is below an endpoint.
-fn is_apart<L: Endpoint>(end: Option<L>, endpoint: &L) -> bool {
+/// Returns whether there is an end, and it is below a boundary.
+fn is_apart<L: BorrowedBoundary>(end: Option<L>, boundary: &L) -> bool {
     match end {
-        Some(end) => end.compare(endpoint).is_lt(),
+        Some(end) => end.compare(boundary).is_lt(),
         None => false,
     }
 }
 
 /// Adds the boundaries of a span. `Err` means out of memory.
-fn push_boundaries<L: Endpoint>(
+fn push_boundaries<L: BorrowedBoundary>(
     span: &Span<L>,
     boundaries: &mut Vec<L::Boundary>,
 ) -> Result<(), AllocError> {

@@ -6,7 +6,7 @@ use crate::proved::version_sets::release::Release;
 use crate::proved::version_sets::{batch, boundaries};
 use crate::proved::semver_texts::grammar::Digits;
 use crate::proved::semver_versions::read_version::ReadVersion;
-use crate::proved::semver_versions::version::{Outline, Version};
+use crate::proved::semver_versions::version::{Version, VersionRef};
 
 /// A set of versions in a normal form: one list of boundaries for releases and one for
 /// pre-releases, each in ascending order of precedence (SemVer 2.0.0, section 11). A version is in
@@ -190,20 +190,20 @@ impl VersionSet {
     ///
     /// let dialect = Dialect::Npm;
     /// let set = sets::parse("^1.2.0", dialect)?;
-    /// let outline = version::outline_in(b"v1.9.0", dialect.grammar()).unwrap();
-    /// assert!(set.contains_outline(&outline));
+    /// let borrowed = version::read_ref_in(b"v1.9.0", dialect.grammar()).unwrap();
+    /// assert!(set.contains_ref(&borrowed));
     /// # Ok::<(), semver_parser::Error>(())
     /// ```
     #[must_use]
     #[inline(always)]
-    pub fn contains_outline(&self, outline: &Outline<'_>) -> bool {
-        if outline.is_pre_release() {
-            return boundaries::contains_outline(&self.pre_releases, outline, self.digits);
+    pub fn contains_ref(&self, borrowed: &VersionRef<'_>) -> bool {
+        if borrowed.is_pre_release() {
+            return boundaries::contains_ref(&self.pre_releases, borrowed, self.digits);
         }
         self.contains_release(Release {
-            major: outline.major(),
-            minor: outline.minor(),
-            patch: outline.patch(),
+            major: borrowed.major(),
+            minor: borrowed.minor(),
+            patch: borrowed.patch(),
         })
     }
 }

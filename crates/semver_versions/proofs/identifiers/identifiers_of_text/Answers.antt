@@ -3,7 +3,7 @@ use Rattle.std.proofs.lemmas.Result.{IfOk-weaker}
 use Rattle.semver_texts.proofs.Lists.{zip_same}
 use Rattle.semver_texts.specs.Texts.{cut_at_dots}
 use Rattle.semver_texts.specs.VersionViews.{identifier_value}
-use Rattle.semver_versions.specs.Outlines.{identifier_of}
+use Rattle.semver_versions.specs.VersionRefs.{identifier_of}
 use Rattle.semver_versions.proofs.identifiers.identifiers_of_text.Goals as goal
 
 pub returns-clause-kept : goal.returns-clause-kept

@@ -2,7 +2,7 @@ use Rattle.std.proofs.Common.{arith}
 use Rattle.semver_texts.specs.Texts.{cut_at_dots}
 use Rattle.semver_versions.specs.Steps.Reading.{hyphens_of}
 use Rattle.semver_versions.proofs.KeptTexts.{are_parts}
-use Rattle.semver_versions.proofs.ReadVersions.{has_outline, parts_fit, there_are_parts}
+use Rattle.semver_versions.proofs.ReadVersions.{has_version_ref, parts_fit, there_are_parts}
 use Rattle.semver_versions.proofs.reader.with_rest.Goals as goal
 
 pub returns-in_err-pre : goal.returns-in_err-pre
@@ -25,5 +25,5 @@ with_parts-requires c =
 pub returns : goal.returns
 returns c = λ text before n at.
     rw (c.with_parts.ensures, c.digits.ensures)
-    (has_outline c.args.grammar text c.args.rest.now c.in_ok-pre.pre.now c.in_ok-pre.build.now c.args.major c.args.minor c.args.patch n
+    (has_version_ref c.args.grammar text c.args.rest.now c.in_ok-pre.pre.now c.in_ok-pre.build.now c.args.major c.args.minor c.args.patch n
     c.in_ok-pre.ensures c.requires.fit before c.args.numbers_end at)

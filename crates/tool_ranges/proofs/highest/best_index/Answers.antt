@@ -1,6 +1,6 @@
 use Rattle.std.proofs.Common.{◌≡◌, arith, get_or, length, option_map, refl, subst, true, Less, ◌↔◌}
 use Rattle.std.proofs.lemmas.Option.{slice_get-get_or}
-use Rattle.semver_versions.specs.Outlines.{OutlineValue, version_of}
+use Rattle.semver_versions.specs.VersionRefs.{VersionRefValue, version_of}
 use Rattle.semver_texts.specs.Versions.{PlainVersion}
 use Rattle.tool_ranges.specs.VersionRanges.{versions_grammar}
 use Rattle.tool_ranges.specs.Highest.{IsMember, order_for}
@@ -17,7 +17,7 @@ loop-at-preserved-in_default c =
 
 pub loop-at-preserved : goal.loop-at-preserved
 loop-at-preserved c =
-    let w = version_of c.in-Some.outline in
+    let w = version_of c.in-Some.borrowed in
     let one : IsMember (versions_grammar c.args.range.now) c.args.range.now.versions c.args.versions.now c.loop-at.at w.plain = record {
       text = get_or c.args.versions.now c.loop-at.at _;
       at = slice_get-get_or c.args.versions.now c.loop-at.at _ c.loop-at-test.true;
@@ -30,7 +30,7 @@ loop-at-preserved c =
     c.in-Some.ensures.0 in
     let said = mapped (c.is_above.result ≡ true) (λ (b : PlainVersion). (c.is_above.result ≡ true) ↔ (order_for c.args.lowest b w.plain ≡
     Less))
-    (λ (o : OutlineValue). (version_of o).plain) c.loop-at.best c.is_above.ensures in
+    (λ (o : VersionRefValue). (version_of o).plain) c.loop-at.best c.is_above.ensures in
     let step = stepped c.args.lowest (versions_grammar c.args.range.now) c.args.range.now.versions c.args.versions.now c.loop-at.at c.loop-at.found _ w.plain
     c.is_above.result one
     only said c.loop-at.invariant in
@@ -44,11 +44,11 @@ returns-in-Some-best c =
     let all : c.loop-at.at ≡ length c.args.versions.now = grind (arith, c.loop-at-test.false, c.loop-at.auto.at-end) in
     rw c.in-Some-best.is at (whole c.args.lowest (versions_grammar c.args.range.now) c.args.range.now.versions c.args.versions.now c.loop-at.found _ (inside _ _ _)
     (subst (λ n. IsBest c.args.lowest (versions_grammar c.args.range.now) c.args.range.now.versions c.args.versions.now n c.loop-at.found
-    (option_map (λ (o : OutlineValue). (version_of o).plain) c.loop-at.best)) all c.loop-at.invariant))
+    (option_map (λ (o : VersionRefValue). (version_of o).plain) c.loop-at.best)) all c.loop-at.invariant))
 
 pub returns-in-None : goal.returns-in-None
 returns-in-None c =
     let all : c.loop-at.at ≡ length c.args.versions.now = grind (arith, c.loop-at-test.false, c.loop-at.auto.at-end) in
     rw c.in-None.is at (whole c.args.lowest (versions_grammar c.args.range.now) c.args.range.now.versions c.args.versions.now c.loop-at.found _ (inside _ _ _)
     (subst (λ n. IsBest c.args.lowest (versions_grammar c.args.range.now) c.args.range.now.versions c.args.versions.now n c.loop-at.found
-    (option_map (λ (o : OutlineValue). (version_of o).plain) c.loop-at.best)) all c.loop-at.invariant))
+    (option_map (λ (o : VersionRefValue). (version_of o).plain) c.loop-at.best)) all c.loop-at.invariant))

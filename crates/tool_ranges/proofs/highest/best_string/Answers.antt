@@ -1,7 +1,7 @@
 use Rattle.std.proofs.Common.{subst}
 use Rattle.std.specs.Iterator.{Yields}
 use Rattle.tool_ranges.specs.VersionRanges.{versions_grammar}
-use Rattle.tool_ranges.proofs.HighestStrings.{best_found, none_yet, outline_taken, string_skipped}
+use Rattle.tool_ranges.proofs.HighestStrings.{best_found, none_yet, ref_taken, string_skipped}
 use Rattle.tool_ranges.proofs.highest.best_string.Goals as goal
 
 pub loop-version-init : goal.loop-version-init
@@ -15,15 +15,15 @@ loop-version-preserved-in_default g c =
 
 pub loop-version-preserved-then-is_above : goal.loop-version-preserved-then-is_above
 loop-version-preserved-then-is_above g c =
-    (outline_taken c.args.lowest (versions_grammar c.args.range.now) c.args.range.now.versions c.one_version_in.ensures.same_version
-    c.loop-version.yielded c.in-Some.version c.loop-version.found c.loop-version.best c.in-Some-member.outline c.is_above.result _
+    (ref_taken c.args.lowest (versions_grammar c.args.range.now) c.args.range.now.versions c.one_version_in.ensures.same_version
+    c.loop-version.yielded c.in-Some.version c.loop-version.found c.loop-version.best c.in-Some-member.borrowed c.is_above.result _
     c.as_bytes.ensures.value c.in-Some-member.ensures.0 c.in-Some-member.ensures.1 c.is_above.ensures c.loop-version.invariant).0
     c.if-is_above.true
 
 pub loop-version-preserved : goal.loop-version-preserved
 loop-version-preserved g c =
-    (outline_taken c.args.lowest (versions_grammar c.args.range.now) c.args.range.now.versions c.one_version_in.ensures.same_version
-    c.loop-version.yielded c.in-Some.version c.loop-version.found c.loop-version.best c.in-Some-member.outline c.is_above.result _
+    (ref_taken c.args.lowest (versions_grammar c.args.range.now) c.args.range.now.versions c.one_version_in.ensures.same_version
+    c.loop-version.yielded c.in-Some.version c.loop-version.found c.loop-version.best c.in-Some-member.borrowed c.is_above.result _
     c.as_bytes.ensures.value c.in-Some-member.ensures.0 c.in-Some-member.ensures.1 c.is_above.ensures c.loop-version.invariant).1
     c.if-is_above.false
 

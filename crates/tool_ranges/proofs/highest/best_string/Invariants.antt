@@ -1,5 +1,5 @@
 use Rattle.std.specs.Prelude.{option_map}
-use Rattle.semver_versions.specs.Outlines.{version_of}
+use Rattle.semver_versions.specs.VersionRefs.{version_of}
 use Rattle.tool_ranges.specs.VersionRanges.{versions_grammar}
 use Rattle.tool_ranges.proofs.HighestStrings.{IsBestString}
 use Rattle.tool_ranges.proofs.highest.best_string.Given as goal

@@ -2,7 +2,7 @@ use Rattle.std.proofs.Common.{◌≡◌, ◌∙◌, refl, subst, sym, IfOk, Bool
 use Rattle.semver_texts.specs.Texts.{Text}
 use Rattle.semver_texts.specs.Versions.{PlainVersion, VersionValue, without_build}
 use Rattle.semver_ranges.specs.declared.range_set.RangeError.{RangeError}
-use Rattle.semver_versions.specs.Outlines.{version_of}
+use Rattle.semver_versions.specs.VersionRefs.{version_of}
 use Rattle.version_sets.specs.declared.rules.PreReleases.{PreReleases}
 use Rattle.tool_ranges.specs.Dialects.{RefusesAs, SpellsAs, TreeOf}
 use Rattle.tool_ranges.specs.Meanings.{meant_by}

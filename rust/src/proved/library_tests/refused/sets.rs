@@ -270,7 +270,7 @@ fn contains(set: &VersionSet, text: &str) -> bool {
 
 /// Returns whether a version, which is read without a request, is in a set.
 fn has_stated(set: &VersionSet, text: &str) -> bool {
-    version::outline(text).is_some_and(|outline| set.contains_outline(&outline))
+    version::read_ref(text).is_some_and(|borrowed| set.contains_ref(&borrowed))
 }
 
 /// Returns whether a set is a subset of another.

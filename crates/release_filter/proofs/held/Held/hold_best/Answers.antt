@@ -1,7 +1,7 @@
 use Rattle.std.proofs.Common.{◌≡◌, ◌≤◌, ◌++◌, ◌∷◌, ◌∙◌, [], List, ap, arith, length, map, sym}
 use Rattle.std.proofs.lemmas.List.{length-map}
 use Rattle.semver_texts.specs.Texts.{Text}
-use Rattle.semver_versions.specs.Outlines.{version_of}
+use Rattle.semver_versions.specs.VersionRefs.{version_of}
 use Rattle.release_filter.specs.Selections.{SelectedValue}
 use Rattle.release_filter.specs.Steps.Sorting.{is_better}
 use Rattle.release_filter.specs.Steps.Taking.{selected_value}
@@ -13,7 +13,7 @@ pub returns-then-not-is_better-clause-best : goal.returns-then-not-is_better-cla
 returns-then-not-is_better-clause-best c =
     let w = c.args.self.now.selection in
     let lines = c.args.self.now.lines.items in
-    let version = (version_of c.args.outline.now).plain in
+    let version = (version_of c.args.borrowed.now).plain in
     let few : length (map selected_value lines) ≤ 1 =
     omega (arith, length-map lines selected_value, c.args.self.now.few (best_wanted w c.requires)) in
     let told = ap (λ (l : List SelectedLine). is_better w version (map selected_value l)) (sym c.as_slice.ensures.value)
@@ -25,7 +25,7 @@ pub returns-clause-best : goal.returns-clause-best
 returns-clause-best c =
     let w = c.args.self.now.selection in
     let lines = c.args.self.now.lines.items in
-    let version = (version_of c.args.outline.now).plain in
+    let version = (version_of c.args.borrowed.now).plain in
     let k : SelectedValue = record { version = version; line = c.args.line.now } in
     let few : length (map selected_value lines) ≤ 1 =
     omega (arith, length-map lines selected_value, c.args.self.now.few (best_wanted w c.requires)) in

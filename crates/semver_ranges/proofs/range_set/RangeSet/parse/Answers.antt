@@ -1,6 +1,6 @@
 use Rattle.std.proofs.Common.{[], refl}
-use Rattle.semver_ranges.proofs.AnswerLaws.{refusals, as_rewritten, meaning, releases, implied}
-use Rattle.semver_ranges.proofs.AnswerLaws.{printable, reads_back}
+use Rattle.semver_ranges.proofs.ResultLaws.{refusals, as_rewritten, meaning, releases, implied}
+use Rattle.semver_ranges.proofs.ResultLaws.{printable, reads_back}
 use Rattle.semver_ranges.proofs.range_set.RangeSet.parse.Goals as goal
 
 pub returns-clause-refusals : goal.returns-clause-refusals

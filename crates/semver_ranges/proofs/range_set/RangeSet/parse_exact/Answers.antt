@@ -1,6 +1,6 @@
 use Rattle.semver_ranges.specs.ExactBounds.{lowest_pre_release}
-use Rattle.semver_ranges.proofs.AnswerLaws.{refusals, as_rewritten, exact_meaning, exact_printable}
-use Rattle.semver_ranges.proofs.AnswerLaws.{printed_back, reads_back}
+use Rattle.semver_ranges.proofs.ResultLaws.{refusals, as_rewritten, exact_meaning, exact_printable}
+use Rattle.semver_ranges.proofs.ResultLaws.{printed_back, reads_back}
 use Rattle.semver_ranges.proofs.range_set.RangeSet.parse_exact.Goals as goal
 
 pub returns-clause-refusals : goal.returns-clause-refusals

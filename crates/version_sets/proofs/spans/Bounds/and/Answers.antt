@@ -3,7 +3,7 @@ use Rattle.semver_texts.specs.Precedence.{precedence}
 use Rattle.semver_texts.specs.Steps.PrecedenceLaws.{precedence_total}
 use Rattle.version_sets.specs.Steps.Spans.{is_between}
 use Rattle.version_sets.proofs.SpanLaws.{between-both}
-use Rattle.version_sets.proofs.HeldEndpoints.{and_hold}
+use Rattle.version_sets.proofs.HeldBoundaries.{and_hold}
 use Rattle.version_sets.proofs.spans.Bounds.and.Goals as goal
 
 pub returns-clause-meaning : goal.returns-clause-meaning

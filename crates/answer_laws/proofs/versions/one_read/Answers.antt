@@ -1,5 +1,0 @@
-use Rattle.answer_laws.proofs.VersionAnswers.{one_read}
-use Rattle.answer_laws.proofs.versions.one_read.Goals as goal
-
-pub returns : goal.returns
-returns c = record { one = one_read _ _ _ c.read.ensures.exact c.read-2.ensures.exact }

@@ -1,0 +1,6 @@
+pub mod OneResult
+pub mod SameSets
+pub mod LowestVersions
+pub mod RangeResults
+pub mod VersionResults
+pub mod OneRefusal

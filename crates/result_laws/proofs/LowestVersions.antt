@@ -1,0 +1,60 @@
+-- serves: result_laws::sets::one_lowest
+-- There is one lowest version.
+use Rattle.std.proofs.Common.{IfSome, ◌≡◌, ◌≢◌, ◌↔◌, [], refl, sym, ap, ◌∙◌, Option, Some, None, option_map}
+use Rattle.std.specs.Cmp.{IsTotalOrder}
+use Rattle.std.specs.Ordering.{ordering_reverse}
+use Rattle.std.specs.declared.cmp.Ordering.{Ordering}
+use Rattle.std.specs.declared.cmp.Ordering.TheVariants.{Less, Equal, Greater}
+use Rattle.semver_texts.specs.Digits.{plain_kept}
+use Rattle.semver_parser.specs.Precedence.{precedence}
+use Rattle.semver_parser.specs.Versions.{PlainVersion}
+use Rattle.semver_parser.specs.VersionViews.{version_value}
+use Rattle.semver_parser.specs.declared.version.Version.{Version}
+use Rattle.version_sets.specs.VersionSets.{SetValue, Fits, IsIn, IsLowest, IsRelease, HasNone}
+use Rattle.version_sets.specs.Comparisons.{IsLowestOf, TellsLowest}
+use Rattle.version_sets.specs.Releases.{release_value}
+use Rattle.version_sets.specs.declared.Release.{Release}
+use Rattle.result_laws.proofs.SameSets.{plainly}
+
+module _ (total : IsTotalOrder precedence) (exact : (v w : PlainVersion) → (precedence v w ≡ Equal) ↔ (v ≡ w)) where
+  -- of which neither is below the other
+  level : (v w : PlainVersion) → precedence v w ≢ Less → precedence w v ≢ Less → v ≡ w
+  level v w p q = by_order (precedence v w) refl
+    where
+      by_order : (o : Ordering) → precedence v w ≡ o → v ≡ w
+      by_order Less e = absurd (p e)
+      by_order Equal e = (exact v w).0 e
+      by_order Greater e = absurd (q (total.antisymm w v ∙ ap ordering_reverse e))
+
+  pub one_lowest : (IsOne : PlainVersion → Type 0) (x y : Option Version) → TellsLowest IsOne x → TellsLowest IsOne y
+      → option_map version_value x ≡ option_map version_value y
+  one_lowest IsOne None None p q = refl
+  one_lowest IsOne None (Some w) p q = absurd (p _ q.1.is_one)
+  one_lowest IsOne (Some v) None p q = absurd (q _ p.1.is_one)
+  one_lowest IsOne (Some v) (Some w) p q =
+      let plain : p.0.plain ≡ q.0.plain = level _ _ (q.1.lowest _ p.1.is_one) (p.1.lowest _ q.1.is_one) in
+      let build : p.0.build ≡ q.0.build = p.1.no_build ∙ sym q.1.no_build in
+      ap Some (p.2 ∙ (λ i. record { plain = plain_kept (plain i); build = build i }) ∙ sym q.2)
+
+  pub one_lowest_release : (set : SetValue) (x y : Option Release) → IfSome x (λ r. IsLowest IsRelease set (release_value r))
+      → (x ≡ None) ↔ HasNone IsRelease set → IfSome y (λ r. IsLowest IsRelease set (release_value r))
+      → (y ≡ None) ↔ HasNone IsRelease set → x ≡ y
+  one_lowest_release set None y p n q n' = sym (n'.1 (n.0 refl))
+  one_lowest_release set x None p n q n' = n.1 (n'.0 refl)
+  one_lowest_release set (Some a) (Some b) p n q n' =
+      let e = level (release_value a) (release_value b) (q.lowest (release_value a) p.is_of_kind p.is_in)
+      (p.lowest (release_value b) q.is_of_kind q.is_in) in
+      ap Some (λ i. record { major = (e i).major; minor = (e i).minor; patch = (e i).patch })
+
+-- what the clauses of `lowest` say, as one of `compare` does
+pub lower_one : (set : SetValue) (x : Option Version)
+    → IfSome x (λ version. (v : PlainVersion) × IsLowest Fits set v × ((version_value version).plain ≡ plain_kept v))
+    → IfSome x (λ v. (version_value v).build ≡ []) → (x ≡ None) ↔ HasNone Fits set → TellsLowest (λ v. Fits v × IsIn v set) x
+lower_one set None lowest no_build none = λ v one. none.0 refl v one.0 one.1
+lower_one set (Some version) (v, lowest, is) no_build none =
+    let tells : IsLowestOf (λ v. Fits v × IsIn v set) (plainly v) = record {
+      is_one = (lowest.is_of_kind, lowest.is_in);
+      no_build = refl;
+      lowest = λ w one. lowest.lowest w one.0 one.1;
+    } in
+    (plainly v, tells, λ i. record { plain = is i; build = no_build i })

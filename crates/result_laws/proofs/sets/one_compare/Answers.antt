@@ -1,0 +1,18 @@
+use Rattle.result_laws.specs.SameSets.{comparison_value}
+use Rattle.result_laws.proofs.LowestVersions.{one_lowest}
+use Rattle.result_laws.proofs.OneResult.{said}
+use Rattle.result_laws.proofs.SameSets.{one_combined_answer}
+use Rattle.result_laws.proofs.sets.one_compare.Goals as goal
+
+pub returns : goal.returns
+returns c =
+    let law = c.precedence_is_total.ensures in
+    let r = c.compare.ensures in
+    let s = c.compare-2.ensures in
+    record {
+      one = one_combined_answer comparison_value _ _ _ r.refused s.refused (λ a b is is'.
+          let lost = one_lowest law.total law.same _ a.lost b.lost (said _ is r.lost) (said _ is' s.lost) in
+          let gained = one_lowest law.total law.same _ a.gained b.gained (said _ is r.gained) (said _ is' s.gained) in
+          let shared = one_lowest law.total law.same _ a.shared b.shared (said _ is r.shared) (said _ is' s.shared) in
+          λ i. record { lost = lost i; gained = gained i; shared = shared i });
+    }

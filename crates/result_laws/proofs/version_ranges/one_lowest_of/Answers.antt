@@ -1,0 +1,10 @@
+use Rattle.std.specs.Prelude.{true}
+use Rattle.tool_ranges.specs.VersionRanges.{versions_grammar}
+use Rattle.tool_ranges.proofs.OneHighest.{one_found}
+use Rattle.result_laws.proofs.version_ranges.one_lowest_of.Goals as goal
+
+pub returns : goal.returns
+returns c = record {
+  one = one_found true (versions_grammar c.args.range.now) c.args.range.now.versions c.args.versions.now _ _ c.lowest_of.ensures
+      c.lowest_of-2.ensures;
+}

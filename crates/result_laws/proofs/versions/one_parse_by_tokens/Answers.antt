@@ -1,0 +1,8 @@
+use Rattle.result_laws.proofs.VersionResults.{unless_both}
+use Rattle.result_laws.proofs.versions.one_parse_by_tokens.Goals as goal
+
+pub returns : goal.returns
+returns c = record {
+  one = unless_both _ _ (c.one_outcome.ensures.same_outcome c.args.input.now _ _) c.parse_by_tokens.ensures.outcome
+      c.parse_by_tokens-2.ensures.outcome;
+}

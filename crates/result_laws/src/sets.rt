@@ -1,0 +1,199 @@
+//! Functions that return a set of versions, or a fact about sets.
+
+ghost use Rattle.std.specs.Prelude.{◌≡◌, alloc_error, IfOk, option_map};
+ghost use Rattle.semver_parser.specs.VersionViews.{version_value};
+ghost use Rattle.semver_parser.specs.VersionRefs.{version_of};
+ghost use Rattle.semver_texts.specs.Digits.{digits_in};
+ghost use Rattle.tool_ranges.specs.Dialects.{grammar_of};
+ghost use Rattle.version_sets.specs.VersionSets.{Fits};
+ghost use Rattle.result_laws.specs.OneResult.{AreOne, itself};
+ghost use Rattle.result_laws.specs.SameSets.{AreAlike, comparison_value};
+
+use semver_parser::version::{Version, VersionRef};
+use semver_parser::{RangeError, laws};
+use semver_texts::grammar::Digits;
+use std::alloc::{AllocError, Global};
+use tool_ranges::meaning::{self, Meaning};
+use version_sets::laws::{one_set, sets_are_normal};
+use version_sets::{Comparison, Release, SetError, VersionSet};
+
+/// Two results of a function that reads a range, for the same inputs.
+type Read = (
+    Result<VersionSet, RangeError>,
+    Result<VersionSet, RangeError>,
+);
+
+/// Two results of a function that combines two sets, for the same inputs.
+type Combined = (Result<VersionSet, SetError>, Result<VersionSet, SetError>);
+
+/// Two sets are equal if they read numeric identifiers in the same way and contain the same
+/// versions. It does nothing.
+fn are_alike(first: &VersionSet, second: &VersionSet)
+    ensures alike { AreAlike first.now second.now }
+{
+    one_set();
+    sets_are_normal(first);
+    sets_are_normal(second);
+}
+
+/// The same law for two sets that were returned. It does nothing.
+fn results_are_alike<E>(first: &Result<VersionSet, E>, second: &Result<VersionSet, E>)
+    ensures alike { IfOk first.now (λ a. IfOk second.now (AreAlike a)) }
+{
+    let Ok(first) = first else {
+        return;
+    };
+    let Ok(second) = second else {
+        return;
+    };
+    are_alike(first, second);
+}
+
+/// `meaning::read` has only one permitted result.
+pub fn one_read(alloc: Global, meaning: Meaning, range: &str) -> Read
+    ensures one { AreOne RangeError.OutOfMemory itself result.0 result.1 }
+{
+    let first = meaning::read(alloc, meaning, range);
+    let second = meaning::read(alloc, meaning, range);
+    results_are_alike(&first, &second);
+    (first, second)
+}
+
+/// `meaning::satisfies` has only one permitted result.
+pub fn one_satisfies(
+    version: &VersionRef<'_>,
+    range: &str,
+    meaning: Meaning,
+) -> (Result<bool, RangeError>, Result<bool, RangeError>)
+    ensures one { result.0 ≡ result.1 }
+{
+    (
+        meaning::satisfies(version, range, meaning),
+        meaning::satisfies(version, range, meaning),
+    )
+}
+
+/// `meaning::satisfies` returns whether the set of the range contains the version, whose numeric
+/// identifiers are read as in the dialect.
+pub fn satisfies_as_the_set(
+    alloc: Global,
+    version: &VersionRef<'_>,
+    range: &str,
+    meaning: Meaning,
+) -> (Result<bool, RangeError>, Result<bool, RangeError>)
+    requires { version.now.digits ≡ digits_in (grammar_of meaning.dialect) }
+    ensures same { AreOne RangeError.OutOfMemory itself result.0 result.1 }
+{
+    semver_versions::laws::numbers_of_refs_fit(version);
+    let contains = match meaning::read(alloc, meaning, range) {
+        Ok(set) => Ok(set.contains_ref(version)),
+        Err(error) => Err(error),
+    };
+    (contains, meaning::satisfies(version, range, meaning))
+}
+
+/// `VersionSet::union` has only one permitted result.
+pub fn one_union(alloc: Global, set: &VersionSet, other: &VersionSet) -> Combined
+    ensures one { AreOne SetError.OutOfMemory itself result.0 result.1 }
+{
+    let first = set.union(alloc, other);
+    let second = set.union(alloc, other);
+    results_are_alike(&first, &second);
+    (first, second)
+}
+
+/// `VersionSet::intersection` has only one permitted result.
+pub fn one_intersection(alloc: Global, set: &VersionSet, other: &VersionSet) -> Combined
+    ensures one { AreOne SetError.OutOfMemory itself result.0 result.1 }
+{
+    let first = set.intersection(alloc, other);
+    let second = set.intersection(alloc, other);
+    results_are_alike(&first, &second);
+    (first, second)
+}
+
+/// `VersionSet::difference` has only one permitted result.
+pub fn one_difference(alloc: Global, set: &VersionSet, other: &VersionSet) -> Combined
+    ensures one { AreOne SetError.OutOfMemory itself result.0 result.1 }
+{
+    let first = set.difference(alloc, other);
+    let second = set.difference(alloc, other);
+    results_are_alike(&first, &second);
+    (first, second)
+}
+
+/// `VersionSet::empty` has only one permitted result.
+pub fn one_empty(alloc: Global, digits: Digits) -> (VersionSet, VersionSet)
+    ensures one { result.0 ≡ result.1 }
+{
+    let first = VersionSet::empty(alloc, digits);
+    let second = VersionSet::empty(alloc, digits);
+    are_alike(&first, &second);
+    (first, second)
+}
+
+/// `VersionSet::only_releases` has only one permitted result. It is called for two equal sets,
+/// since it consumes its argument.
+pub fn one_only_releases(
+    alloc: Global,
+    set: VersionSet,
+    equal_set: VersionSet,
+) -> (VersionSet, VersionSet)
+    requires { set ≡ equal_set }
+    ensures one { result.0 ≡ result.1 }
+{
+    let first = set.only_releases(alloc);
+    let second = equal_set.only_releases(alloc);
+    are_alike(&first, &second);
+    (first, second)
+}
+
+/// `VersionSet::only_pre_releases` has only one permitted result. It is called for two equal sets,
+/// since it consumes its argument.
+pub fn one_only_pre_releases(
+    alloc: Global,
+    set: VersionSet,
+    equal_set: VersionSet,
+) -> (VersionSet, VersionSet)
+    requires { set ≡ equal_set }
+    ensures one { result.0 ≡ result.1 }
+{
+    let first = set.only_pre_releases(alloc);
+    let second = equal_set.only_pre_releases(alloc);
+    are_alike(&first, &second);
+    (first, second)
+}
+
+/// `VersionSet::lowest` has only one permitted result.
+pub fn one_lowest(
+    alloc: Global,
+    set: &VersionSet,
+) -> (
+    Result<Option<Version>, AllocError>,
+    Result<Option<Version>, AllocError>,
+)
+    ensures one { AreOne alloc_error (option_map version_value) result.0 result.1 }
+{
+    laws::precedence_is_total();
+    (set.lowest(alloc), set.lowest(alloc))
+}
+
+/// `VersionSet::lowest_release` has only one permitted result.
+pub fn one_lowest_release(set: &VersionSet) -> (Option<Release>, Option<Release>)
+    ensures one { result.0 ≡ result.1 }
+{
+    laws::precedence_is_total();
+    (set.lowest_release(), set.lowest_release())
+}
+
+/// `VersionSet::compare` has only one permitted result.
+pub fn one_compare(
+    alloc: Global,
+    set: &VersionSet,
+    new: &VersionSet,
+) -> (Result<Comparison, SetError>, Result<Comparison, SetError>)
+    ensures one { AreOne SetError.OutOfMemory comparison_value result.0 result.1 }
+{
+    laws::precedence_is_total();
+    (set.compare(alloc, new), set.compare(alloc, new))
+}

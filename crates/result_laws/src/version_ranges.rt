@@ -1,0 +1,150 @@
+//! Functions that read a range, combine two, or check versions against one.
+
+ghost use Rattle.std.specs.Prelude.{◌≡◌, IfOk, List};
+ghost use Rattle.result_laws.specs.OneResult.{AreOne, itself};
+ghost use Rattle.std.specs.Borrow.{Bor};
+ghost use Rattle.std.specs.Iterator.{Drains, IsFinite};
+ghost use Rattle.semver_texts.specs.Texts.{Text};
+ghost use Rattle.result_laws.specs.SameSets.{AreAlikeRanges};
+
+use semver_ranges::RangeError;
+use std::alloc::Global;
+use tool_ranges::laws::ranges_read_digits;
+use tool_ranges::meaning::Meaning;
+use tool_ranges::range_operations::OperationError;
+use tool_ranges::satisfying::SatisfiesError;
+use tool_ranges::version_range::VersionRange;
+use version_sets::laws::{one_set, sets_are_normal};
+
+/// Two results of a function that combines two ranges, for the same inputs.
+type Combined = (
+    Result<VersionRange, OperationError>,
+    Result<VersionRange, OperationError>,
+);
+
+/// Two ranges that were returned are equal if they have the same meaning and contain the same
+/// versions. It does nothing.
+fn results_are_alike<E>(first: &Result<VersionRange, E>, second: &Result<VersionRange, E>)
+    ensures alike { IfOk first.now (λ a. IfOk second.now (AreAlikeRanges a)) }
+{
+    one_set();
+    let Ok(first) = first else {
+        return;
+    };
+    let Ok(second) = second else {
+        return;
+    };
+    sets_are_normal(first.versions());
+    sets_are_normal(second.versions());
+    ranges_read_digits(first);
+    ranges_read_digits(second);
+}
+
+/// `VersionRange::parse` has only one permitted result.
+pub fn one_range(
+    alloc: Global,
+    range: &str,
+    meaning: Meaning,
+) -> (
+    Result<VersionRange, RangeError>,
+    Result<VersionRange, RangeError>,
+)
+    ensures one { AreOne RangeError.OutOfMemory itself result.0 result.1 }
+{
+    let first = VersionRange::parse(alloc, range, meaning);
+    let second = VersionRange::parse(alloc, range, meaning);
+    results_are_alike(&first, &second);
+    (first, second)
+}
+
+/// `VersionRange::contains_bytes` has only one permitted result.
+pub fn one_contains(
+    range: &VersionRange,
+    version: &[u8],
+) -> (Result<bool, SatisfiesError>, Result<bool, SatisfiesError>)
+    ensures one { result.0 ≡ result.1 }
+{
+    semver_versions::laws::one_version_in();
+    (range.contains_bytes(version), range.contains_bytes(version))
+}
+
+/// `VersionRange::highest_of` has only one permitted result.
+pub fn one_highest_of(range: &VersionRange, versions: &[&[u8]]) -> (Option<usize>, Option<usize>)
+    ensures one { result.0 ≡ result.1 }
+{
+    (range.highest_of(versions), range.highest_of(versions))
+}
+
+/// `VersionRange::lowest_of` has only one permitted result.
+pub fn one_lowest_of(range: &VersionRange, versions: &[&[u8]]) -> (Option<usize>, Option<usize>)
+    ensures one { result.0 ≡ result.1 }
+{
+    (range.lowest_of(versions), range.lowest_of(versions))
+}
+
+/// `VersionRange::highest_among` has only one permitted result. It is called with two iterators
+/// that return the same strings, since it consumes its argument.
+pub fn one_highest_among<'v, I: Iterator<Item = &'v str> + Drop>(
+    range: &VersionRange,
+    versions: I,
+    same_versions: I,
+) -> (Option<&'v str>, Option<&'v str>)
+    requires can { I.can_next versions × I.can_next same_versions }
+    requires end { IsFinite (I.remaining versions) × IsFinite (I.remaining same_versions) }
+    requires same { (xs ys : List (Bor Text)) → Drains I.next_gives versions xs
+        → Drains I.next_gives same_versions ys → xs ≡ ys }
+    ensures one { result.0 ≡ result.1 }
+{
+    (
+        range.highest_among(versions),
+        range.highest_among(same_versions),
+    )
+}
+
+/// `VersionRange::lowest_among` has only one permitted result, too.
+pub fn one_lowest_among<'v, I: Iterator<Item = &'v str> + Drop>(
+    range: &VersionRange,
+    versions: I,
+    same_versions: I,
+) -> (Option<&'v str>, Option<&'v str>)
+    requires can { I.can_next versions × I.can_next same_versions }
+    requires end { IsFinite (I.remaining versions) × IsFinite (I.remaining same_versions) }
+    requires same { (xs ys : List (Bor Text)) → Drains I.next_gives versions xs
+        → Drains I.next_gives same_versions ys → xs ≡ ys }
+    ensures one { result.0 ≡ result.1 }
+{
+    (
+        range.lowest_among(versions),
+        range.lowest_among(same_versions),
+    )
+}
+
+/// `VersionRange::union` has only one permitted result.
+pub fn one_union(alloc: Global, range: &VersionRange, other: &VersionRange) -> Combined
+    ensures one { AreOne OperationError.OutOfMemory itself result.0 result.1 }
+{
+    let first = range.union(alloc, other);
+    let second = range.union(alloc, other);
+    results_are_alike(&first, &second);
+    (first, second)
+}
+
+/// `VersionRange::intersection` has only one permitted result.
+pub fn one_intersection(alloc: Global, range: &VersionRange, other: &VersionRange) -> Combined
+    ensures one { AreOne OperationError.OutOfMemory itself result.0 result.1 }
+{
+    let first = range.intersection(alloc, other);
+    let second = range.intersection(alloc, other);
+    results_are_alike(&first, &second);
+    (first, second)
+}
+
+/// `VersionRange::difference` has only one permitted result.
+pub fn one_difference(alloc: Global, range: &VersionRange, other: &VersionRange) -> Combined
+    ensures one { AreOne OperationError.OutOfMemory itself result.0 result.1 }
+{
+    let first = range.difference(alloc, other);
+    let second = range.difference(alloc, other);
+    results_are_alike(&first, &second);
+    (first, second)
+}

@@ -1,0 +1,470 @@
+#!/bin/sh
+# Runs check-lock-file and compare-requirements on the cases of python/cases, and compares what they
+# print with what is beside them. It installs nothing, is beside the gate, and needs cargo, a C
+# compiler, git and python3 with PyYAML (Debian: apt-get install cargo gcc git python3 python3-yaml).
+set -eu
+top=$(dirname -- "$(dirname -- "$(dirname -- "$(readlink -f -- "$0")")")")
+cd "$top"
+. tools/built.sh
+. tests/parallel/same.sh
+for tool in cargo "${CC:-cc}" git python3; do
+    command -v "${tool%% *}" > /dev/null || refuse "needs $tool: apt-get install cargo gcc git python3"
+done
+begin
+library=out/lib/libsemver_parser.so.$(cat VERSION)
+again "$library" || refuse 'cannot build the C library'
+export SEMVER_PARSER_LIBRARY="$top/$library" PYTHONDONTWRITEBYTECODE=1
+unset PYTHONPATH $(git rev-parse --local-env-vars)
+cd python
+check=bin/check-lock-file compare=bin/compare-requirements
+fields="$check --quiet --format tsv"
+
+# The modules by themselves.
+python3 -W error -m unittest tests.test_checkers 2> "$work/log" || { cat "$work/log" && exit 1; }
+echo 'modules: passed'
+
+# checked STATUS FILE [--strict]: checks a file of cases/. Its fields are beside it, and the error,
+# if there is one; those of --strict in other files.
+checked() {
+    stored=cases/${2%.*}${3:+.strict}
+    lines=$stored.expected told=$stored.told
+    [ -e "$lines" ] || lines=/dev/null
+    [ -e "$told" ] || told=/dev/null
+    same "${3:+$3 }$2" "$1" /dev/null "$lines" "$told" $fields ${3:+"$3"} "cases/$2"
+}
+
+# checked_as_named STATUS NAME: checks a Cargo.lock of cases/cargo-lock, as `checked`, in a copy in
+# which each Cargo.toml.case is Cargo.toml. For a dependency by `git = URL` cargo reads each Cargo.toml
+# of this repository, and prints an error for a manifest of another shape; one that is older than
+# 1.94 also prints one for TOML 1.1.
+checked_as_named() {
+    stored=cases/cargo-lock/$2 copy=$work/named/cases/cargo-lock/$2
+    lines=$stored/Cargo.expected told=$stored/Cargo.told
+    [ -e "$lines" ] || lines=/dev/null
+    [ -e "$told" ] || told=/dev/null
+    mkdir -p "${copy%/*}" && cp -R "$stored" "$copy"
+    find "$copy" -name Cargo.toml.case -execdir mv {} Cargo.toml \;
+    same "$2/Cargo.lock" "$1" /dev/null "$lines" "$told" \
+        sh -c 'cd "$1" && shift && exec "$@"' - "$work/named" "$PWD/"$fields "$stored/Cargo.lock"
+}
+
+# refused TOLD INPUT PROGRAM ARGUMENT..: runs a program on an input, which has to report that and to
+# print nothing.
+refused() {
+    echo "$1" > "$work/told"
+    input=$2
+    shift 2
+    same "$*" 2 "$input" /dev/null "$work/told" "$@"
+}
+
+# ---- npm
+
+for name in package-lock version-1 version-2 links missing peers kinds accepted any archives archives-1 names ranges aliases aliases-1 versions overrides/package-lock canaries tags \
+    unread from-npm/package-lock stale/package-lock workspaces/package-lock workspaces-1/package-lock legacy-peers/package-lock overrides-turn/package-lock workspaces-stale/package-lock overrides-conflict/package-lock overrides-linked/package-lock overrides-late/package-lock peers-conflict/package-lock peers-strict/package-lock fetched/package-lock gone-links/requires-1 gone-links/requires-3; do
+    checked 1 "$name.json"
+done
+for name in nothing-wrong canaries-right left-alone/package-lock own-versions/package-lock hidden/node_modules/.package-lock \
+    peers-overridden/package-lock gone-links/version-1 gone-links/version-2 gone-links/version-3; do
+    checked 0 "$name.json"
+done
+cp -R cases/hidden "$work" && sed -i -f cases/hidden/broken.sed "$work/hidden/node_modules/.package-lock.json"
+same 'a lock file in node_modules' 1 /dev/null cases/hidden/broken.expected /dev/null \
+    $fields "$work/hidden/node_modules/.package-lock.json"
+same 'a lock file in the current node_modules' 1 /dev/null cases/hidden/broken.expected /dev/null \
+    sh -c 'cd "$1" && shift && exec "$@"' - "$work/hidden/node_modules" "$PWD/$check" --quiet --format tsv .package-lock.json
+for name in missing version-1 archives-1 left-alone/package-lock peers-conflict/package-lock peers-overridden/package-lock overrides-1/package-lock from-npm/package-lock canaries tags unread stale/package-lock; do
+    checked 1 "$name.json" --strict
+done
+for name in nothing-wrong canaries-right; do checked 0 "$name.json" --strict; done
+for name in cut-off another-file another-shape another-version; do checked 2 "$name.json"; done
+
+# ---- what cargo metadata writes
+
+for name in workspace one-platform several-targets other-names canaries-right; do checked 0 "cargo/$name.json"; done
+for name in workspace other-names canaries-right; do checked 0 "cargo/$name.json" --strict; done
+for name in one-platform several-targets; do checked 1 "cargo/$name.json" --strict; done
+checked 1 cargo/made.json
+checked 1 cargo/made.json --strict
+checked 1 cargo/canaries.json
+for name in no-graph no-node no-package another-format; do checked 2 "cargo/$name.json"; done
+
+# ---- Cargo.lock, yarn and pnpm
+
+if python3 -c 'import tomllib' 2> /dev/null; then
+    for name in right package empty removed replaced; do checked 0 "cargo-lock/$name/Cargo.lock"; done
+    for name in wrong outside/workspace project root source no-source edges lost unreached beside patches not-replaced exchanged \
+        features checksums conflicts two-names unreplaced; do
+        checked 1 "cargo-lock/$name/Cargo.lock"
+    done
+    for name in alone no-member zero-path zero-pattern twice newer; do checked 2 "cargo-lock/$name/Cargo.lock"; done
+    checked_as_named 1 toml-1.1
+    checked_as_named 2 another-shape
+    cp -R cases/cargo-lock/right "$work/right" && cp "$work/right/Cargo.lock" "$work/right/app"
+    for path in app/Cargo.lock app; do
+        echo 'app/Cargo.lock: left out, since Cargo reads Cargo.lock' > "$work/note"
+        same "a Cargo.lock in a member, by $path" 0 /dev/null /dev/null "$work/note" \
+            sh -c 'cd "$1" && exec "$2" "$3"' - "$work/right" "$PWD/$check" "$path"
+    done
+    printf 'a = {\n    b = 1, # c\n}\nd\n' > "$work/right/Cargo.toml"
+    refused "check-lock-file: $work/right/Cargo.toml: it isn't TOML: Expected '=' after a key in a key/value pair (at line 4, column 2)" \
+        /dev/null $check "$work/right/Cargo.lock"
+    printf '[package]\nname = "a"\n[features]\nx = ["dep:y"]\n' > "$work/right/Cargo.toml"
+    refused "check-lock-file: $work/right/Cargo.toml: it is no Cargo.toml: features: x: dep:y isn't there" \
+        /dev/null $check "$work/right/Cargo.lock"
+    # refused_by_cargo WHY PACKAGE REST: has a Cargo.toml refused that Cargo refuses.
+    refused_by_cargo() {
+        printf '[package]\nname = "a"\nversion = "0.1.0"\n%b\n%b\n' "$2" "$3" > "$work/right/Cargo.toml"
+        refused "check-lock-file: $work/right/Cargo.toml: it is no Cargo.toml: $1" /dev/null $check "$work/right/Cargo.lock"
+    }
+    refused_by_cargo 'edition 2099 is unknown' 'edition = "2099"' ''
+    refused_by_cargo 'resolver 9 is unknown' 'resolver = "9"' ''
+    refused_by_cargo 'links is there without a build script' 'links = "z"' ''
+    refused_by_cargo 'it has a workspace and names another one' 'workspace = ".."' '[workspace]'
+    refused_by_cargo 'replace and patch are both there' '' '[replace]\n[patch.crates-io]'
+    refused_by_cargo 'target cfg(foo is invalid' '' '[target."cfg(foo".dependencies]'
+    refused_by_cargo 'target cfg(not(a, b)) is invalid' '' '[target."cfg(not(a, b))".dependencies]'
+    refused_by_cargo 'target foo bar is invalid' '' '[target."foo bar".dependencies]'
+    refused_by_cargo 'features: x requires itself' '' '[features]\nx = ["x"]'
+    refused_by_cargo 'features: x/y has a slash or dep:' '' '[features]\n"x/y" = []'
+    refused_by_cargo "features: x: y/z isn't there" '' '[features]\nx = ["y/z"]'
+    refused_by_cargo 'dev-dependencies: b: it is for development and optional' '' '[dev-dependencies]\nb = { version = "1", optional = true }'
+    refused_dependency() { refused_by_cargo "dependencies: b: $1" '' "[dependencies]\nb = { $2 }"; }
+    refused_dependency 'it has neither a version nor a place' ''
+    refused_dependency 'git and path are both there' 'path = "b", git = "https://example.org/b"'
+    refused_dependency 'git and registry are both there' 'git = "https://example.org/b", registry = "r"'
+    refused_dependency 'branch and tag are both there' 'git = "https://example.org/b", branch = "b", tag = "t"'
+    refused_dependency 'branch is there without git' 'version = "1", branch = "b"'
+    refused_dependency 'feature x/y has a slash or dep:' 'version = "1", features = ["x/y"]'
+    printf '[workspace]\n[dependencies]\n' > "$work/right/Cargo.toml"
+    refused "check-lock-file: $work/right/Cargo.toml: it is no Cargo.toml: dependencies is there without a package" \
+        /dev/null $check "$work/right/Cargo.lock"
+    for line in 'name = "1a"' 'name = "a b"'; do
+        printf '[package]\n%s\n' "$line" > "$work/right/Cargo.toml"
+        refused "check-lock-file: $work/right/Cargo.toml: it is no Cargo.toml: $(echo "$line" | cut -d '"' -f 2) is no name of a package" \
+            /dev/null $check "$work/right/Cargo.lock"
+    done
+    cp -R cases/cargo-lock/wrong "$work/[a]*"
+    same 'a directory whose name is a pattern' 1 /dev/null cases/cargo-lock/wrong/Cargo.expected /dev/null \
+        $fields "$work/[a]*/Cargo.lock"
+    sed -i '1,/^$/d' "$work/[a]*/Cargo.lock"
+    same 'an old Cargo.lock, without a head' 1 /dev/null cases/cargo-lock/wrong/Cargo.expected /dev/null \
+        $fields "$work/[a]*/Cargo.lock"
+    cp -R cases/cargo-lock/root "$work/root"
+    sed -i '/^$/,$d' "$work/root/Cargo.lock"
+    echo '0.3		app 0.1.0 requires below	missing' > "$work/lines"
+    same 'a Cargo.lock of a root alone' 1 /dev/null "$work/lines" /dev/null $fields "$work/root/Cargo.lock"
+else
+    echo 'Cargo.lock: skipped, since python3 is older than 3.11'
+fi
+checked 0 yarn/classic-right/yarn.lock
+checked 1 yarn/classic/yarn.lock
+checked 1 yarn/classic/yarn.lock --strict
+checked 0 yarn/berry-right/yarn.lock
+checked 1 yarn/berry/yarn.lock
+checked 1 yarn/berry/yarn.lock --strict
+for name in resolution resolutions keys stale stale-berry workspaces-berry gone; do checked 1 "yarn/$name/yarn.lock"; done
+for name in asked not-required; do checked 0 "yarn/$name/yarn.lock"; done
+checked 1 yarn/asked/yarn.lock --strict
+for name in cut-off one-name; do checked 2 "yarn/$name/yarn.lock"; done
+if python3 -c 'import yaml' 2> /dev/null; then
+    for version in 5 6 9; do
+        checked 0 "pnpm/right-$version.yaml"
+        checked 1 "pnpm/wrong-$version.yaml"
+    done
+    for name in stale workspaces settings projects entries; do checked 1 "pnpm/$name/pnpm-lock.yaml"; done
+    for name in peers entries-6 conflict; do checked 1 "pnpm/$name.yaml"; done
+    checked 1 pnpm/conflict.yaml --strict
+    for name in hooks settings-same; do checked 0 "pnpm/$name/pnpm-lock.yaml"; done
+    checked 2 pnpm/repeated.yaml
+    { cat cases/pnpm/repeated.yaml && printf 'x: &anchor {}\ny: *anchor\n'; } > "$work/lock"
+    refused "check-lock-file: standard input: line 10: the key numbers is there twice" "$work/lock" $check -
+    checked 1 pnpm/wrong-9.yaml --strict
+    checked 1 pnpm/documents/pnpm-lock.yaml
+    checked 2 pnpm/another-version.yaml
+else
+    echo 'pnpm: skipped, since PyYAML is not there'
+fi
+for name in right beside-same; do checked 0 "bun/$name/bun.lock"; done
+for name in wrong stale beside; do checked 1 "bun/$name/bun.lock"; done
+for name in right-4 right-5 beside-same; do checked 0 "deno/$name/deno.lock"; done
+for name in wrong beside; do checked 1 "deno/$name/deno.lock"; done
+for name in bun.lockb composer.lock deno.lock Gemfile.lock pdm.lock Pipfile.lock poetry.lock pylock.toml uv.lock; do
+    refused "$(grep "^check-lock-file: cases/others/$name: " cases/others/told)" /dev/null $check "cases/others/$name"
+done
+for name in npm-shrinkwrap.json yarn.lock; do checked 0 "empty/$name"; done
+for name in package-lock.json yarn.lock; do
+    refused "check-lock-file: cases/conflicts/$name: merge conflict at line 6" /dev/null $check "cases/conflicts/$name"
+done
+if python3 -c 'import tomllib, yaml' 2> /dev/null; then
+    for name in Cargo.lock pnpm-lock.yaml; do
+        refused "check-lock-file: cases/conflicts/$name: merge conflict at line 6" /dev/null $check "cases/conflicts/$name"
+    done
+fi
+{ echo '<<<<<<< HEAD' && cat cases/nothing-wrong.json; } > "$work/conflict"
+refused 'check-lock-file: standard input: merge conflict at line 1' "$work/conflict" $check -
+echo 'all' > "$work/unknown"
+refused 'check-lock-file: standard input: it is no lock file that is known' "$work/unknown" $check -
+
+# ---- files that are made of those of npm and Cargo, on standard input
+
+sed -f cases/from-npm/broken.sed cases/from-npm/package-lock.json > "$work/lock"
+same 'overrides of a named package.json' 1 "$work/lock" cases/from-npm/broken.expected /dev/null \
+    $fields --package-json cases/from-npm/package.json -
+same 'overrides of a named package.json, after =' 1 "$work/lock" cases/from-npm/broken.expected /dev/null \
+    $fields --package-json=cases/from-npm/package.json -
+printf '%s\n' '>1.2	1.0.0	node_modules/runner requires numbers' '^1.0.0	2.0.0	node_modules/runner requires router' |
+    cat cases/from-npm/package-lock.expected - > "$work/lines"
+same 'no overrides beside standard input' 1 cases/from-npm/package-lock.json "$work/lines" /dev/null \
+    sh -c 'cd "$1" && shift && exec "$@" -' - cases/from-npm "$PWD/"$fields
+same 'a package.json that was changed, named' 1 cases/stale/package-lock.json cases/stale/package-lock.expected \
+    /dev/null $fields --package-json cases/stale/package.json -
+echo '^3.0.0	2.0.0	the project requires removed' > "$work/lines"
+same 'no package.json beside standard input' 1 cases/stale/package-lock.json "$work/lines" /dev/null \
+    sh -c 'cd "$1" && shift && exec "$@" -' - cases/stale "$PWD/"$fields
+same 'no peers' 1 cases/legacy-peers/package-lock.json cases/legacy-peers/package-lock.expected /dev/null $fields --no-peers -
+sed -f cases/cargo/workspace-broken.sed cases/cargo/workspace.json > "$work/graph"
+same 'a graph that is broken' 1 "$work/graph" cases/cargo/workspace-broken.expected /dev/null $fields -
+for name in package-lock.json pnpm/wrong-9.yaml cargo/made.json; do
+    [ "$name" = pnpm/wrong-9.yaml ] && ! python3 -c 'import yaml' 2> /dev/null && continue
+    { printf '\357\273\277' && cat "cases/$name"; } > "$work/lock"
+    same "a byte order mark before $name" 1 "$work/lock" "cases/${name%.*}.expected" /dev/null $fields -
+done
+version=$(printf '%05000d' 0 | tr 0 9).0.0
+sed "s/\"version\": \"0.2.7\"/\"version\": \"$version\"/" cases/cargo/workspace.json > "$work/graph"
+printf '%s\n' "^0.2	$version	app 0.1.0 requires plain-parts" "	$version	plain-parts	invalid-version" > "$work/lines"
+same 'a number of 5,000 digits' 1 "$work/graph" "$work/lines" /dev/null $fields -
+
+# ---- what is misused, and what can't be read
+
+good=cases/nothing-wrong.json told=check-lock-file:
+nines=$(printf '%05000d' 0 | tr 0 9)
+if python3 -c 'import tomllib' 2> /dev/null; then
+    printf '[[package]]\na = %s\n' "$nines" > "$work/wrong"
+    refused "$told standard input: it isn't TOML" "$work/wrong" $check -
+fi
+if python3 -c 'import yaml' 2> /dev/null; then
+    for line in 'x: "\U00110000"' 'x: "\UFFFFFFFF"' "%YAML 1.$nines
+---"; do
+        printf '%s\nlockfileVersion: 9\n' "$line" > "$work/wrong"
+        refused "$told standard input: it isn't YAML" "$work/wrong" $check -
+    done
+    python3 -c 'print("lockfileVersion: 9.0\nx: " + "[" * 5000 + "]" * 5000)' > "$work/wrong"
+    refused "$told standard input: it is no lock file: it is nested too deep" "$work/wrong" $check -
+    sed 's/^importers:/x: \&anchor {}\ny: *anchor\nimporters:/' cases/pnpm/wrong-9.yaml > "$work/lock"
+    same 'a file of pnpm with an alias' 1 "$work/lock" cases/pnpm/wrong-9.expected /dev/null $fields -
+fi
+refused "$told nowhere: it can't be read: No such file or directory" /dev/null $check nowhere
+refused "$told standard input: it is no lock file that is known" /dev/null $check -
+for option in --npm --strict=yes --stric -s; do
+    refused "$told unknown option: \"$option\"; see check-lock-file --help" /dev/null $check $good $option
+done
+refused "$told --strict is given twice; see check-lock-file --help" /dev/null $check --strict $good --strict
+refused "$told --strict: it can't be read: No such file or directory" /dev/null $check -- --strict
+refused "$told --package-json has no value; see check-lock-file --help" /dev/null $check $good --package-json
+refused "$told --package-json has no value; see check-lock-file --help" /dev/null $check --package-json= $good
+refused "$told --package-json is given twice; see check-lock-file --help" /dev/null $check --package-json=a --package-json b $good
+refused "$told two files are standard input; see check-lock-file --help" /dev/null $check --package-json - -
+refused "$told nowhere: it can't be read: No such file or directory" /dev/null $check --package-json nowhere $good
+for name in pnpm/right-9.yaml cargo-lock/right/Cargo.lock cargo/workspace.json; do
+    refused "$told --package-json is for files of npm and yarn; see check-lock-file --help" /dev/null \
+        $check --package-json cases/from-npm/package.json "cases/$name"
+done
+# refused_manifest WHY JSON: has a package.json refused.
+refused_manifest() {
+    echo "$2" > "$work/package.json"
+    refused "$told standard input: it is no package.json: $1" "$work/package.json" $check --package-json - $good
+}
+refused_manifest "the file isn't an object" '[]'
+refused_manifest "dependencies isn't an object" '{"dependencies": []}'
+refused_manifest "devDependencies: a isn't a text" '{"devDependencies": {"a": 1}}'
+refused_manifest "peerDependenciesMeta: a isn't an object" '{"peerDependenciesMeta": {"a": true}}'
+refused_manifest "overrides isn't an object" '{"overrides": ["numbers"]}'
+refused_manifest "overrides: a: b isn't an object" '{"overrides": {"a": {"b": 1}}}'
+refused_manifest "overrides: a: . isn't a text" '{"overrides": {"a": {".": null}}}'
+refused_manifest 'overrides:  names no package' '{"overrides": {"": "1.0.0"}}'
+cp -R cases/workspaces "$work/workspaces" && echo '[]' > "$work/workspaces/packages/a/package.json"
+refused "$told $work/workspaces/packages/a/package.json: it is no package.json: the file isn't an object" /dev/null \
+    $check "$work/workspaces/package-lock.json"
+refused_manifest 'overrides: a@next has no range after its name' '{"overrides": {"a@next": "1.0.0"}}'
+
+echo '{"resolutions": ["numbers"]}' > "$work/package.json"
+refused "$told standard input: it is no package.json: resolutions isn't an object" "$work/package.json" \
+    $check --package-json - cases/yarn/classic/yarn.lock
+
+# has_help PROGRAM: its help and its version, also without the library, and at an output that can't
+# be written.
+has_help() {
+    "$1" --help > "$work/page"
+    head -n 1 "$work/page" > "$work/usage"
+    grep -q "^usage: ${1##*/} " "$work/usage"
+    echo "${1##*/} $(cat ../VERSION)" > "$work/version"
+    for library in "$SEMVER_PARSER_LIBRARY" /nowhere; do
+        same "${1##*/} -h" 0 /dev/null "$work/page" /dev/null env SEMVER_PARSER_LIBRARY="$library" "$1" nowhere -h
+        same "${1##*/} --version" 0 /dev/null "$work/version" /dev/null env SEMVER_PARSER_LIBRARY="$library" "$1" --version
+    done
+    echo "${1##*/}: the output can't be written: No space left on device" > "$work/no-output"
+    same "${1##*/}, no output" 2 /dev/null /dev/null "$work/no-output" sh -c 'exec "$@" > /dev/full' - "$1" -h
+}
+has_help $check
+has_help $compare
+refused "$(cat "$work/usage")" /dev/null $compare
+refused "$(cat "$work/usage")" /dev/null $compare nowhere nowhere nowhere
+same 'a reader that closes the pipe' 1 /dev/null /dev/null /dev/null sh -c '
+    { status=0; "$@" || status=$?; echo "$status" > "$0"; } | :
+    exit "$(cat "$0")"' "$work/status" $fields cases/package-lock.json
+
+# Who opens the pipe to write waits until the program has opened it to read.
+cat > "$work/interrupt.py" <<'END'
+import signal, subprocess, sys
+signal.signal(signal.SIGINT, signal.default_int_handler)
+program = subprocess.Popen(sys.argv[1:])
+with open(sys.argv[2], "w"):
+    program.send_signal(signal.SIGINT)
+    sys.exit(program.wait() != -signal.SIGINT)
+END
+mkfifo "$work/pipe"
+same 'an interrupt' 0 /dev/null /dev/null /dev/null python3 "$work/interrupt.py" $check "$work/pipe"
+# without_library PROGRAM ARGUMENT..: ends as after any error without the library, also as pip installs
+# it.
+without_library() {
+    entry=$(sed -n "s/^${1##*/} = \"\(.*\):\(.*\)\"$/from \1 import \2 as main/p" ../pyproject.toml)
+    echo "${1##*/}: semver_parser needs its shared library, and found none that can be loaded. It looked for\
+ /nowhere, which SEMVER_PARSER_LIBRARY names: cannot open shared object file: No such file or directory;\
+ If the library is elsewhere, set SEMVER_PARSER_LIBRARY to its path." > "$work/told"
+    same "${1##*/} without the library" 2 /dev/null /dev/null "$work/told" env SEMVER_PARSER_LIBRARY=/nowhere "$@"
+    shift
+    same "the same by pip" 2 /dev/null /dev/null "$work/told" \
+        env SEMVER_PARSER_LIBRARY=/nowhere python3 -c "$entry; exit(main())" "$@"
+}
+without_library $check $good
+without_library $compare cases/requirements/old.json cases/requirements/new.json
+# A script without its modules.
+for program in $check $compare; do
+    cp "$program" "$work/${program##*/}"
+    refused "${program##*/}: No module named 'semver_parser'" /dev/null python3 -S "$work/${program##*/}" -h
+done
+# Another package of the name that is installed for the user.
+installed=$(PYTHONUSERBASE=$work/user python3 -m site --user-site) || :
+mkdir -p "$installed/semver_parser"
+echo 'raise ImportError("another package")' > "$installed/semver_parser/__init__.py"
+same 'another package of the name' 0 /dev/null /dev/null /dev/null env PYTHONUSERBASE="$work/user" $fields $good
+same 'another package of the name, compare' 0 /dev/null /dev/null /dev/null \
+    env PYTHONUSERBASE="$work/user" $compare cases/requirements/old.json cases/requirements/old.json
+
+here=$PWD
+. "$top/tests/parallel/checkers-output.sh"
+
+# ---- requirements
+
+sed '/^## /,$d' semver_parser/checks/README.md > "$work/examples"
+sed -n 's/^    \$ //p' "$work/examples" > "$work/commands"
+sed -n '/^    \$/d; s/^    //p' "$work/examples" > "$work/lines"
+same "README.md's example" 0 /dev/null "$work/lines" cases/monorepo/closing \
+    env -u SEMVER_PARSER_LIBRARY sh -c 'cd .. && . "$1"' - "$work/commands"
+
+# compared STATUS NAME ARGUMENT..: compares requirements, whose lines are in cases/requirements/NAME.
+compared() {
+    wanted=$1 lines=cases/requirements/$2
+    shift 2
+    same "$*" "$wanted" /dev/null "$lines" /dev/null $compare "$@"
+}
+folder=cases/requirements
+compared 1 package.expected $folder/old.json $folder/new.json
+compared 1 package.json.expected --json $folder/old.json $folder/new.json
+{ printf '\357\273\277' && cat $folder/old.json; } > "$work/marked"
+compared 1 package.expected "$work/marked" $folder/new.json
+
+# refused_as_manifest WHY FILE: has a file refused, which is no manifest.
+refused_as_manifest() {
+    refused "compare-requirements: $2: it is no package.json, pnpm-workspace.yaml or Cargo.toml$1" /dev/null $compare "$2" "$2"
+}
+
+same 'one file' 0 /dev/null /dev/null /dev/null $compare $folder/old.json $folder/old.json
+if python3 -c 'import tomllib' 2> /dev/null; then
+    compared 1 cargo.expected $folder/old.toml $folder/new.toml
+    refused "compare-requirements: one file is npm's and the other Cargo's; see compare-requirements --help" /dev/null \
+        $compare $folder/old.json $folder/new.toml
+    refused_as_manifest '' /dev/null
+    refused_as_manifest '' ../pyproject.toml
+    refused_as_manifest ": package isn't an object" cases/cargo-lock/right/Cargo.lock
+    echo '[dependencies]' > "$work/lines"
+    same 'only a table of dependencies' 0 /dev/null /dev/null /dev/null $compare "$work/lines" "$work/lines"
+fi
+refused_as_manifest ': it has lockfileVersion' cases/package-lock.json
+refused_as_manifest ': it has workspace_members' cases/cargo/made.json
+echo '{}' > "$work/package.json"
+same 'an empty package.json' 0 /dev/null /dev/null /dev/null $compare "$work/package.json" "$work/package.json"
+echo '{"dependencies": {"a": "^1.0.0"}, "overrides": {"b": "^1.0.0"}}' > "$work/package.json"
+echo '{"peerDependencies": {"a": "^1.0.0"}, "resolutions": {"b": "^1.0.0"}}' > "$work/lines"
+cat > "$work/changes" <<'END'
+a (dependencies -> peerDependencies): ^1.0.0 -> ^1.0.0: the same versions
+b (overrides): removed ^1.0.0
+b (resolutions): added ^1.0.0
+END
+same 'what moved, and what did not' 1 /dev/null "$work/changes" /dev/null $compare "$work/package.json" "$work/lines"
+echo '{"peerDependencies": {"a": "^1.0.0"}, "overrides": {"b": "^1.0.0"}}' > "$work/lines"
+sed -n 1p "$work/changes" > "$work/moved"
+same 'only a move' 1 /dev/null "$work/moved" /dev/null $compare "$work/package.json" "$work/lines"
+git init -q "$work/tree"
+in_tree() { git -C "$work/tree" -c user.name=a -c user.email=a@b "$@"; }
+cp $folder/old.json "$work/tree/package.json" && in_tree add . && in_tree commit -qm old
+{ printf '\357\273\277' && cat $folder/new.json; } > "$work/tree/package.json" && in_tree commit -qam new
+compared 1 package.expected --git HEAD^ HEAD "$work/tree/package.json"
+compared 1 package.expected --git HEAD^ "$work/tree/package.json"
+mkdir "$work/tree/inner" && cp $folder/old.json "$work/tree/inner/package.json" && in_tree add . && in_tree commit -qm old
+cp $folder/new.json "$work/tree/inner/package.json" && in_tree commit -qam new
+in_tree rm -qr inner && in_tree commit -qm gone
+compared 1 package.expected --git HEAD^^ HEAD^ "$work/tree/inner/package.json"
+same 'no change' 0 /dev/null /dev/null /dev/null $compare --git HEAD "$work/tree/package.json"
+refused "compare-requirements: $work/tree/package.json: git doesn't show it: there is no such revision" /dev/null \
+    $compare --git nothing "$work/tree/package.json"
+refused "compare-requirements: $work/tree/nowhere.json: both sides lack it" /dev/null $compare --git HEAD "$work/tree/nowhere.json"
+refused "compare-requirements: HEAD..HEAD names two revisions, and HEAD is a third one; see compare-requirements --help" \
+    /dev/null $compare --git HEAD..HEAD HEAD "$work/tree/package.json"
+
+# Directories: two, one in two revisions, and one in a revision and the work tree.
+if python3 -c 'import tomllib, yaml' 2> /dev/null; then
+    # below NAME STATUS ARGUMENT..: compares all manifests of cases/requirements/before and after.
+    below() {
+        name=$1 wanted=$2 status=0
+        shift 2
+        (cd "$work/tree" && exec "$here/$compare" "$@") > "$work/output" 2> "$work/errors" || status=$?
+        sed "s:^$here/$folder/after/::" "$work/output" | diff -u $folder/directories.expected -
+        diff -u /dev/null "$work/errors"
+        [ "$status" = "$wanted" ] || exit 1
+        echo "$name: passed"
+    }
+    below 'two directories' 1 "$here/$folder/before" "$here/$folder/after"
+    in_tree rm -qrf . && cp -R $folder/before/. "$work/tree" && in_tree add -f . && in_tree commit -qm before
+    in_tree rm -qrf . && cp -R $folder/after/. "$work/tree"
+    mkdir -p "$work/tree/node_modules/part" && cp $folder/old.json "$work/tree/node_modules/part/package.json"
+    below 'a directory in the work tree' 1 --git HEAD .
+    in_tree add -f . && in_tree commit -qm after
+    below 'a directory in two revisions' 1 --git HEAD^..HEAD .
+    below 'a directory in two revisions, apart' 1 --git HEAD^ HEAD .
+    grep ^rust $folder/directories.expected | sed "s:^:$work/tree/:" > "$work/lines"
+    same 'a directory below the top' 1 /dev/null "$work/lines" /dev/null $compare --git HEAD^..HEAD "$work/tree/rust"
+    echo 'react (dependencies): removed ^18.0.0' > "$work/lines"
+    same 'a manifest that is gone' 1 /dev/null "$work/lines" /dev/null $compare --git HEAD^ "$work/tree/gone/package.json"
+    same 'a manifest that is gone in a revision' 1 /dev/null "$work/lines" /dev/null $compare --git HEAD^..HEAD "$work/tree/gone/package.json"
+    echo "$work/tree/gone/package.json: react (dependencies): removed ^18.0.0" > "$work/lines"
+    same 'a directory that is gone' 1 /dev/null "$work/lines" /dev/null $compare --git HEAD^ "$work/tree/gone"
+    echo 'react (devDependencies): added ^18.0.0' > "$work/lines"
+    same 'a manifest that came' 1 /dev/null "$work/lines" /dev/null $compare --git HEAD^ "$work/tree/web/package.json"
+    echo '{' > "$work/tree/web/package.json"
+    echo "compare-requirements: web/package.json: it isn't JSON: line 2 column 1" > "$work/told"
+    grep -v ^web $folder/directories.expected > "$work/lines"
+    same 'one manifest that is refused' 2 /dev/null "$work/lines" "$work/told" \
+        sh -c 'cd "$1" && exec "$2" --git HEAD^ .' - "$work/tree" "$here/$compare"
+    below 'a directory in a range of revisions' 1 --git HEAD^.. .
+    same 'the same in JSON' 0 /dev/null /dev/null /dev/null sh -c \
+        '"$1" --json "$2/before" "$2/after" | python3 -c "import json, sys
+found = json.load(sys.stdin)
+assert found[1][\"file\"].endswith(\"after/package.json\"), found[1]
+assert (found[1][\"table\"], found[1][\"new_table\"]) == (\"dependencies\", \"devDependencies\")"' - $compare $folder
+fi
+refused 'compare-requirements: one is a directory and the other a file; see compare-requirements --help' /dev/null \
+    $compare $folder $folder/old.json
+mkdir -p "$work/empty"
+refused "compare-requirements: $work/empty: it is a directory without a manifest" /dev/null $compare "$work/empty" "$work/empty"
+echo 'checkers: passed'
