@@ -6,6 +6,7 @@ use crate::{AllocError, Dialect, Meaning, PartialVersion, PreReleases, RangeErro
 
 pub use crate::proved::invalid_strings::refusals::Refusal as VersionRefusal;
 pub use crate::proved::tool_ranges::refusals::Refusal as RangeRefusal;
+pub use crate::proved::tool_ranges::satisfying::SatisfiesError;
 
 /// Returns where and why bytes are an invalid version in a dialect, or `None` if they are valid.
 ///
@@ -44,6 +45,27 @@ pub fn explain_version(
 /// ```
 pub fn explain_range(range: &str, dialect: Dialect) -> Result<Option<RangeRefusal>, AllocError> {
     tool_ranges::refusals::refused(dialect, range)
+}
+
+/// Returns whether a version satisfies a range. It does not allocate.
+///
+/// # Errors
+///
+/// [`SatisfiesError::InvalidVersion`] if the version is invalid in the dialect, otherwise
+/// [`SatisfiesError::InvalidRange`] if the range is invalid.
+///
+/// ```
+/// use semver_parser::layers::{satisfies, SatisfiesError};
+/// use semver_parser::Dialect;
+///
+/// assert!(satisfies(b"1.9.0", "^1.2", Dialect::Npm.into())?);
+/// let error = satisfies(b"1.9.\xff", "^1.2", Dialect::Npm.into()).unwrap_err();
+/// assert_eq!(error, SatisfiesError::InvalidVersion);
+/// # Ok::<(), SatisfiesError>(())
+/// ```
+#[inline]
+pub fn satisfies(version: &[u8], range: &str, meaning: Meaning) -> Result<bool, SatisfiesError> {
+    tool_ranges::satisfying::satisfies(version, range, meaning)
 }
 
 /// Checks that a string is a range in a dialect and that its numbers fit. It does not allocate.

@@ -121,10 +121,9 @@ pub use proved::tool_ranges::range_operations::OperationError;
 pub use proved::tool_ranges::version_range::VersionRange;
 pub use proved::version_sets::PreReleases;
 pub use error::{Error, ErrorKind};
+pub use layers::SatisfiesError;
 pub use names::UnknownName;
-pub use range_strings::{
-    check_range, check_version, comparators, satisfies, satisfies_bytes, SatisfiesError,
-};
+pub use range_strings::{check_range, check_version, comparators, satisfies, satisfies_bytes};
 pub use rattle_std::AllocError;
 pub use terms::{terms, Component, Operator, PartialVersion, Span, Term, Terms};
 pub use version_ref::VersionRef;

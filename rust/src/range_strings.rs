@@ -1,11 +1,9 @@
 //! Functions for range strings: whether a version satisfies one, whether one is valid, and its
 //! comparators.
 
+use crate::layers::SatisfiesError;
 use crate::proved::semver_versions;
-use crate::proved::tool_ranges::satisfying;
 use crate::{layers, Dialect, Error, Meaning, PreReleases, RangeSet};
-
-pub use crate::proved::tool_ranges::satisfying::SatisfiesError;
 
 /// Returns whether a version satisfies a range. Both are read in the same dialect: Cargo's, npm's,
 /// or that of the crate in one of its modes. To check many versions against one range, read the
@@ -39,36 +37,34 @@ pub use crate::proved::tool_ranges::satisfying::SatisfiesError;
 /// ```
 #[inline]
 pub fn satisfies(version: &str, range: &str, meaning: impl Into<Meaning>) -> Result<bool, Error> {
-    let meaning = meaning.into();
-    satisfies_bytes(version.as_bytes(), range, meaning).map_err(|error| match error {
-        SatisfiesError::InvalidVersion => Error::from_version(version.as_bytes(), meaning.dialect),
-        SatisfiesError::InvalidRange(error) => Error::from_range(error, range, meaning.dialect),
-    })
+    satisfies_bytes(version.as_bytes(), range, meaning)
 }
 
-/// Returns the result of [`satisfies`] for a version in bytes, which needn't be UTF-8. It never
-/// allocates, so its error says only whether the version or the range is invalid.
+/// Returns the result of [`satisfies`] for a version in bytes, which needn't be UTF-8.
 ///
 /// # Errors
 ///
-/// [`SatisfiesError::InvalidVersion`] if the version is invalid in the dialect, otherwise
-/// [`SatisfiesError::InvalidRange`] if the range is invalid.
+/// The errors of [`satisfies`].
 ///
 /// ```
-/// use semver_parser::{satisfies_bytes, Dialect, SatisfiesError};
+/// use semver_parser::{satisfies_bytes, Dialect, ErrorKind};
 ///
 /// assert!(satisfies_bytes(b"1.9.0", "^1.2", Dialect::Npm)?);
-/// let refused = satisfies_bytes(b"1.9.\xff", "^1.2", Dialect::Npm);
-/// assert_eq!(refused, Err(SatisfiesError::InvalidVersion));
-/// # Ok::<(), SatisfiesError>(())
+/// let error = satisfies_bytes(b"1.9.\xff", "^1.2", Dialect::Npm).unwrap_err();
+/// assert_eq!((error.kind(), error.offset()), (ErrorKind::InvalidVersion, Some(4)));
+/// # Ok::<(), semver_parser::Error>(())
 /// ```
 #[inline]
 pub fn satisfies_bytes(
     version: &[u8],
     range: &str,
     meaning: impl Into<Meaning>,
-) -> Result<bool, SatisfiesError> {
-    satisfying::satisfies(version, range, meaning.into())
+) -> Result<bool, Error> {
+    let meaning = meaning.into();
+    layers::satisfies(version, range, meaning).map_err(|error| match error {
+        SatisfiesError::InvalidVersion => Error::from_version(version, meaning.dialect),
+        SatisfiesError::InvalidRange(error) => Error::from_range(error, range, meaning.dialect),
+    })
 }
 
 /// Checks that a string is a valid version in a dialect. It allocates only if it returns an error.

@@ -1,6 +1,7 @@
 //! Functions of ranges that only Rust has: with strings, and operators.
 
 use crate::original::out_of_memory;
+use crate::version::Version;
 use crate::{Error, Meaning, OperationError, VersionRange};
 use core::hash::{Hash, Hasher};
 use core::ops::{BitAnd, BitOr, Sub};
@@ -52,7 +53,26 @@ impl VersionRange {
     /// ```
     pub fn contains(&self, version: &str) -> Result<bool, Error> {
         self.contains_bytes(version.as_bytes())
-            .map_err(|_| Error::from_version(version.as_bytes(), self.meaning().dialect))
+    }
+
+    /// Returns the result of [`VersionRange::contains`] for a version in bytes, which needn't be
+    /// UTF-8. [`VersionRange::try_contains_bytes`] returns an error that doesn't allocate.
+    ///
+    /// # Errors
+    ///
+    /// The errors of [`VersionRange::contains`].
+    ///
+    /// ```
+    /// use semver_parser::{Dialect, VersionRange};
+    ///
+    /// let range = VersionRange::parse("^1.2", Dialect::Npm)?;
+    /// assert!(range.contains_bytes(b"v1.9.0")?);
+    /// assert_eq!(range.contains_bytes(b"1.9.\xff").unwrap_err().offset(), Some(4));
+    /// # Ok::<(), semver_parser::Error>(())
+    /// ```
+    pub fn contains_bytes(&self, version: &[u8]) -> Result<bool, Error> {
+        self.try_contains_bytes(version)
+            .map_err(|_| Error::from_version(version, self.meaning().dialect))
     }
 
     /// Returns the highest of the given versions that the range contains, or `None` if it contains
@@ -85,6 +105,28 @@ impl VersionRange {
     #[must_use]
     pub fn lowest<'v>(&self, versions: impl IntoIterator<Item = &'v str>) -> Option<&'v str> {
         self.lowest_among(versions.into_iter())
+    }
+}
+
+impl VersionRange {
+    /// Returns the lowest version that the range contains, or `None` if there is none. By the
+    /// default rule for pre-releases, npm's `*` contains releases only, so this is 0.0.0 for it.
+    ///
+    /// ```
+    /// use semver_parser::{Dialect, VersionRange};
+    ///
+    /// let lowest = |range| -> Result<_, semver_parser::Error> {
+    ///     let version = VersionRange::parse(range, Dialect::Npm)?.lowest_version();
+    ///     Ok(version.map(|version| version.to_string()))
+    /// };
+    /// assert_eq!(lowest(">1.2 || 3.x")?, Some("1.3.0".to_string()));
+    /// assert_eq!(lowest("^1.2.3-rc.1")?, Some("1.2.3-rc.1".to_string()));
+    /// assert_eq!(lowest("<0.0.0")?, None);
+    /// # Ok::<(), semver_parser::Error>(())
+    /// ```
+    #[must_use]
+    pub fn lowest_version(&self) -> Option<Version> {
+        self.versions().lowest().unwrap_or_else(|_| out_of_memory())
     }
 }
 

@@ -10,9 +10,10 @@ use thiserror::Error;
 /// Whether the version or the range is invalid.
 ///
 /// ```
-/// use semver_parser::{satisfies_bytes, Dialect};
+/// use semver_parser::layers::satisfies;
+/// use semver_parser::Dialect;
 ///
-/// let error = satisfies_bytes(b"1.2.3", "1.2 || 3", Dialect::Cargo).unwrap_err();
+/// let error = satisfies(b"1.2.3", "1.2 || 3", Dialect::Cargo.into()).unwrap_err();
 /// assert_eq!(error.to_string(), "invalid range: not a range");
 /// ```
 #[derive(Clone, Copy, PartialEq, Eq, Debug, Error)]

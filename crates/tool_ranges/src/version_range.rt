@@ -164,6 +164,7 @@ impl VersionRange {
     }
 
     // Determined by: law result_laws::version_ranges::one_contains.
+    // In Rust: try_contains_bytes.
     /// Returns whether the range contains a version, which is read in the range's dialect. Build
     /// metadata is ignored. It does not allocate.
     ///
@@ -175,8 +176,8 @@ impl VersionRange {
     /// use semver_parser::{Dialect, SatisfiesError, VersionRange};
     ///
     /// let range = VersionRange::parse("^1.2", Dialect::Npm)?;
-    /// assert_eq!(range.contains_bytes(b"v1.9.0+b5"), Ok(true));
-    /// assert_eq!(range.contains_bytes(b"1.9.\xff"), Err(SatisfiesError::InvalidVersion));
+    /// assert_eq!(range.try_contains_bytes(b"v1.9.0+b5"), Ok(true));
+    /// assert_eq!(range.try_contains_bytes(b"1.9.\xff"), Err(SatisfiesError::InvalidVersion));
     /// # Ok::<(), semver_parser::Error>(())
     /// ```
     #[inline(always)]

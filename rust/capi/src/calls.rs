@@ -6,10 +6,10 @@ use crate::message::printed;
 use crate::types::{dialect, Comparator, Options, StringView, Version};
 use alloc::{string::String, vec::Vec};
 use core::{ffi::c_char, ptr, str};
-use proved::layers;
+use proved::layers::{self, SatisfiesError};
 use proved::rattle_std::{FalliblePush, FallibleToString};
 use proved::version::{read_ref_in, VersionRef};
-use proved::{satisfies_bytes, OperationError, SatisfiesError, VersionRange};
+use proved::{OperationError, VersionRange};
 use proved::{Compat, Dialect, Op, RangeError, RangeSet, Terms};
 
 type Answer<'a, T> = Result<T, Problem<'a>>;
@@ -45,7 +45,7 @@ pub fn satisfies<'a>(bytes: &'a [u8], range: &'a [u8], options: Options) -> Answ
     let meaning = options.meaning()?;
     let dialect = meaning.dialect;
     let range = text(range, 1).or_else(|problem| version(bytes, dialect, 0).and(Err(problem)))?;
-    satisfies_bytes(bytes, range, meaning).map_err(|error| match error {
+    layers::satisfies(bytes, range, meaning).map_err(|error| match error {
         SatisfiesError::InvalidVersion => Problem::Version { bytes, dialect, index: 0 },
         SatisfiesError::InvalidRange(error) => Problem::Range { error, range, dialect, index: 1 },
     })
@@ -104,7 +104,7 @@ pub fn parse_range(range: &[u8], options: Options) -> Answer<'_, *mut VersionRan
 #[inline(always)]
 pub fn contains<'a>(range: &VersionRange, bytes: &'a [u8], index: usize) -> Answer<'a, bool> {
     let dialect = range.meaning().dialect;
-    range.contains_bytes(bytes).map_err(|_| Problem::Version { bytes, dialect, index })
+    range.try_contains_bytes(bytes).map_err(|_| Problem::Version { bytes, dialect, index })
 }
 
 pub fn lowest_version(range: &VersionRange) -> Answer<'_, *mut c_char> {

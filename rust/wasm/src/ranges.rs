@@ -8,9 +8,9 @@ use alloc::string::String;
 use alloc::vec::Vec;
 use core::fmt::{self, Write};
 use core::ptr::null_mut;
-use semver_parser::layers;
+use semver_parser::layers::{self, SatisfiesError};
 use semver_parser::VersionRange as Range;
-use semver_parser::{satisfies_bytes, Dialect, Meaning, PreReleases, RangeError, Reason, SatisfiesError};
+use semver_parser::{Dialect, Meaning, PreReleases, RangeError, Reason};
 
 fn meaning(dialect: i32, rule: i32) -> Option<Meaning> {
     let (dialect, pre_releases) = (Dialect::from_number(dialect)?, PreReleases::from_number(rule)?);
@@ -44,7 +44,7 @@ pub unsafe extern "C" fn range_satisfied(
     else {
         return status::INVALID_RANGE;
     };
-    match satisfies_bytes(unsafe { bytes(at, len) }, range, meaning) {
+    match layers::satisfies(unsafe { bytes(at, len) }, range, meaning) {
         Ok(answer) => answer.into(),
         Err(SatisfiesError::InvalidVersion) => status::INVALID_VERSION,
         Err(SatisfiesError::InvalidRange(_)) => status::INVALID_RANGE,
@@ -156,7 +156,7 @@ pub unsafe extern "C" fn range_free(range: *mut Range) {
 /// There are `len` bytes at the address.
 #[no_mangle]
 pub unsafe extern "C" fn range_has(range: &Range, at: *const u8, len: usize) -> i32 {
-    range.contains_bytes(unsafe { bytes(at, len) }).map_or(status::INVALID_VERSION, i32::from)
+    range.try_contains_bytes(unsafe { bytes(at, len) }).map_or(status::INVALID_VERSION, i32::from)
 }
 
 /// Returns the index of the highest, or the lowest, of the given versions that are in a range. Of

@@ -71,7 +71,7 @@ fn contains(range: &str, rule: PreReleases, text: &[u8]) -> io::Result<Contained
         pre_releases: rule,
     };
     match VersionRange::try_parse(range, meaning) {
-        Ok(range) => Ok(range.contains_bytes(text)),
+        Ok(range) => Ok(range.try_contains_bytes(text)),
         Err(_) => Err(io::Error::from(ErrorKind::InvalidInput)),
     }
 }

@@ -95,7 +95,7 @@ fn are_contained(
             continue;
         }
         let version = all.next();
-        if range.contains_bytes(item.as_bytes()) == Ok(true) {
+        if range.try_contains_bytes(item.as_bytes()) == Ok(true) {
             match (version, left.next()) {
                 (Some(version), Some(next)) if *version == **next => {}
                 _ => return false,

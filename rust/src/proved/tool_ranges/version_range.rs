@@ -124,12 +124,12 @@ impl VersionRange {
     /// use semver_parser::{Dialect, SatisfiesError, VersionRange};
     ///
     /// let range = VersionRange::parse("^1.2", Dialect::Npm)?;
-    /// assert_eq!(range.contains_bytes(b"v1.9.0+b5"), Ok(true));
-    /// assert_eq!(range.contains_bytes(b"1.9.\xff"), Err(SatisfiesError::InvalidVersion));
+    /// assert_eq!(range.try_contains_bytes(b"v1.9.0+b5"), Ok(true));
+    /// assert_eq!(range.try_contains_bytes(b"1.9.\xff"), Err(SatisfiesError::InvalidVersion));
     /// # Ok::<(), semver_parser::Error>(())
     /// ```
     #[inline(always)]
-    pub fn contains_bytes(&self, version: &[u8]) -> Result<bool, SatisfiesError> {
+    pub fn try_contains_bytes(&self, version: &[u8]) -> Result<bool, SatisfiesError> {
         match read_ref_in(version, self.meaning.dialect.grammar()) {
             Some(borrowed) => Ok(self.contains_ref(&borrowed)),
             None => Err(SatisfiesError::InvalidVersion),

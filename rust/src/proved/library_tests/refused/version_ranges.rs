@@ -21,8 +21,8 @@ const CARGO: Meaning = Meaning {
 pub fn parse() -> Ending {
     match VersionRange::try_parse("^1.2", CARGO) {
         Ok(range) => Ending::full_if(
-            range.contains_bytes(b"1.9.0-rc") == Ok(true)
-                && range.contains_bytes(b"2.0.0") == Ok(false),
+            range.try_contains_bytes(b"1.9.0-rc") == Ok(true)
+                && range.try_contains_bytes(b"2.0.0") == Ok(false),
         ),
         Err(RangeError::OutOfMemory) => Ending::Refused,
         Err(_) => Ending::Wrong,
@@ -63,7 +63,7 @@ fn ends(combined: Result<VersionRange, OperationError>, wanted: [bool; 3]) -> En
     let texts: [&[u8]; 3] = [b"1.2.0", b"1.5.0", b"2.0.0"];
     let mut is_right = true;
     for (text, is_in) in texts.iter().zip(wanted.iter()) {
-        is_right &= range.contains_bytes(text) == Ok(*is_in);
+        is_right &= range.try_contains_bytes(text) == Ok(*is_in);
     }
     Ending::full_if(is_right)
 }
