@@ -23,7 +23,7 @@ LIMITS = {"cargo": 2**64 - 1, "npm": 2**53 - 1, "crate-npm": 2**64 - 1}
 HYPHEN = "  - "
 BETWEEN = {"cargo": (",", "  , "), "npm": (" ", "\u00a0|| ", HYPHEN), "crate-npm": ("  ", "||", HYPHEN)}
 AT_THE_END = re.compile(r"at the end(: .*)?$")
-AT_A_BYTE = re.compile(r"at byte (\d+)(: .*)?$")
+AT_AN_OFFSET = re.compile(r"at offset (\d+)(: .*)?$")
 
 
 def texts(length):
@@ -82,7 +82,7 @@ def named(program, dialect, text):
     if ran.returncode != 2:
         return None
     last = ran.stderr.splitlines()[-1]
-    place = AT_A_BYTE.search(last)
+    place = AT_AN_OFFSET.search(last)
     if not place and not AT_THE_END.search(last):
         sys.exit(f"no place: {ran.stderr}")
     return int(place[1]) if place else len(text)

@@ -16,7 +16,7 @@ words_of OutOfMemory = codes "out of memory"
 -- where a text of n bytes is wrong
 abbrev pub place_of : ℕ → ℕ → Text
 place_of offset n =
-    if nat_lt offset n then codes "at byte " ++ decimal offset else codes "at the end"
+    if nat_lt offset n then codes "at offset " ++ decimal offset else codes "at the end"
 
 -- and why
 abbrev pub why_of : Refusal → ℕ → Text

@@ -20,7 +20,7 @@ use tool_ranges::refusals::{Refusal, refused};
 /// ```text
 /// not a range: "1.2 || 3"
 ///     1.2 || 3
-///         ^ at byte 4: Cargo takes no ||; npm does
+///         ^ at offset 4: Cargo takes no ||; npm does
 /// ```
 pub(crate) fn refused_text(
     alloc: Global,
@@ -38,7 +38,7 @@ pub(crate) fn refused_text(
 
 // Determined by: law result_laws::ranges::one_refusal.
 /// Returns the message for an error in one line, without the range:
-/// `not a range (at byte 4: Cargo takes no ||; npm does)`. `Err` means out of memory.
+/// `not a range (at offset 4: Cargo takes no ||; npm does)`. `Err` means out of memory.
 pub fn refused_line(
     alloc: Global,
     dialect: Dialect,
@@ -108,7 +108,7 @@ fn write_place(out: &mut String, offset: usize, len: usize) -> Result<(), AllocE
         string_bytes out.new ≡ string_bytes out.old ++ place_of offset len) }
 {
     if offset < len {
-        write!(out, "at byte {offset}")
+        write!(out, "at offset {offset}")
     } else {
         out.push_str("at the end")
     }

@@ -199,7 +199,7 @@ impl<'a> Copying<'a> {
         let mut text = String::new(rt.alloc());
         match write!(
             text,
-            "{name}: invalid JSON at byte {}: {what}",
+            "{name}: invalid JSON at offset {}: {what}",
             self.strings.offset()
         ) {
             Ok(()) => Err(Error::Json(text)),

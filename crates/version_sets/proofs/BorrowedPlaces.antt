@@ -54,8 +54,8 @@ pub of_texts : (set : SetValue) (o : VersionRefValue)
     → ((text : Text) → IsVersionRefIn Crate text o ↔ IsVersionRefOf text o) → (answer : Bool)
     → answer ≡ contains_kept set (kept_version_of o).plain
     → (text : Text) (v : VersionValue) → IsVersionRefOf text o → SpellsVersion v text → answer ≡ contains_kept set v.plain
-of_texts set o same borrowed answer told text v borrowed spells =
-    let inside = (borrowed text).1 borrowed in
+of_texts set o same same_ref answer told text v borrowed spells =
+    let inside = (same_ref text).1 borrowed in
     let (w, spelled, is) = inside in
     let kept : o.digits ≡ Kept = ap (λ (p : VersionRefValue). p.digits) is in
     told ∙ ap (λ (w : VersionValue). contains_kept set w.plain)

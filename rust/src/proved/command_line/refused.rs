@@ -17,7 +17,7 @@ use crate::proved::tool_ranges::refusals::{Refusal, refused};
 /// ```text
 /// not a range: "1.2 || 3"
 ///     1.2 || 3
-///         ^ at byte 4: Cargo takes no ||; npm does
+///         ^ at offset 4: Cargo takes no ||; npm does
 /// ```
 pub(crate) fn refused_text(
     dialect: Dialect,
@@ -33,7 +33,7 @@ pub(crate) fn refused_text(
 }
 
 /// Returns the message for an error in one line, without the range:
-/// `not a range (at byte 4: Cargo takes no ||; npm does)`. `Err` means out of memory.
+/// `not a range (at offset 4: Cargo takes no ||; npm does)`. `Err` means out of memory.
 pub fn refused_line(
     dialect: Dialect,
     error: &RangeError,
@@ -87,7 +87,7 @@ fn write_why(out: &mut String, refusal: &Refusal, len: usize) -> Result<(), Allo
 /// Writes an offset in a string of `len` bytes.
 fn write_place(out: &mut String, offset: usize, len: usize) -> Result<(), AllocError> {
     if offset < len {
-        write!(out, "at byte {offset}")
+        write!(out, "at offset {offset}")
     } else {
         out.fallible_push_str("at the end")
     }
