@@ -19,7 +19,7 @@ use Rattle.semver_ranges.specs.Terms.{of_simple}
 use Rattle.semver_ranges.specs.Steps.PartialViews.{stated_of, version_of}
 use Rattle.semver_ranges.specs.Steps.RangeEvents.{Event, one_simple, next_range}
 use Rattle.semver_versions.specs.VersionRefs.{VersionRefValue}
-use Rattle.semver_versions.specs.VersionRefs as borrowed
+use Rattle.semver_versions.specs.VersionRefs as refs
 use Rattle.version_sets.specs.declared.rules.PreReleases.{PreReleases}
 use Rattle.version_sets.specs.declared.rules.PreReleases.TheVariants.{Default, Included, Excluded}
 use Rattle.tool_ranges.specs.AnySize.{zero_filled_any}
@@ -36,7 +36,7 @@ use Rattle.tool_ranges.specs.Steps.Cursors.{ranges_of}
 
 -- the version of a borrowed version, without its build
 abbrev pub plain_of : VersionRefValue → PlainVersion
-plain_of borrowed = (borrowed.version_of borrowed).plain
+plain_of borrowed = (refs.version_of borrowed).plain
 
 -- whether a partial states the three numbers of a version, and a pre-release
 abbrev pub states_at : Partial → PlainVersion → Bool
