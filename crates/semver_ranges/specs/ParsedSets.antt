@@ -1,4 +1,4 @@
--- What `RangeSet::parse` answers of a text in a mode, as one fact.
+-- The contract of `RangeSet::parse` for a text, a mode and a result, as one proposition.
 use Rattle.std.specs.Prelude.{◌≡◌, ◌⊎◌, [], IsTrue, Result, Err, IfOk}
 use Rattle.std.specs.Result.{IsOkAnd}
 use Rattle.semver_ranges.specs.declared.range.Compat.{Compat}

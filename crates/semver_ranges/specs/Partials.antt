@@ -1,4 +1,4 @@
--- What a partial states.
+-- The numbers and the pre-release that a partial version states, and its zero-filled version.
 use Rattle.std.specs.Prelude.{ℕ, suc, ◌^◌, ◌&&◌, Bool, if◌then◌else◌, ◌==◌, nat_lt, not, List, []}
 use Rattle.std.specs.Prelude.{◌∷◌, length, map, take_while, slice_index}
 use Rattle.std.specs.Str.{all_ascii_digits}
@@ -12,8 +12,8 @@ use Rattle.semver_texts.specs.Versions.{IdentifierValue, numeric, alphanumeric, 
 abbrev pub fits_u64 : ℕ → Bool
 fits_u64 n = nat_lt n (2 ^ 64)
 
--- a part as it is kept: the number that its digits write, where it is digits alone and the number
--- fits; else its text
+-- how a part is kept: if it consists of digits and their number is at most 2^64 - 1, as that
+-- number, otherwise as its text
 abbrev pub kept : Text → IdentifierValue
 kept part =
     if all_ascii_digits part
@@ -23,20 +23,23 @@ kept part =
 abbrev pub stated : PartialTree → List ℕ
 stated p = map (digits_value 10) (take_while (λ c. not (is_wildcard c)) (components p))
 
--- whether a partial states no number
+-- whether a partial version states no number
 abbrev pub states_nothing : PartialTree → Bool
 states_nothing p = is_empty (stated p)
 
--- the pre-release that counts: the parts as they are kept where three numbers are stated, else none
+-- the pre-release that counts: if three numbers are stated, the parts as they are kept, otherwise
+-- none
 abbrev pub pre_release : PartialTree → List IdentifierValue
 pre_release p = if length (stated p) == 3 then map kept (pre_parts p) else []
 
--- a version of up to three numbers, filled with zeros
+-- the version with the first three of these numbers, zeros for the missing ones, and this
+-- pre-release
 abbrev pub filled : List ℕ → List IdentifierValue → PlainVersion
 filled s pre =
     record { major = slice_index s 0; minor = slice_index s 1; patch = slice_index s 2; pre = pre }
 
--- the zero-filled version of a partial, with its pre-release
+-- the zero-filled version: the stated numbers, zeros for the missing ones, and the pre-release if
+-- it counts
 abbrev pub zero_filled : PartialTree → PlainVersion
 zero_filled p = filled (stated p) (pre_release p)
 
@@ -44,7 +47,8 @@ zero_filled p = filled (stated p) (pre_release p)
 abbrev pub zero_version : PlainVersion
 zero_version = filled [] []
 
--- the place, from 1, of the first number that isn't 0; the last place where all are 0
+-- the position, counted from 1, of the first number that isn't 0; if all are 0, the last position;
+-- without numbers, 0
 abbrev pub leading_place : List ℕ → ℕ
 leading_place [] = 0
 leading_place (n ∷ []) = 1

@@ -1,5 +1,5 @@
--- What a text is to a reader of ranges: a range text or none, one that has a set, and one with a
--- number that is too large; and what a call refuses of it.
+-- Which texts are range texts, which of these have a set, and which have a number that is too
+-- large; and which error a call returns for a text.
 use Rattle.std.specs.Prelude.{◌≡◌, ◌↔◌, false, IsTrue, Result, Err, IfOk}
 use Rattle.semver_ranges.specs.declared.range.Compat.{Compat}
 use Rattle.semver_ranges.specs.declared.range_set.RangeError.{RangeError}
@@ -13,16 +13,19 @@ use Rattle.semver_ranges.specs.RewritingTable.{fits}
 abbrev pub IsRangeText : Text → Type 0
 IsRangeText t = (tree : SetTree) × Spells tree t
 
--- some tree spells it, and fits
+-- some tree spells the text, and fits
 abbrev pub HasSet : Compat → Text → Type 0
 HasSet mode t = (tree : SetTree) × Spells tree t × IsTrue (fits mode tree)
 
--- some tree spells it, and a number that is stated, or that of a raised bound, is above 2^64 - 1
+-- some tree spells the text, and a number that it states, or a number of a raised bound, is above
+-- 2^64 - 1
 abbrev pub IsTooLarge : Compat → Text → Type 0
 IsTooLarge mode t = (tree : SetTree) × Spells tree t × (fits mode tree ≡ false)
 
--- what a call that reads a text by some grammar refuses: what is no text of it, and one whose
--- numbers are too large, both exactly. `OutOfMemory` comes only for a text that fits
+-- which error a call returns for a text. It returns `NotARange` if and only if the text isn't in
+-- the grammar (`IsText`), and `NumberTooLarge` if and only if one of its numbers is too large
+-- (`HasLargeNumber`). It returns a result or `OutOfMemory` only if the text is in the grammar and
+-- its numbers fit (`Fits`)
 pub record Refuses {A : Type 0} (IsText HasLargeNumber Fits : Type 0) (r : Result A RangeError)
     : Type 0 where
   pub accepted : IfOk r (λ _. Fits)
@@ -30,6 +33,6 @@ pub record Refuses {A : Type 0} (IsText HasLargeNumber Fits : Type 0) (r : Resul
   pub too_large : (r ≡ Err NumberTooLarge) ↔ HasLargeNumber
   pub out_of_memory : r ≡ Err OutOfMemory → Fits
 
--- what a call that reads a range text in a mode refuses
+-- which error is returned by a call that reads a range text in a mode
 abbrev pub RefusesExactly : {A : Type 0} → Compat → Text → Result A RangeError → Type 0
 RefusesExactly mode t r = Refuses (IsRangeText t) (IsTooLarge mode t) (HasSet mode t) r

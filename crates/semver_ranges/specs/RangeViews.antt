@@ -1,4 +1,4 @@
--- What contracts see of ranges: their values, and not where they lie in memory.
+-- The values of ranges, as contracts see them, independent of where they are in memory.
 use Rattle.std.specs.Prelude.{map, string_bytes}
 use Rattle.semver_ranges.specs.declared.range.Identifier.{Identifier}
 use Rattle.semver_ranges.specs.declared.range.Identifier.TheVariants.{Numeric, AlphaNumeric}
@@ -8,12 +8,12 @@ use Rattle.semver_ranges.specs.declared.range_set.RangeSet.{RangeSet}
 use Rattle.semver_texts.specs.Versions.{IdentifierValue, numeric, alphanumeric}
 use Rattle.semver_ranges.specs.RewritingTable.{PlainComparator, PlainRange, PlainSet}
 
--- an identifier
+-- the value of an identifier
 abbrev pub identifier_of : Identifier → IdentifierValue
 identifier_of (Numeric n) = numeric n
 identifier_of (AlphaNumeric s) = alphanumeric (string_bytes s)
 
--- a comparator
+-- the value of a comparator
 abbrev pub comparator_of : Comparator → PlainComparator
 comparator_of c =
     record {
@@ -26,10 +26,10 @@ comparator_of c =
       };
     }
 
--- a range
+-- the value of a range
 abbrev pub range_of : Range → PlainRange
 range_of r = record { comparators = map comparator_of r.comparator_set.items; compat = r.compat }
 
--- a range set
+-- the value of a range set
 abbrev pub set_of : RangeSet → PlainSet
 set_of s = record { ranges = map range_of s.ranges.items; compat = s.compat }

@@ -1,5 +1,5 @@
--- The comparators that stand for a range, by the form of each term and by how many numbers it
--- states.
+-- The comparators that a range is rewritten to. A table gives those of each term, by its operator
+-- and its stated numbers.
 use Rattle.std.specs.Prelude.{ℕ, suc, zero, ◌+◌, Bool, true, ◌&&◌, if◌then◌else◌, Option, Some}
 use Rattle.std.specs.Prelude.{None, List, [], ◌∷◌, length, map}
 use Rattle.std.specs.List.{list_all, flat_map}
@@ -15,7 +15,7 @@ use Rattle.semver_ranges.specs.Partials.{stated, states_nothing, filled, zero_fi
 use Rattle.semver_ranges.specs.Partials.{leading_place, fits_u64}
 use Rattle.semver_ranges.specs.Terms.{Term, of_simple, of_nothing, sides, terms}
 
--- a comparator: an operator and the version that it compares with
+-- a comparator: an operator, and the version to compare with
 pub record PlainComparator : Type 0 where
   pub op : Op
   pub version : PlainVersion
@@ -30,8 +30,8 @@ pub record PlainSet : Type 0 where
   pub ranges : List PlainRange
   pub compat : Compat
 
--- a cell of the table, where z is the zero-filled version and up(k) the first k stated numbers, the
--- last of them raised
+-- a desugared term, which is a cell of the table: z is the zero-filled version, and up(k) has the
+-- first k stated numbers with the k-th raised by one, and then zeros
 pub data Cell : Type 0 where
   from_zero : Cell  -- `>=0.0.0`
   below_zero : Cell  -- `<0.0.0`
@@ -39,13 +39,13 @@ pub data Cell : Type 0 where
   below : ℕ → Cell  -- `<up(k)`
   between : ℕ → Cell  -- `>=z <up(k)`
 
--- the column where nothing is stated
+-- the column for terms that state no number
 abbrev pub nothing_stated : Form → Cell
 nothing_stated less = below_zero
 nothing_stated greater = below_zero
 nothing_stated _ = from_zero
 
--- the column where one or two numbers are stated
+-- the column for terms that state one or two numbers
 abbrev pub some_stated : Form → List ℕ → Cell
 some_stated bare s = between (length s)
 some_stated equal s = between (length s)
@@ -56,7 +56,8 @@ some_stated at_least s = against Gte
 some_stated tilde s = between (length s)
 some_stated caret s = between (leading_place s)
 
--- the column where three numbers are stated; the mode decides the bare row here, and nothing else
+-- the column for terms that state three numbers. The mode matters only in this column, and there
+-- only for terms without an operator
 abbrev pub three_stated : Compat → Form → List ℕ → Cell
 three_stated Cargo bare s = between (leading_place s)
 three_stated Npm bare s = against Eq
@@ -68,37 +69,38 @@ three_stated mode at_least s = against Gte
 three_stated mode tilde s = between 2
 three_stated mode caret s = between (leading_place s)
 
--- the table
+-- the table: the cell for a mode, an operator and the stated numbers
 abbrev pub cell : Compat → Form → List ℕ → Cell
 cell mode form [] = nothing_stated form
 cell mode form (a ∷ []) = some_stated form (a ∷ [])
 cell mode form (a ∷ b ∷ []) = some_stated form (a ∷ b ∷ [])
 cell mode form (a ∷ b ∷ c ∷ rest) = three_stated mode form (a ∷ b ∷ c ∷ rest)
 
--- the first k numbers, the last of them raised by one
+-- the first k numbers, with the k-th raised by one if there are that many
 abbrev pub raised : ℕ → List ℕ → List ℕ
 raised zero s = []
 raised (suc k) [] = []
 raised (suc zero) (n ∷ rest) = (n + 1) ∷ []
 raised (suc (suc k)) (n ∷ rest) = n ∷ raised (suc k) rest
 
--- up(k): the raised numbers, filled with zeros, without pre-release
+-- up(k): the version with the raised numbers, zeros for the missing ones, and no pre-release
 abbrev pub up : ℕ → List ℕ → PlainVersion
 up k s = filled (raised k s) []
 
--- the numbers of a bound, with a pre-release
+-- a bound with its pre-release replaced by this one
 abbrev pub with_pre_release : List IdentifierValue → PlainVersion → PlainVersion
 with_pre_release pre bound = record bound { pre = pre }
 
--- up(k) with a pre-release
+-- up(k) with this pre-release
 abbrev pub up_with : List IdentifierValue → ℕ → List ℕ → PlainVersion
 up_with pre k s = with_pre_release pre (up k s)
 
--- a comparator of an operator and a version
+-- the comparator with this operator and this version
 abbrev pub comparator : Op → PlainVersion → PlainComparator
 comparator op v = record { op = op; version = v }
 
--- the comparators of a cell, where `bound_pre` is the pre-release of a raised bound
+-- the comparators of a cell, with s as the stated numbers, z as the zero-filled version, and
+-- `bound_pre` as the pre-release of a raised bound
 abbrev pub written_cell : List IdentifierValue → Cell → List ℕ → PlainVersion
     → List PlainComparator
 written_cell bound_pre from_zero s z = comparator Gte zero_version ∷ []
@@ -108,24 +110,25 @@ written_cell bound_pre (below k) s z = comparator Lt (up_with bound_pre k s) ∷
 written_cell bound_pre (between k) s z =
     comparator Gte z ∷ comparator Lt (up_with bound_pre k s) ∷ []
 
--- the comparators of a cell, whose raised bound has no pre-release
+-- the comparators of a cell, without a pre-release in the raised bound
 abbrev pub cell_comparators : Cell → List ℕ → PlainVersion → List PlainComparator
 cell_comparators c s z = written_cell [] c s z
 
--- the raised bound of a cell, where it has one
+-- the raised bound of a cell, if it has one
 abbrev pub cell_raised : Cell → List ℕ → Option PlainVersion
 cell_raised (below k) s = Some (up k s)
 cell_raised (between k) s = Some (up k s)
 cell_raised _ s = None
 
--- the comparators of a simple
+-- the comparators of a term, with `bound_pre` as the pre-release of its raised bound
 abbrev pub written_simple : List IdentifierValue → Compat → Simple → List PlainComparator
 written_simple bound_pre mode s =
     written_cell bound_pre (cell mode s.form (stated s.partial)) (stated s.partial)
     (zero_filled s.partial)
 
--- the comparators of a range, by a table of simples: those of its simples or sides in order;
--- `>=0.0.0` where it is empty or both sides state nothing
+-- the comparators of a range, if `written` gives those of each term: the comparators of its terms,
+-- or of the sides of a hyphen range, in order. An empty range gives `>=0.0.0`, and so does a hyphen
+-- range if both sides state no number
 abbrev pub range_by : (Simple → List PlainComparator) → RangeTree → List PlainComparator
 range_by written empty = comparator Gte zero_version ∷ []
 range_by written (hyphen left right) =
@@ -136,8 +139,8 @@ range_by written (simples first others) = flat_map written (first ∷ others)
 abbrev pub written_range : List IdentifierValue → Compat → RangeTree → List PlainComparator
 written_range bound_pre mode r = range_by (written_simple bound_pre mode) r
 
--- the set that a tree is rewritten to by a table: the comparators of its ranges in order, with the
--- mode in the set and in each range
+-- the set that a tree is rewritten to, if `written` gives the comparators of each term: the ranges
+-- in order, with the mode in the set and in each range
 abbrev pub set_by : (Simple → List PlainComparator) → Compat → SetTree → PlainSet
 set_by written mode tree =
     record {
@@ -151,23 +154,24 @@ written_set bound_pre mode tree = set_by (written_simple bound_pre mode) mode tr
 abbrev pub rewritten : Compat → SetTree → PlainSet
 rewritten mode tree = written_set [] mode tree
 
--- the raised bound of a term, where its row has one
+-- the raised bound of a term, if its cell has one
 abbrev pub raised_bound : Compat → Term → Option PlainVersion
 raised_bound mode (of_simple s) =
     cell_raised (cell mode s.form (stated s.partial)) (stated s.partial)
 raised_bound mode of_nothing = None
 
--- whether the numbers of a raised bound are at most 2^64 - 1
+-- whether the numbers of a raised bound, if there is one, are at most 2^64 - 1
 abbrev pub bound_fits : Option PlainVersion → Bool
 bound_fits None = true
 bound_fits (Some bound) = list_all fits_u64 (numbers bound)
 
--- whether the numbers that a simple states, and those of its raised bound, are at most 2^64 - 1
+-- whether the numbers that a term states, and those of its raised bound, are at most 2^64 - 1
 abbrev pub simple_fits : Compat → Simple → Bool
 simple_fits mode s =
     list_all fits_u64 (stated s.partial) && bound_fits (raised_bound mode (of_simple s))
 
--- whether a term fits, by its simple, and a tree, by its terms
+-- whether a term fits, and below, whether all terms of a tree fit, if `fit` decides this for a
+-- `Simple`. The term of an empty range always fits
 abbrev pub term_fits_by : (Simple → Bool) → Term → Bool
 term_fits_by fit (of_simple s) = fit s
 term_fits_by fit of_nothing = true

@@ -1,4 +1,4 @@
--- Versions as the tools read them: those of SemVer 2.0.0, which Cargo reads, and npm's, as
+-- Versions as Cargo and npm read them: Cargo reads those of SemVer 2.0.0, and npm those that
 -- node-semver 7 reads without options.
 use Prim.Native.Char.{code}
 use Rattle.std.specs.Prelude.{◌≡◌, ◌⊎◌, ℕ, ◌^◌, ◌<◌, ◌≤◌, Bool, false, not, List}
@@ -16,17 +16,18 @@ use Rattle.semver_texts.specs.NpmLimits.{max_length}
 use Rattle.semver_texts.specs.declared.grammar.Grammar.{Grammar}
 use Rattle.semver_texts.specs.declared.grammar.Grammar.TheVariants.{Crate, Cargo, Npm}
 
--- the text is kept as the identifier: one or more letters, digits and hyphens (SemVer 2.0.0,
--- sections 9 and 10). Digits without a leading zero are kept as their number, whatever its size,
--- any other text as it is
+-- the text, which is one or more letters, digits or hyphens, is kept as the identifier (SemVer
+-- 2.0.0, sections 9 and 10). Digits without a leading zero are kept as their number, of any size,
+-- and any other text is kept as it is
 abbrev pub IsKeptAs : IdentifierValue → Text → Type 0
 IsKeptAs (numeric n) text = IsTrue (is_number text) × (digits_value 10 text ≡ n)
 IsKeptAs (alphanumeric kept) text =
     (text ≡ kept) × IsTrue (is_part kept) × (is_number kept ≡ false)
 
--- the text is the version as SemVer 2.0.0 writes it: three numbers below 2^64 joined by dots, `-`
--- and the identifiers of the pre-release, of which none of digits alone has a leading zero, `+` and
--- those of the build
+-- the text spells the version as in SemVer 2.0.0: three numbers below 2^64 joined by dots, then `-`
+-- and the identifiers of the pre-release, if there are any, then `+` and those of the build
+-- metadata, if there are any. An identifier of the pre-release that consists of digits has no
+-- leading zero
 pub record SpellsSemver (v : VersionValue) (text : Text) : Type 0 where
   pub pre_texts : List Text
   pub build_texts : List Text
@@ -39,16 +40,17 @@ pub record SpellsSemver (v : VersionValue) (text : Text) : Type 0 where
   pub spelled : text ≡ join_with_byte (code ".") (map decimal (numbers v.plain))
       ++ (marked (codes "-") pre_texts ++ marked (codes "+") build_texts)
 
--- a byte of a character that isn't its first one
+-- whether a byte is a later byte of a UTF-8 character, not its first one
 abbrev pub goes_on : ℕ → Bool
 goes_on b = is_in_range 0x80 0xBF b
 
--- how many characters a text has. Each of a version is one unit of UTF-16, and so of JavaScript
+-- the number of characters of a text. In a version, each character is one unit of UTF-16, which
+-- JavaScript counts
 abbrev pub characters : Text → ℕ
 characters text = count_by (λ b. not (goes_on b)) text
 
--- the text is the version as npm reads it, of any length: between any white space, and after `v` or
--- nothing, a version of SemVer 2.0.0 whose numbers are below 2^53
+-- the text spells the version as npm reads it, of any length: a version of SemVer 2.0.0 whose
+-- numbers are below 2^53, after `v` or nothing, with any white space on both sides
 pub record SpellsNpmAtAnyLength (v : VersionValue) (text : Text) : Type 0 where
   pub before : Text
   pub sign : Text
@@ -63,20 +65,20 @@ pub record SpellsNpmAtAnyLength (v : VersionValue) (text : Text) : Type 0 where
   pub patch : v.plain.patch < 2 ^ 53
   pub whole : text ≡ before ++ (sign ++ (core ++ after))
 
--- so, and the text has at most as many characters as npm allows
+-- the text spells the version as npm reads it, and has at most as many characters as npm allows
 abbrev pub SpellsNpm : VersionValue → Text → Type 0
 SpellsNpm v text = SpellsNpmAtAnyLength v text × (characters text ≤ max_length)
 
--- the text spells the version in a dialect
+-- the text spells the version in a grammar
 abbrev pub SpellsIn : Grammar → VersionValue → Text → Type 0
 SpellsIn Crate v text = SpellsVersion v text
 SpellsIn Cargo v text = SpellsSemver v text
 SpellsIn Npm v text = SpellsNpm v text
 
--- some version is spelled so
+-- the text spells some version in a grammar
 abbrev pub IsVersionTextIn : Grammar → Text → Type 0
 IsVersionTextIn grammar text = (v : VersionValue) × SpellsIn grammar v text
 
--- how many bytes of a version text are before its numbers
+-- the number of bytes of a version text before its numbers
 abbrev pub before_numbers : Text → ℕ
 before_numbers text = prefix_len (λ b. not (is_ascii_digit b)) text

@@ -1,5 +1,7 @@
--- The grammar of versions: which version a text spells (SemVer 2.0.0, section 2 and sections 9 and
--- 10 in this crate's wider form).
+-- The crate's grammar of versions: which version a text spells. It is that of SemVer 2.0.0
+-- (sections 2, 9 and 10) with these differences: white space may be around the version, numbers are
+-- below 2^64, an identifier of digits in the pre-release may have leading zeros, and hyphens may
+-- only be between two runs.
 use Prim.Native.Char.{code}
 use Rattle.std.specs.Prelude.{◌≡◌, ◌-◌, ◌^◌, ◌<◌, false, List, ◌++◌, length, map, slice_index}
 use Rattle.std.specs.Prelude.{IsTrue, codes, decimal}
@@ -16,21 +18,21 @@ pub record IsIdentifierText (text : Text) : Type 0 where
   pub each : AllByRecursion IsRun runs
   pub joined : text ≡ join_with_byte (code "-") runs
 
--- the text spells the identifier: the canonical decimal of a number below 2^64 spells that number,
--- any other text itself
+-- the text spells the identifier: if it is the canonical decimal of a number below 2^64, as that
+-- number, otherwise as the text itself
 abbrev pub SpellsIdentifier : IdentifierValue → Text → Type 0
 SpellsIdentifier (numeric n) text = (n < 2 ^ 64) × (text ≡ decimal n)
 SpellsIdentifier (alphanumeric kept) text =
     (text ≡ kept) × IsIdentifierText kept × ¬ (IsNumber kept)
 
--- the mark, and the identifiers joined by dots; nothing where there is no identifier
+-- the mark, and then the identifiers joined by dots; nothing if there are no identifiers
 pub record SpellsPart (mark : Text) (ids : List IdentifierValue) (text : Text) : Type 0 where
   pub texts : List Text
   pub each : AllZip SpellsIdentifier ids texts
   pub joined : text ≡ marked mark texts
 
--- the text is the version without white space round it: three numbers joined by dots, the
--- pre-release after `-`, the build after `+`
+-- the text spells the version, without white space around it: three numbers joined by dots, the
+-- pre-release after `-`, the build metadata after `+`
 pub record SpellsCore (v : VersionValue) (text : Text) : Type 0 where
   pub pre_text : Text
   pub build_text : Text
@@ -42,7 +44,7 @@ pub record SpellsCore (v : VersionValue) (text : Text) : Type 0 where
   pub spelled : text ≡ join_with_byte (code ".") (map decimal (numbers v.plain)) ++ pre_text
       ++ build_text
 
--- the text spells the version: its core, and white space on either side
+-- the text spells the version, perhaps with white space on both sides
 pub record SpellsVersion (v : VersionValue) (text : Text) : Type 0 where
   pub before : Text
   pub core : Text
@@ -52,11 +54,11 @@ pub record SpellsVersion (v : VersionValue) (text : Text) : Type 0 where
   pub spells : SpellsCore v core
   pub whole : text ≡ before ++ core ++ after
 
--- some version is spelled so
+-- the text spells some version
 abbrev pub IsVersionText : Text → Type 0
 IsVersionText text = (v : VersionValue) × SpellsVersion v text
 
--- the text without the spaces, tabs, line feeds and carriage returns at its ends
+-- `inner` is the text without the spaces, tabs, line feeds and carriage returns at its ends
 pub record IsTrimmed (text inner : Text) : Type 0 where
   pub before : Text
   pub after : Text
@@ -66,12 +68,12 @@ pub record IsTrimmed (text inner : Text) : Type 0 where
   pub first : is_space (slice_index inner 0) ≡ false
   pub last : is_space (slice_index inner (length inner - 1)) ≡ false
 
--- an identifier that its own printed text spells
+-- the printed text of the identifier spells it
 abbrev pub IsPrintableIdentifier : IdentifierValue → Type 0
 IsPrintableIdentifier id = SpellsIdentifier id (identifier_text id)
 
--- a version that its printed text spells: numbers below 2^64, and identifiers that are kept as they
--- are
+-- the printed text of the version spells it: its numbers are below 2^64, and the printed texts of
+-- its identifiers spell them
 pub record IsPrintableVersion (v : VersionValue) : Type 0 where
   pub major : v.plain.major < 2 ^ 64
   pub minor : v.plain.minor < 2 ^ 64

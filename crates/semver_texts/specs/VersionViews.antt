@@ -1,16 +1,16 @@
--- What contracts see of versions: their values, and not where they lie in memory.
+-- The values of versions, as contracts see them, independent of where they are in memory.
 use Rattle.std.specs.Prelude.{map, string_bytes}
 use Rattle.semver_texts.specs.declared.version.Identifier.{Identifier}
 use Rattle.semver_texts.specs.declared.version.Identifier.TheVariants.{Numeric, AlphaNumeric}
 use Rattle.semver_texts.specs.declared.version.Version.{Version}
 use Rattle.semver_texts.specs.Versions.{IdentifierValue, numeric, alphanumeric, VersionValue}
 
--- an identifier
+-- the value of an identifier
 abbrev pub identifier_value : Identifier → IdentifierValue
 identifier_value (Numeric n) = numeric n
 identifier_value (AlphaNumeric s) = alphanumeric (string_bytes s)
 
--- a version
+-- the value of a version
 abbrev pub version_value : Version → VersionValue
 version_value v = record {
   plain =

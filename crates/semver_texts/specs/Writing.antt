@@ -1,13 +1,13 @@
--- What was written to a writer that returns its bytes.
+-- What a call wrote to a writer whose contents are known.
 use Rattle.std.specs.Prelude.{◌≡◌, ℕ, List, ◌++◌, Option, Result, MatchResult}
 use Rattle.std.specs.Io.KnownBytes.{Appends}
 
--- the known bytes grow by a beginning of these
+-- the known bytes have grown by a beginning of these bytes
 abbrev pub AppendsBeginning : Option (List ℕ) → Option (List ℕ) → List ℕ → Type 0
 AppendsBeginning old new bytes =
     (front rest : List ℕ) × (front ++ rest ≡ bytes) × Appends old new front
 
--- all of these were written at `Ok`, and a beginning of them at `Err`
+-- after `Ok`, all of these bytes were written, and after `Err`, a beginning of them
 abbrev pub WritesOrBegins : {T E : Type 0} → Option (List ℕ) → Option (List ℕ) → Result T E → List ℕ
     → Type 0
 WritesOrBegins old new r bytes =

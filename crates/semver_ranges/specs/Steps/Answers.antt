@@ -1,5 +1,5 @@
--- A means of proof, which only clauses of calls between these crates cite: what a text is read to,
--- by the reader.
+-- A means of proof, cited only in clauses of calls between these crates: the result for a text, in
+-- terms of the reader.
 use Rattle.std.specs.Prelude.{List, [], ◌≡◌, Bool, false, IsTrue, Result, Ok, Err, Option, Some}
 use Rattle.std.specs.Prelude.{None}
 use Rattle.std.specs.List.{list_all}
@@ -19,7 +19,8 @@ use Rattle.semver_ranges.specs.Steps.RangeEvents.{Event, event_fits}
 use Rattle.semver_ranges.specs.Steps.Reading.{read}
 use Rattle.semver_ranges.specs.RangeViews.{set_of}
 
--- why there is no set of events that are read, if they are: memory may run out where they fit alone
+-- the error is possible for these events: with `NotARange` there are none, with `NumberTooLarge`
+-- one of them doesn't fit, and with `OutOfMemory` all of them fit
 abbrev pub IsRefusalBy : Option (List Event) → (Simple → Bool) → RangeError → Type 0
 IsRefusalBy o fit NotARange = o ≡ None
 IsRefusalBy o fit NumberTooLarge =
@@ -27,7 +28,8 @@ IsRefusalBy o fit NumberTooLarge =
 IsRefusalBy o fit OutOfMemory =
     (es : List Event) × (o ≡ Some es) × IsTrue (list_all (event_fits fit) es)
 
--- their set by a table, or why there is none
+-- the result is possible for these events: a set, if all of them fit and `written` gives its
+-- comparators, or a possible error
 abbrev pub IsAnswerBy : Option (List Event) → (Simple → Bool) → (Simple → List PlainComparator)
     → Compat → Result RangeSet RangeError → Type 0
 IsAnswerBy o fit written mode (Ok set) =
@@ -35,7 +37,7 @@ IsAnswerBy o fit written mode (Ok set) =
     × (set_of set ≡ record { ranges = ranges_by written mode [] es; compat = mode })
 IsAnswerBy o fit written mode (Err e) = IsRefusalBy o fit e
 
--- the same of a tree
+-- the error, and below, the result, is possible for a tree, with `made` as the set of a tree
 abbrev pub IsRefusalOf : Option SetTree → (Simple → Bool) → RangeError → Type 0
 IsRefusalOf o fit NotARange = o ≡ None
 IsRefusalOf o fit NumberTooLarge =
@@ -49,7 +51,8 @@ IsAnswerOf o fit made (Ok set) = (tree : SetTree) × (o ≡ Some tree)
     × IsTrue (fits_by fit tree) × (set_of set ≡ made tree)
 IsAnswerOf o fit made (Err e) = IsRefusalOf o fit e
 
--- that of a text of the crate, with its raised bounds written so
+-- the result is possible for a text in the crate's grammar, with `bound_pre` as the pre-release of
+-- raised bounds
 abbrev pub IsAnswer : List IdentifierValue → Text → Compat → Result RangeSet RangeError → Type 0
 IsAnswer bound_pre t mode r =
     IsAnswerOf (read Crate t) (simple_fits mode) (written_set bound_pre mode) r

@@ -1,5 +1,5 @@
--- A means of proof, which only clauses of calls between these crates cite: what contracts see of
--- what the cursor yields.
+-- A means of proof, cited only in clauses of calls between these crates: how contracts see the
+-- results of the cursor over a range text.
 use Rattle.std.specs.Prelude.{◌≡◌, ◌+◌, ◌*◌, ◌<◌, ◌≤◌, length, ℕ, Bool, true, false, ◌==◌}
 use Rattle.std.specs.Prelude.{if◌then◌else◌, Option, Some, None, is_some, Result, Ok, Err, List, []}
 use Rattle.std.specs.Prelude.{◌∷◌}
@@ -27,19 +27,20 @@ use Rattle.semver_ranges.specs.Steps.RangeEvents.{one_simple, next_range, yielde
 use Rattle.semver_ranges.specs.Steps.PartialViews.{IsPartialOf}
 use Rattle.semver_texts.specs.Texts.{cut_at_dots}
 
--- what is found at the front of a text, and what follows it
+-- a call returns what a function on lists returns: what is found at the beginning of a text,
+-- related by `Is`, and the rest of the text. It returns `None` if and only if that function does
 abbrev pub Finds : {X A : Type 0} → (X → A → Type 0) → Option (X × Text) → Option (A × Bor Text)
     → Type 0
 Finds Is o None = o ≡ None
 Finds {X = X} Is o (Some found) = (x : X) × (o ≡ Some (x, found.1.now)) × Is x found.0
 
--- the parts after a mark; none where the text doesn't begin with it
+-- the parts after a mark, and what follows them; no parts if the text doesn't begin with the mark
 abbrev pub marked_parts : ℕ → Text → Option (List Text × Text)
 marked_parts mark [] = Some ([], [])
 marked_parts mark (b ∷ t) = if b == mark then parts t else Some ([], b ∷ t)
 
--- the parts of a pre-release and of a build that are after three components, and what follows
--- them
+-- a call finds what is after three components: the parts of a pre-release, those of build metadata,
+-- and the rest of the text
 abbrev pub FindsPre : Text → Option (Bor Text × Bor Text × Bor Text) → Type 0
 FindsPre t None = (a b c : Text) → after_three a b c t ≡ None
 FindsPre t (Some found) =
@@ -47,7 +48,7 @@ FindsPre t (Some found) =
     ≡ Some (three a b c (cut_at_dots found.0.now) (cut_at_dots found.1.now), found.2.now))
     × (list_all is_part (cut_at_dots found.0.now) ≡ true)
 
--- what is before a partial
+-- the operator, as the syntax tree has it
 abbrev pub form_of : Form → tree.Form
 form_of form.Bare = tree.bare
 form_of form.Equal = tree.equal
@@ -58,36 +59,36 @@ form_of form.AtLeast = tree.at_least
 form_of form.Tilde = tree.tilde
 form_of form.Caret = tree.caret
 
--- what a word is after
+-- what a word comes after, as the syntax tree has it
 abbrev pub role_of : Role → tree.Role
 role_of (role.AfterForm f) = tree.after_form (form_of f)
 role_of role.AfterHyphen = tree.after_hyphen
 
--- the simple that was read
+-- a term that was read has this syntax tree
 abbrev pub IsSimpleOf : tree.Simple → Simple → Type 0
 IsSimpleOf s simple = (form_of simple.form ≡ s.form) × IsPartialOf s.partial simple.partial
 
--- the one or two simples that a hyphen range is yielded as
+-- the one or two terms that the cursor returns for a hyphen range
 abbrev pub AreSides : List tree.Simple → Simple → Option Simple → Type 0
 AreSides (s ∷ []) lower None = IsSimpleOf s lower
 AreSides (s ∷ next ∷ []) lower (Some upper) = IsSimpleOf s lower × IsSimpleOf next upper
 AreSides _ lower upper = ⊥
 
--- a hyphen range that was read as its sides, and what follows it
+-- a call reads a hyphen range as its sides, and returns them and the rest of the text
 abbrev pub FindsSides : LowerBounds → Option (tree.RangeTree × Text)
     → Option (Simple × Option Simple × Bor Text) → Type 0
 FindsSides lower o None = o ≡ None
 FindsSides lower o (Some found) = (x : tree.RangeTree) × (o ≡ Some (x, found.2.now))
     × AreSides (yielded lower x) found.0 found.1
 
--- the event that was read
+-- an event that was read is this event of the list
 abbrev pub IsEventOf : list.Event → Event → Type 0
 IsEventOf (one_simple s) (event.Simple simple) = IsSimpleOf s simple
 IsEventOf next_range event.NextRange = Unit {0}
 IsEventOf _ _ = ⊥
 
--- the events that a cursor has left: an upper side, and those of the text from there on, or none
--- where that isn't in the grammar
+-- the events that a cursor has left: the upper side of a hyphen range, if it holds one, and the
+-- events of the rest of the text. They are `None` if that rest isn't in the grammar
 abbrev pub HasAfter : Option Simple → Option (List list.Event) → Option (List list.Event) → Type 0
 HasAfter None after o = o ≡ after
 HasAfter (Some upper) after o =
@@ -97,18 +98,20 @@ abbrev pub HasLeft : Grammar → Events → Option (List list.Event) → Type 0
 HasLeft d cursor o =
     HasAfter cursor.upper (events_left d cursor.lower cursor.begins_range cursor.rest.now) o
 
--- the first of the events that are left, and a cursor after it
+-- an event is the first of those that are left, and a cursor after it has the others left
 abbrev pub IsFirst : Grammar → Option (List list.Event) → Event → Events → Type 0
 IsFirst d o e after =
     (x : list.Event) × (left : Option (List list.Event)) × IsEventOf x e × HasLeft d after left
     × (o ≡ put x left)
 
--- how many bytes an event takes at least: it may be an upper side
+-- the least number of bytes by which reading an event moves the cursor: 0 for a term, since it may
+-- be the upper side that the cursor holds
 abbrev pub bytes_of : Event → ℕ
 bytes_of (event.Simple simple) = 0
 bytes_of event.NextRange = 1
 
--- how many events are left at most: two for each byte, one for an empty range, and an upper side
+-- a limit for the number of events that are left: two for each byte, one if a range begins, since
+-- it may be empty, and one for an upper side
 abbrev pub flag : Bool → ℕ
 flag true = 1
 flag false = 0
@@ -119,7 +122,8 @@ size_at begins_range t = 2 * length t + flag begins_range
 abbrev pub size_left : Events → ℕ
 size_left cursor = size_at cursor.begins_range cursor.rest.now + flag (is_some cursor.upper)
 
--- the event at the front of a text that is left, and the cursor after it
+-- a call takes the first event of a text that is left, and moves the cursor after it. It returns
+-- `None` if the text isn't in the grammar from there on
 abbrev pub TakesEvent : Grammar → LowerBounds → Bool → Text → Option Event → Events → Type 0
 TakesEvent d lower begins_range t None after = (events_left d lower begins_range t ≡ None)
     × (after.begins_range ≡ false) × (after.upper ≡ None) × (after.rest.now ≡ t)
@@ -127,8 +131,8 @@ TakesEvent d lower begins_range t (Some e) after =
     IsFirst d (events_left d lower begins_range t) e after
     × (size_left after < size_at begins_range t) × (length after.rest.now + bytes_of e ≤ length t)
 
--- what `next` gives: the first of the events that are left; an error where the text isn't in the
--- grammar; None where no event is left
+-- what the cursor returns next: the first of the events that are left, `NotARange` if the rest of
+-- the text isn't in the grammar, and `None` if no event is left
 abbrev pub Gives : Grammar → Option (List list.Event) → Option (Result Event RangeError) → Events
     → Type 0
 Gives d o None after = (o ≡ Some []) × HasLeft d after o

@@ -1,5 +1,5 @@
--- A means of proof, which only clauses of calls between these crates cite: what contracts see of
--- components and partials.
+-- A means of proof, cited only in clauses of calls between these crates: how contracts see
+-- components and partial versions.
 use Rattle.std.specs.Prelude.{◌≡◌, ℕ, Bool, true, false, Option, Some, None, List, [], ◌∷◌, map}
 use Rattle.std.specs.Prelude.{length, not, codes}
 use Rattle.std.specs.List.{list_all}
@@ -26,7 +26,7 @@ use Rattle.semver_texts.specs.Versions.{IdentifierValue, PlainVersion}
 use Rattle.semver_ranges.specs.Partials.{fits_u64, kept, stated, zero_filled}
 use Rattle.semver_ranges.specs.ExactBounds.{lowest_pre_release}
 
--- the numbers that are stated
+-- the stated numbers
 abbrev pub stated_at : PartialKind → ℕ → ℕ → ℕ → List ℕ
 stated_at XRangeOnly a b c = []
 stated_at MajorOnly a b c = a ∷ []
@@ -46,7 +46,7 @@ version_of p =
       pre = map kept (cut_at_dots p.pre.now);
     }
 
--- the place of a number, from 1
+-- the position of a number, counted from 1; and below, the number at a position
 abbrev pub place_number : Place → ℕ
 place_number Major = 1
 place_number Minor = 2
@@ -62,19 +62,19 @@ abbrev pub pre_of : RaisedBounds → List IdentifierValue
 pre_of Plain = []
 pre_of Exact = lowest_pre_release
 
--- a partial as a bound that begins with it is written: as stated, or with the lowest pre-release
--- where it has none
+-- a partial version as it is written in a lower bound: as stated, or with the pre-release `0` if it
+-- has three components and no pre-release
 abbrev pub begun_as : LowerBounds → PartialTree → PartialTree
 begun_as Stated t = t
 begun_as Lowest (three a b c [] build) = three a b c (codes "0" ∷ []) build
 begun_as Lowest t = t
 
--- the value of a number, which is none where it is above 2^64 - 1
+-- the value of a number, or `None` if it is above 2^64 - 1
 abbrev pub IsValue : ℕ → Option ℕ → Type 0
 IsValue n None = fits_u64 n ≡ false
 IsValue n (Some v) = (fits_u64 n ≡ true) × (v ≡ n)
 
--- the component that a text is
+-- the component of this text: a wildcard, or a number with this value
 abbrev pub IsComponentOf : Text → Component → Type 0
 IsComponentOf t Wildcard = is_wildcard t ≡ true
 IsComponentOf t (Number value) = (is_wildcard t ≡ false) × IsValue (digits_value 10 t) value
@@ -84,18 +84,21 @@ abbrev pub states_none : PartialKind → Bool
 states_none XRangeOnly = true
 states_none _ = false
 
--- the parts of a pre-release are parts
+-- each part of the pre-release is one or more letters, digits or hyphens
 abbrev pub PartsPass : Partial → Type 0
 PartsPass p = list_all is_part (cut_at_dots p.pre.now) ≡ true
 
--- what a partial states: some number that doesn't fit, or these numbers and this pre-release
+-- what is kept of a partial version. It fits if and only if all its stated numbers do. If it fits,
+-- its stated numbers and its zero-filled version are kept. If it doesn't, it states at least one
+-- number
 abbrev pub IsPartialOf : PartialTree → Partial → Type 0
 IsPartialOf t p =
     (list_all fits_u64 (stated t) ≡ p.fits)
     × (p.fits ≡ true → (stated_of p ≡ stated t) × (version_of p ≡ zero_filled t))
     × (p.fits ≡ false → states_none p.kind ≡ false) × PartsPass p
 
--- the components of a partial, wildcards for those that it hasn't, and the bytes of its pre-release
+-- the components of a partial version, with wildcards for the missing ones, and the bytes of its
+-- pre-release
 abbrev pub AreComponentsOf : PartialTree → Component → Component → Component → Text → Type 0
 AreComponentsOf (one a) major minor patch pre =
     IsComponentOf a major × (minor ≡ Wildcard) × (patch ≡ Wildcard)
@@ -105,8 +108,8 @@ AreComponentsOf (three a b c parts build) major minor patch pre =
     IsComponentOf a major × IsComponentOf b minor × IsComponentOf c patch
     × (parts ≡ cut_at_dots pre)
 
--- the same, with the bytes of the build, how many components are written, and whether something is
--- written after three
+-- the components as they are written: the above, the bytes of the build metadata, the number of
+-- components, and whether a pre-release or build metadata follows them
 pub record AreWritten (t : PartialTree) (c : Components) : Type 0 where
   pub stand : AreComponentsOf t c.major c.minor c.patch c.pre.now
   pub pre : pre_parts t ≡ cut_at_dots c.pre.now

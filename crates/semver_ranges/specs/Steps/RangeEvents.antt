@@ -1,5 +1,5 @@
--- A means of proof, which only clauses of calls between these crates cite: the events of a range
--- text, from the left to the right.
+-- A means of proof, cited only in clauses of calls between these crates: the events of a range
+-- text, from left to right.
 use Rattle.std.specs.Prelude.{Bool, true, false, if◌then◌else◌, Option, Some, None, List, []}
 use Rattle.std.specs.Prelude.{◌∷◌, codes}
 use Rattle.semver_texts.specs.declared.grammar.Grammar.{Grammar}
@@ -13,18 +13,18 @@ use Rattle.semver_ranges.specs.Steps.Reading.{all_simples, range_here, after_ran
 use Rattle.semver_ranges.specs.Steps.Reading.{read}
 use Rattle.semver_ranges.specs.Steps.PartialViews.{begun_as}
 
--- an event: a simple of the range, or two bars
+-- an event: a term of the range, or two bars
 pub data Event : Type 0 where
   one_simple : Simple → Event
   next_range : Event
 
--- a bare wildcard
+-- a wildcard without an operator
 abbrev pub wildcard : Simple
 wildcard = record { form = bare; partial = one (codes "*") }
 
--- the simples that a range is yielded as: a wildcard where it is empty; of a hyphen range the
--- sides, of which one that states nothing is left out, but for the left where neither states a
--- number
+-- the terms that the cursor returns for a range. An empty range gives a wildcard. A hyphen range
+-- gives its sides, and a side that states no number is left out, except for the left one if neither
+-- side states a number. `lower` says how the left side is written
 abbrev pub yielded : LowerBounds → RangeTree → List Simple
 yielded lower empty = wildcard ∷ []
 yielded lower (hyphen left right) =
@@ -33,24 +33,24 @@ yielded lower (hyphen left right) =
     else left_side (begun_as lower left) ∷ right_side right ∷ [])
 yielded lower (simples first others) = first ∷ others
 
--- simples before events
+-- the events of terms, and then these events
 abbrev pub in_front : List Simple → List Event → List Event
 in_front [] es = es
 in_front (s ∷ ss) es = one_simple s ∷ in_front ss es
 
--- the events of a range set: the simples of its ranges, with two bars between each two ranges
+-- the events of a range set: the terms of its ranges, and two bars between each range and the next
 abbrev pub events_of : LowerBounds → SetTree → List Event
 events_of lower [] = []
 events_of lower (r ∷ []) = in_front (yielded lower r) []
 events_of lower (r ∷ next ∷ others) =
     in_front (yielded lower r) (next_range ∷ events_of lower (next ∷ others))
 
--- whether an event fits, by its simple
+-- whether an event fits, if `fit` decides this for a term
 abbrev pub event_fits : (Simple → Bool) → Event → Bool
 event_fits fit (one_simple s) = fit s
 event_fits fit next_range = true
 
--- an event, and simples, before the events that are left
+-- an event, and below, the events of terms, before the events that are left
 abbrev pub put : Event → Option (List Event) → Option (List Event)
 put e None = None
 put e (Some es) = Some (e ∷ es)
@@ -59,7 +59,7 @@ abbrev pub put_simples : List Simple → Option (List Event) → Option (List Ev
 put_simples [] o = o
 put_simples (s ∷ ss) o = put (one_simple s) (put_simples ss o)
 
--- the events of a text: those of its set; none where it isn't in the grammar
+-- the events of a text: those of its set, or `None` if the text isn't in the grammar
 abbrev pub set_events : LowerBounds → Option SetTree → Option (List Event)
 set_events lower None = None
 set_events lower (Some tree) = Some (events_of lower tree)
@@ -67,7 +67,7 @@ set_events lower (Some tree) = Some (events_of lower tree)
 abbrev pub events : Grammar → LowerBounds → Text → Option (List Event)
 events d lower t = set_events lower (read d t)
 
--- what is left after a range, from its end on
+-- the events that are left after a range, from its end on
 abbrev pub at_bars : Grammar → LowerBounds → Option Text → Option (List Event)
 at_bars d lower None = None
 at_bars d lower (Some t) = put next_range (events d lower t)
@@ -76,12 +76,13 @@ abbrev pub others_left : Grammar → LowerBounds → Text → Option (List Event
 others_left d lower [] = Some []
 others_left d lower (b ∷ t) = at_bars d lower (after_bars (b ∷ t))
 
--- what is left after simples
+-- the events of these terms, and then those that are left of the text after them
 abbrev pub simples_left : Grammar → LowerBounds → Option (List Simple × Text) → Option (List Event)
 simples_left d lower None = None
 simples_left d lower (Some (ss, end)) = put_simples ss (others_left d lower end)
 
--- what is left at the begin of a range, after its blanks, and in a range
+-- the events that are left: at the beginning of a range, after its blanks, if the flag is true, and
+-- otherwise within a range
 abbrev pub events_left : Grammar → LowerBounds → Bool → Text → Option (List Event)
 events_left d lower true t = set_events lower (after_range (read d) (range_here d t))
 events_left d lower false t = simples_left d lower (all_simples d t)

@@ -1,6 +1,7 @@
--- A means of proof, which only clauses of calls between these crates cite: the functions on lists
--- that the cursor of range texts follows, from the left to the right. Each answers what is at the
--- front of a text, and what follows it; `read` answers the tree that a text spells, or none.
+-- A means of proof, cited only in clauses of calls between these crates: functions on lists that
+-- read a range text from left to right, as the cursor does. Each returns what is at the beginning
+-- of a text, and the rest of the text after it. The last one, `read`, returns the tree that a text
+-- spells, or `None`.
 use Prim.Native.Char.{code}
 use Rattle.std.specs.Prelude.{ℕ, zero, suc, ◌-◌, Bool, true, false, ◌&&◌, ◌||◌, ◌==◌, if◌then◌else◌}
 use Rattle.std.specs.Prelude.{Option, Some, None, List, [], ◌∷◌, length}
@@ -16,7 +17,7 @@ use Rattle.semver_texts.specs.declared.grammar.Grammar.{Grammar}
 use Rattle.semver_texts.specs.declared.grammar.Grammar.TheVariants.{Crate, Cargo, Npm}
 use Rattle.semver_texts.specs.Texts.{Text, begins_with, is_dot, is_dotted_byte}
 
--- the longest front whose bytes pass, and what is left
+-- the longest beginning of a text whose bytes all pass a test, and below, the rest of the text
 abbrev pub front : (ℕ → Bool) → Text → Text
 front p [] = []
 front p (b ∷ t) = if p b then b ∷ front p t else []
@@ -25,11 +26,12 @@ abbrev pub back : (ℕ → Bool) → Text → Text
 back p [] = []
 back p (b ∷ t) = if p b then back p t else b ∷ t
 
--- what follows the blanks at the front
+-- what follows the blanks at the beginning of a text
 abbrev pub after_blanks : Grammar → Text → Text
 after_blanks d t = back (is_blank d) t
 
--- whether a word or a range ends here: at the end of the text, at a bar, and a word at a blank
+-- whether a range or a word ends here: both end at the end of the text and at a bar, and a word
+-- also at a blank
 abbrev pub is_bar : ℕ → Bool
 is_bar b = b == code "|"
 
@@ -49,13 +51,14 @@ component (b ∷ t) =
     else (if is_ascii_digit b then Some (b ∷ front is_ascii_digit t, back is_ascii_digit t)
     else None)
 
--- parts: the bytes of parts and dots, cut at the dots
+-- parts joined by dots: the bytes of parts and dots at the beginning of a text, cut at the dots;
+-- `None` if one of the parts is empty
 abbrev pub parts : Text → Option (List Text × Text)
 parts t =
     if list_all is_part (slice_split is_dot (front is_dotted_byte t)) then Some
     (slice_split is_dot (front is_dotted_byte t), back is_dotted_byte t) else None
 
--- a build, where one is there
+-- the build metadata, if there is any
 abbrev pub with_build : Text → Text → Text → List Text → Option (List Text × Text)
     → Option (PartialTree × Text)
 with_build a b c pre None = None
@@ -66,12 +69,12 @@ after_pre a b c pre [] = Some (three a b c pre [], [])
 after_pre a b c pre (mark ∷ t) =
     if mark == code "+" then with_build a b c pre (parts t) else Some (three a b c pre [], mark ∷ t)
 
--- a pre-release, where one is there, and then a build
+-- the pre-release, if there is one, and then the build metadata
 abbrev pub with_pre : Text → Text → Text → Option (List Text × Text) → Option (PartialTree × Text)
 with_pre a b c None = None
 with_pre a b c (Some found) = after_pre a b c found.0 found.1
 
--- whether one of them is there
+-- whether a pre-release or build metadata begins here
 abbrev pub begins_qualifier : Text → Bool
 begins_qualifier [] = false
 begins_qualifier (mark ∷ t) = (mark == code "-") || (mark == code "+")
@@ -81,7 +84,7 @@ after_three a b c [] = Some (three a b c [] [], [])
 after_three a b c (mark ∷ t) =
     if mark == code "-" then with_pre a b c (parts t) else after_pre a b c [] (mark ∷ t)
 
--- the third, second and first component
+-- the third, the second and the first component of a partial version
 abbrev pub with_third : Text → Text → Option (Text × Text) → Option (PartialTree × Text)
 with_third a b None = None
 with_third a b (Some found) = after_three a b found.0 found.1
@@ -104,7 +107,8 @@ abbrev pub with_first : Option (Text × Text) → Option (PartialTree × Text)
 with_first None = None
 with_first (Some found) = after_one found.0 found.1
 
--- what follows one `v`, to npm; and whether a partial is read of a word of so many bytes
+-- a text without the `v` at its beginning that npm's grammar allows; and below, whether a grammar
+-- accepts a partial version whose word has n bytes
 abbrev pub after_v : Grammar → Text → Text
 after_v Crate t = t
 after_v Cargo t = t
@@ -116,7 +120,8 @@ takes Crate role p n = true
 takes Cargo role p n = true
 takes Npm role p n = is_word_of_npm role p n
 
--- a partial, up to the end of its word, at the front of a text of so many bytes
+-- a partial version, if the grammar accepts it, and its word ends right after it. The text, which
+-- begins with the word, has n bytes
 abbrev pub whole_word : Grammar → Role → ℕ → Option (PartialTree × Text)
     → Option (PartialTree × Text)
 whole_word d role n None = None
@@ -126,7 +131,7 @@ whole_word d role n (Some found) =
 abbrev pub partial : Grammar → Role → Text → Option (PartialTree × Text)
 partial d role t = whole_word d role (length t) (with_first (component (after_v d t)))
 
--- the operator at the front of a text, and what follows it and its blanks
+-- the operator at the beginning of a text, and what follows it and the blanks after it
 abbrev pub after_less : Grammar → Text → Form × Text
 after_less d [] = (less, [])
 after_less d (b ∷ t) =
@@ -152,7 +157,7 @@ operator d (b ∷ t) =
     else (if b == code "^" then (caret, after_blanks d t)
     else (bare, b ∷ t)))))
 
--- a simple, and what follows it and the blanks after it
+-- a term, and what follows it and the blanks after it
 abbrev pub with_form : Grammar → Form → Option (PartialTree × Text) → Option (Simple × Text)
 with_form d form None = None
 with_form d form (Some found) =
@@ -162,7 +167,7 @@ abbrev pub simple : Grammar → Text → Option (Simple × Text)
 simple d t =
     with_form d (operator d t).0 (partial d (after_form (operator d t).0) (operator d t).1)
 
--- simples up to the end of their range; the number bounds how many are looked for
+-- the terms up to the end of their range. The number is a limit for the depth of the recursion
 abbrev pub put_before : Simple → Option (List Simple × Text) → Option (List Simple × Text)
 put_before s None = None
 put_before s (Some found) = Some (s ∷ found.0, found.1)
@@ -180,8 +185,8 @@ some_simples d (suc n) t =
 abbrev pub all_simples : Grammar → Text → Option (List Simple × Text)
 all_simples d t = some_simples d (suc (length t)) t
 
--- the right side of a hyphen range, from the hyphen on, and what follows it and the blanks after
--- it
+-- the right side of a hyphen range, read from the hyphen on, and what follows it and the blanks
+-- after it
 abbrev pub range_end : Grammar → Option (PartialTree × Text) → Option (PartialTree × Text)
 range_end d None = None
 range_end d (Some found) =
@@ -195,13 +200,13 @@ right_side d (dash ∷ blank ∷ t) =
     then range_end d (partial d after_hyphen (after_blanks d t))
     else None
 
--- a hyphen range of a first simple, which has to be bare, and a right side
+-- a hyphen range of a first term, which must have no operator, and a right side
 abbrev pub with_right : Simple → Option (PartialTree × Text) → Option (RangeTree × Text)
 with_right s None = None
 with_right s (Some found) =
     if is_bare s.form then Some (hyphen s.partial found.0, found.1) else None
 
--- the simples after a first
+-- a range of a first term and the terms after it
 abbrev pub with_others : Simple → Option (List Simple × Text) → Option (RangeTree × Text)
 with_others s None = None
 with_others s (Some found) = Some (simples s found.0, found.1)
@@ -212,7 +217,7 @@ after_first d (Some found) =
     if begins_with (code "-") found.1 then with_right found.0 (right_side d found.1)
     else with_others found.0 (all_simples d found.1)
 
--- a range and what follows it
+-- a range, and what follows it
 abbrev pub range_here : Grammar → Text → Option (RangeTree × Text)
 range_here d t = if ends_range t then Some (empty, t) else after_first d (simple d t)
 
@@ -225,12 +230,13 @@ after_bars [] = None
 after_bars (bar ∷ []) = None
 after_bars (bar ∷ bar' ∷ t) = if is_bar bar && is_bar bar' then Some t else None
 
--- one more range in front
+-- one more range before those of a tree
 abbrev pub onto : RangeTree → Option SetTree → Option SetTree
 onto r None = None
 onto r (Some tree) = Some (r ∷ tree)
 
--- ranges separated by bars up to the end; the number bounds how many are looked for
+-- ranges separated by two bars, up to the end of the text. The number is a limit for the depth of
+-- the recursion
 abbrev pub more_ranges : (Text → Option SetTree) → RangeTree → Option Text → Option SetTree
 more_ranges others r None = None
 more_ranges others r (Some t) = onto r (others t)
@@ -244,6 +250,6 @@ abbrev pub some_ranges : Grammar → ℕ → Text → Option SetTree
 some_ranges d zero t = None
 some_ranges d (suc n) t = after_range (some_ranges d n) (range d t)
 
--- the tree that a text spells
+-- the tree that a text spells, or `None`
 abbrev pub read : Grammar → Text → Option SetTree
 read d t = some_ranges d (suc (length t)) t

@@ -1,4 +1,4 @@
--- Precedence is a total order, and equal only of equal versions: a means of proof.
+-- A means of proof: precedence is a total order, and only equal versions are equal in precedence.
 use Rattle.std.proofs.Common.{◌≡◌, ℕ, List, [], ◌∷◌, refl, sym, ap, ◌∙◌}
 use Rattle.std.specs.Ordering.{nat_cmp, on, ordering_reverse, ordering_then, then_cmp}
 use Rattle.std.specs.Cmp.{IsTotalOrder, nat_cmp_total, on_total, then_total}
@@ -10,7 +10,7 @@ use Rattle.semver_texts.specs.Texts.{Text}
 use Rattle.semver_texts.specs.Precedence.{identifier_cmp, pre_cmp, precedence}
 use Rattle.semver_texts.specs.Versions.{IdentifierValue, numeric, alphanumeric, PlainVersion}
 
--- an order that answers as a total one does is total
+-- an order is total if it always has the same result as a total order
 same_total : {K : Type 0} {R S : K → K → Ordering}
     → ((x y : K) → R x y ≡ S x y) → IsTotalOrder S → IsTotalOrder R
 same_total e o = record {
@@ -24,7 +24,7 @@ then-equal Less = refl
 then-equal Equal = refl
 then-equal Greater = refl
 
--- identifiers by their class, then by their number, then by their text
+-- identifiers are compared by their class, then by their number, then by their text
 class : IdentifierValue → ℕ
 class (numeric n) = 0
 class (alphanumeric t) = 1
@@ -52,7 +52,7 @@ identifier_total =
     same_total by_class (then_total (on_total class nat_cmp_total)
     (then_total (on_total number nat_cmp_total) (on_total text nat_list_cmp_total)))
 
--- pre-releases by whether there is one, then from the left
+-- pre-releases are compared by whether there is one, then from the left
 rank : List IdentifierValue → ℕ
 rank [] = 1
 rank (x ∷ xs) = 0
@@ -77,7 +77,7 @@ precedence_total =
     (then_total (on_total (λ (v : PlainVersion). v.patch) nat_cmp_total)
     (on_total (λ (v : PlainVersion). v.pre) pre_total)))
 
--- what ties is the same
+-- values that compare as equal are equal
 identifier-same : IsAntisymmetric identifier_cmp
 identifier-same (numeric m) (numeric n) e = ap numeric (nat_cmp-IsAntisymmetric m n e)
 identifier-same (numeric m) (alphanumeric t) e = cc
@@ -101,7 +101,7 @@ then_second Less s e = cc
 then_second Equal s e = e
 then_second Greater s e = cc
 
--- versions with the same fields are the same
+-- versions with equal fields are equal
 same_fields : (v w : PlainVersion)
     → v.major ≡ w.major → v.minor ≡ w.minor → v.patch ≡ w.patch → v.pre ≡ w.pre → v ≡ w
 same_fields v w a b c d = λ i. record { major = a i; minor = b i; patch = c i; pre = d i }
