@@ -1,4 +1,4 @@
--- What a call of a parser answered, without where it lies in memory.
+-- The values that the calls of a parser return, independent of where they are in memory.
 use Rattle.std.specs.Prelude.{map, codes, Option, Some, None, Result, Ok, Err, ⊤, ◌++◌, option_map}
 use Rattle.std.specs.Prelude.{option_to_list}
 use Rattle.semver_texts.specs.Texts.{Text}
@@ -11,7 +11,7 @@ use Rattle.semver_tokens.specs.declared.lexer.Error.TheVariants as lexer_error
 use Rattle.semver_tokens.specs.declared.parser.Error.{Error}
 use Rattle.semver_tokens.specs.declared.parser.Error.TheVariants as error
 
--- a token ahead of what a lexer has left
+-- the state of a lexer, with a token, if there is one, before what it has left
 abbrev pub ahead : Option Token → ParserState → ParserState
 ahead o s =
     record {
@@ -29,17 +29,17 @@ error_value error.EmptyPredicate = spec.EmptyPredicate
 error_value error.EmptyRange = spec.EmptyRange
 error_value error.OutOfMemory = spec.OutOfMemory
 
--- a result, seen by a view of its value
+-- the value of a result, if `view` gives the value in it
 abbrev pub answer_of : {T A : Type 0} → (T → A) → Result T Error → Result A ErrorValue
 answer_of view (Ok x) = Ok (view x)
 answer_of view (Err e) = Err (error_value e)
 
--- a result and the state after it, seen by a view of its value
+-- the value of a result as above, and the state after it
 abbrev pub step_of : {T A : Type 0} → (T → A) → Result T Error → ParserState → Step A
 step_of view (Ok x) s = (Ok (view x), s)
 step_of view (Err e) s = (Err (error_value e), s)
 
--- P, unless memory ran out; and P where it did
+-- P, unless the result is out of memory; and below, P if it is
 abbrev pub UnlessOutOfMemory : {T : Type 0} → Result T Error → Type 0 → Type 0
 UnlessOutOfMemory (Err error.OutOfMemory) P = ⊤
 UnlessOutOfMemory _ P = P
@@ -48,7 +48,7 @@ abbrev pub IfOutOfMemory : {T : Type 0} → Result T Error → Type 0 → Type 0
 IfOutOfMemory (Err error.OutOfMemory) P = P
 IfOutOfMemory _ P = ⊤
 
--- the sentence of an error, where it is one for all errors of its kind
+-- the sentence of an error, if all errors of its kind have the same one
 abbrev pub fixed_text : Error → Option Text
 fixed_text error.UnexpectedEnd = Some (codes "expected more input")
 fixed_text error.EmptyPredicate = Some (codes "encountered empty predicate")

@@ -1,4 +1,4 @@
--- The values of the code without where they lie in memory.
+-- The values of tokens, and of what a lexer returns, independent of where they are in memory.
 use Rattle.std.specs.Prelude.{List, ◌++◌, map, Result, Ok, Err, option_to_list}
 use Rattle.semver_tokens.specs.Tokens.{TokenValue, Eq, Gt, Lt, LtEq, GtEq, Caret, Tilde, Star, Dot}
 use Rattle.semver_tokens.specs.Tokens.{Comma, Hyphen, Plus, Or, Whitespace, Numeric, AlphaNumeric}
@@ -26,13 +26,12 @@ token_value (token.Whitespace first after) = Whitespace first after
 token_value (token.Numeric n) = Numeric n
 token_value (token.AlphaNumeric text) = AlphaNumeric text.now
 
--- an item of a lexer
+-- the value of an item that a lexer returns
 abbrev pub item_value : Result Token Error → Result TokenValue Error
 item_value (Ok t) = Ok (token_value t)
 item_value (Err e) = Err e
 
--- the items that a lexer has left: the tokens that remain, and an error where a character is
--- pending
+-- the items that a lexer has left: the remaining tokens, and an error if a character is pending
 abbrev pub items_left : ParserState → List (Result TokenValue Error)
 items_left s =
     map (λ t. Ok t) s.remaining ++ map (λ c. Err (error.UnexpectedChar c))

@@ -16,8 +16,7 @@ use Rattle.semver_texts.specs.declared.grammar.Grammar.{Grammar}
 use Rattle.semver_texts.specs.PrintedText.{identifier_text, plain_text}
 use Rattle.semver_texts.specs.VersionGrammar.{SpellsVersion}
 
--- three numbers, two texts, how many bytes are before each of them, and how numeric identifiers are
--- read
+-- three numbers, two texts and their offsets, and how numeric identifiers are read
 pub record VersionRefValue : Type 0 where
   pub major : ℕ
   pub minor : ℕ
@@ -28,18 +27,19 @@ pub record VersionRefValue : Type 0 where
   pub build_offset : ℕ
   pub digits : Digits
 
--- the text of identifiers: each as it prints, joined by dots; empty where there are none
+-- the text of identifiers: their printed texts, joined by dots; empty if there are none
 abbrev pub dotted_text : List IdentifierValue → Text
 dotted_text ids = join_with_byte (code ".") (map identifier_text ids)
 
--- where a part begins whose mark is at the place: after it; 0 where there is no part
+-- the offset at which a part begins, which is after its mark at the offset `place`; 0 if there is
+-- no part
 abbrev pub after_mark : ℕ → Text → ℕ
 after_mark place [] = 0
 after_mark place (byte ∷ part) = suc place
 
--- the borrowed version of a version that is after so many bytes: its numbers, and the texts of its
--- identifiers, each after its mark; that of the pre-release is after the numbers, and that of
--- the build after the version without it
+-- the borrowed version of a version that has `before` bytes before it: its numbers, and the texts
+-- of its identifiers, each after its mark. The mark of the pre-release is after the numbers, and
+-- that of the build metadata is after the version without build metadata
 abbrev pub version_ref_after : Digits → ℕ → VersionValue → VersionRefValue
 version_ref_after digits before v = record {
   major = v.plain.major;
@@ -54,16 +54,16 @@ version_ref_after digits before v = record {
   digits = digits;
 }
 
--- it is the borrowed version of a version that the text spells and that is after so many bytes
+-- the borrowed version of a version that the text spells, with `before` bytes before the version
 abbrev pub IsVersionRefAfter : ℕ → Text → VersionRefValue → Type 0
 IsVersionRefAfter before text o =
     (v : VersionValue) × SpellsVersion v text × (o ≡ version_ref_after Kept before v)
 
--- it is the borrowed version of a version that the text spells, after the white space at its front
+-- the borrowed version of a version that the text spells, after the white space at its beginning
 abbrev pub IsVersionRefOf : Text → VersionRefValue → Type 0
 IsVersionRefOf text o = IsVersionRefAfter (prefix_len is_space text) text o
 
--- it is the borrowed version of a version that the text spells in a dialect
+-- the borrowed version of a version that the text spells in a grammar
 abbrev pub IsVersionRefIn : Grammar → Text → VersionRefValue → Type 0
 IsVersionRefIn grammar text o = (v : VersionValue) × SpellsIn grammar v text
     × (o ≡ version_ref_after (digits_in grammar) (before_numbers text) v)
@@ -73,7 +73,7 @@ abbrev pub identifier_of : Text → IdentifierValue
 identifier_of part = if is_number part && nat_lt (digits_value 10 part) (2 ^ 64)
     then numeric (digits_value 10 part) else alphanumeric part
 
--- the version that a borrowed version is of, as it is kept
+-- the version of a borrowed version, with the identifiers as they are kept
 abbrev pub kept_version_of : VersionRefValue → VersionValue
 kept_version_of o = record {
   plain = record {
@@ -85,7 +85,7 @@ kept_version_of o = record {
   build = map identifier_of (cut_at_dots o.build);
 }
 
--- the version that a borrowed version is of
+-- the version of a borrowed version, with the identifiers as its grammar reads them
 abbrev pub version_of : VersionRefValue → VersionValue
 version_of o = version_by o.digits (kept_version_of o)
 

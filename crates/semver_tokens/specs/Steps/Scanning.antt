@@ -1,6 +1,5 @@
--- The tokens of a text found one after another, from the left. This is how the lexer goes, and a
--- means of proof: `Tokens` says what the tokens of a text are, and the public clauses speak of
--- that.
+-- A means of proof: the tokens of a text, found one after another from left to right, as the lexer
+-- does. `Tokens` defines the tokens of a text, and the public clauses cite that.
 use Prim.Native.Char.{code}
 use Rattle.std.specs.Prelude.{ℕ, zero, suc, ◌+◌, Bool, ◌==◌, if◌then◌else◌, List, [], ◌∷◌, length}
 use Rattle.std.specs.Prelude.{drop, Option, Some, None, slice_index, slice_get, chars, take_while}
@@ -13,11 +12,11 @@ use Rattle.semver_texts.specs.Texts.{is_space}
 use Rattle.semver_texts.specs.Steps.Decimals.{is_number}
 use Rattle.semver_tokens.specs.ParserState.{ParserState}
 
--- the token of a run
+-- the token of letters and digits
 unfoldable pub component : List ℕ → TokenValue
 component run = if is_number run then Numeric (digits_value 10 run) else AlphaNumeric run
 
--- the sign that these two bytes begin with, and its length
+-- the sign at the beginning of two bytes, and its length
 unfoldable pub sign : ℕ → ℕ → Option (TokenValue × ℕ)
 sign b c =
     if b == code "=" then Some (Eq, 1)
@@ -33,7 +32,7 @@ sign b c =
     else (if b == code "|" then (if c == code "|" then Some (Or, 2) else None)
     else None))))))))))
 
--- the first token of what is at a place, and its length
+-- the first token of the bytes at the offset `place`, and its length
 unfoldable pub first_token : ℕ → List ℕ → Option (TokenValue × ℕ)
 first_token place [] = None
 first_token place (b ∷ bs) =
@@ -47,7 +46,7 @@ first_token place (b ∷ bs) =
     )
     else sign b (slice_index bs 0))
 
--- at most n tokens from a place on, and what is left after them
+-- at most n tokens from the offset `place` on, and the rest of the text after them
 unfoldable pub scan : ℕ → List ℕ → ℕ → List TokenValue × List ℕ
 scan zero text place = ([], drop place text)
 scan (suc n) text place =
@@ -59,7 +58,7 @@ scan (suc n) text place =
       )
     ]
 
--- what is left of a text from a place on: its tokens, and the first character of the rest
+-- the state from the offset `place` on: the tokens, and the first character of the rest after them
 unfoldable pub state_from : List ℕ → ℕ → ParserState
 state_from text place =
     record {
@@ -68,7 +67,7 @@ state_from text place =
           (chars (scan (length text) text place).1) 0;
     }
 
--- the same, and nothing once the bad character was given
+-- the state that a lexer has left: as above, but empty after it returned the bad character
 unfoldable pub state_left : List ℕ → ℕ → Bool → ParserState
 state_left text place failed =
     if failed then record { remaining = []; pending = None } else state_from text place

@@ -1,5 +1,5 @@
--- Taking identifiers and versions token by token. This is how the parser goes, and a means of
--- proof: `VersionReading` says what reading answers.
+-- A means of proof: identifiers and versions taken token by token, as the parser does.
+-- `VersionReading` defines what reading returns.
 use Prim.Native.Char.{code}
 use Rattle.std.specs.Prelude.{◌≡◌, ℕ, ◌<◌, ◌⊎◌, Bool, true, false, List, [], ◌∷◌, ◌++◌, length}
 use Rattle.std.specs.Prelude.{Option, Some, None, Result, Ok, Err, IfOk, option_and_then}
@@ -16,12 +16,12 @@ use Rattle.semver_texts.specs.VersionGrammar.{SpellsIdentifier}
 use Rattle.semver_tokens.specs.VersionReading.{Reads, IsIdentifierShape, ReadsVersion}
 use Rattle.semver_tokens.specs.VersionReading.{MayRunOutInVersion, inner_text, inner_texts}
 
--- where the tokens lead, if each leads on
+-- where the tokens lead one after another, or `None` if one of them may not be there
 abbrev pub run : {S : Type 0} → (S → TokenValue → Option S) → S → List TokenValue → Option S
 run step s [] = Some s
 run step s (t ∷ ts) = option_and_then (λ u. run step u ts) (step s t)
 
--- from the state s this front was taken, which leads to the place, and t is left
+-- the tokens `front` were taken from the state s. They lead to `place`, and leave the state t
 pub record IsTaken {S : Type 0} (step : S → TokenValue → Option S) (start : S) (s : ParserState)
     (front : List TokenValue) (place : S) (t : ParserState) : Type 0 where
   pub split : s.remaining ≡ front ++ t.remaining
@@ -30,8 +30,8 @@ pub record IsTaken {S : Type 0} (step : S → TokenValue → Option S) (start : 
   -- the last token before a pending character wasn't taken
   pub known : (front ≡ []) ⊎ ((0 < length t.remaining) ⊎ (t.pending ≡ None))
 
--- what holds of a step: P of a value and the state after it, and F of an error and the state after
--- that
+-- what is true of a step: P of a value and the state after it, or F of an error and the state after
+-- it
 abbrev pub Gives : {A : Type 0} → (ErrorValue → ParserState → Type 0) → (A → ParserState → Type 0)
     → Step A → Type 0
 Gives F P (Ok x, t) = P x t
@@ -39,17 +39,18 @@ Gives F P (Err e, t) = F e t
 
 -- ---- identifiers
 
--- the number of a run of letters and digits, where it is one
+-- the value of a token of letters and digits: the number that it is, or `None` if it isn't a
+-- number. Other tokens have no value
 abbrev pub run_of : TokenValue → Option (Option ℕ)
 run_of (Numeric n) = Some (Some n)
 run_of (AlphaNumeric text) = Some None
 run_of _ = None
 
--- a run of letters and digits
+-- takes a token of letters and digits
 abbrev pub expect_run : ParserState → Step (Option ℕ)
 expect_run s = expect run_of s
 
--- the number of tokens that are one number alone
+-- if a list has only one token and that is a number, this number
 abbrev pub lone_number : List TokenValue → Option ℕ
 lone_number [] = None
 lone_number (t ∷ []) = number_of t
@@ -59,7 +60,7 @@ lone_number (t ∷ u ∷ ts) = None
 abbrev pub PassesIdentifier : ParserState → Result (Option ℕ) ErrorValue → ParserState → Type 0
 PassesIdentifier s r t = Reads IsIdentifierShape (λ (n : Option ℕ) text. Unit {0}) s r t
 
--- and the number where it is one alone
+-- reading an identifier, with its number as the result if the identifier is only a number
 pub record TakesIdentifier (s : ParserState) (r : Result (Option ℕ) ErrorValue)
     (t : ParserState) : Type 0 where
   pub passes : PassesIdentifier s r t
@@ -67,7 +68,7 @@ pub record TakesIdentifier (s : ParserState) (r : Result (Option ℕ) ErrorValue
 
 -- ---- versions
 
--- the three numbers of a version, and its two parts
+-- the three numbers of a version, and below, its other two parts
 pub data Number : Type 0 where
   major : Number
   minor : Number
@@ -77,7 +78,7 @@ pub data Part : Type 0 where
   pre_release : Part
   build : Part
 
--- a place in a version
+-- a position in a version
 pub data Place : Type 0 where
   start : Place
   at_number : Number → Place
@@ -89,7 +90,7 @@ pub data Place : Type 0 where
 abbrev pub if_component : Place → TokenValue → Option Place
 if_component next t = if is_component t then Some next else None
 
--- where a token leads from a place, if it may be there
+-- the position to which a token leads from another position, or `None` if it may not be there
 abbrev pub step : Place → TokenValue → Option Place
 step start (Whitespace a b) = Some (at_number major)
 step start (Numeric n) = Some (after_number major)
@@ -106,21 +107,23 @@ step (after_run part) (Whitespace a b) = Some end
 step (after_run pre_release) Plus = Some (at_run build)
 step _ _ = None
 
--- a version may end at the place
+-- whether a version may end at this position
 abbrev pub accepts : Place → Bool
 accepts (after_number patch) = true
 accepts (after_run part) = true
 accepts end = true
 accepts _ = false
 
--- from the state s a front with this text was taken that leads to the place, and t is left
+-- tokens with this text, not counting white space, were taken from the state s. They lead to
+-- `place`, and leave the state t
 pub record IsTakenTo (s : ParserState) (place : Place) (text : Text)
     (t : ParserState) : Type 0 where
   pub front : List TokenValue
   pub taken : IsTaken step start s front place t
   pub text_is : inner_texts front ≡ text
 
--- what comes next is a sign or a dot that leads to the part, with this text before and in it
+-- the next token is a sign or a dot that leads to the part; `text` is the text before that token,
+-- together with its own
 pub record IsAtMark (s : ParserState) (part : Part) (text : Text) (t : ParserState) : Type 0 where
   pub from : Place
   pub mark : TokenValue
@@ -130,7 +133,7 @@ pub record IsAtMark (s : ParserState) (part : Part) (text : Text) (t : ParserSta
   pub leads : step from mark ≡ Some (at_run part)
   pub text_is : before ++ inner_text mark ≡ text
 
--- identifiers joined by dots were taken, and no dot or hyphen comes next
+-- identifiers joined by dots were taken, and neither a dot nor a hyphen comes next
 pub record ArePassed (s : ParserState) (part : Part) (text : Text) (ids : List IdentifierValue)
     (t : ParserState) : Type 0 where
   pub texts : List Text
@@ -140,23 +143,23 @@ pub record ArePassed (s : ParserState) (part : Part) (text : Text) (ids : List I
   pub no_hyphen : ¬ (look t ≡ Some Hyphen)
   pub no_dot : ¬ (look t ≡ Some Dot)
 
--- in any version in which a mark comes next
+-- P is true for every version that was read up to a mark that comes next
 abbrev pub AtMark : ParserState → (ParserState → Part → Text → Type 0) → Type 0
 AtMark t P = (s : ParserState) (part : Part) (text : Text) → IsAtMark s part text t → P s part text
 
--- taking a part of a version: nothing where it isn't there; else its mark and its identifiers,
+-- taking a part of a version: nothing if it isn't there; otherwise its mark and its identifiers,
 -- whatever was taken before
 abbrev pub TakesPart : Bool → ParserState → Step (List IdentifierValue) → Type 0
 TakesPart false t step = step ≡ (Ok [], t)
 TakesPart true t step =
     AtMark t (λ s part text. Gives (λ e u. ReadsVersion s (Err e) u) (ArePassed s part text) step)
 
--- and without memory
+-- taking a part of a version may run out of memory
 abbrev pub PartMayRunOut : Bool → ParserState → ParserState → Type 0
 PartMayRunOut false t u = ⊥
 PartMayRunOut true t u = AtMark t (λ s part text. MayRunOutInVersion s u)
 
--- a white space, if it comes next
+-- takes white space, if it comes next
 abbrev pub skip_at : Option TokenValue → ParserState → Step (Unit {0})
 skip_at (Some (Whitespace first after)) s = and_then (pop s) (λ t u. (Ok tt, u))
 skip_at _ s = (Ok tt, s)
@@ -164,7 +167,7 @@ skip_at _ s = (Ok tt, s)
 abbrev pub skip_whitespace : ParserState → Step (Unit {0})
 skip_whitespace s = skip_at (look s) s
 
--- white space, if it comes next, and three numbers joined by dots
+-- takes white space, if it comes next, and three numbers joined by dots
 abbrev pub numbers : ParserState → Step (ℕ × ℕ × ℕ)
 numbers s =
     and_then (skip_whitespace s) (λ _ t. and_then (numeric t)
