@@ -1,4 +1,4 @@
--- What the options of the dialect and of pre-releases mean.
+-- What the options for the dialect and for pre-releases mean.
 use Rattle.std.specs.Prelude.{◌≡◌, ◌⊎◌, ◌++◌, ⊤, Bool, true, false, if◌then◌else◌, codes}
 use Rattle.std.specs.Prelude.{Option, Some, None, Result, Ok, Err, MatchResult, string_bytes}
 use Rattle.semver_parser.specs.Texts.{Text}
@@ -13,8 +13,8 @@ use Rattle.command_line.specs.declared.error.ArgumentError.TheVariants.{NoDialec
 use Rattle.command_line.specs.declared.error.ArgumentError.TheVariants.{GivenTwice, Contradiction}
 use Rattle.command_line.specs.declared.error.ArgumentError.TheVariants.{UnknownDialect, Unreadable}
 
--- the options that were taken: the dialect and the option that asked for it, the rule for
--- pre-releases, and whether the next argument names the dialect
+-- the options that were taken: the dialect and the option that requested it, the rule for
+-- pre-releases, and whether the next argument is the name of the dialect
 pub record OptionsValue : Type 0 where
   pub dialect : Option (Dialect × Text)
   pub rule : Option PreReleases
@@ -23,36 +23,36 @@ pub record OptionsValue : Type 0 where
 abbrev pub no_options : OptionsValue
 no_options = record { dialect = None; rule = None; wants_name = false }
 
--- the option that asks for a dialect by its name
+-- the option that requests a dialect by its name
 abbrev pub dialect_option_of : Dialect → Text
 dialect_option_of dialect = codes "--dialect " ++ name_of dialect
 
--- the argument asks for the dialect that the next one names
+-- the argument requests the dialect that the next argument names
 abbrev pub WantsName : Text → Type 0
 WantsName argument = (argument ≡ codes "--dialect") ⊎ (argument ≡ codes "--as")
 
--- the option of a rule
+-- the option for a rule
 abbrev pub option_of : PreReleases → Text
 option_of Excluded = codes "--releases-only"
 option_of Default = codes "--pre-stated"
 option_of Included = codes "--include-prerelease"
 
--- and its short form
+-- the short form of the option for a rule; that of the default rule is the option itself
 abbrev pub short_option_of : PreReleases → Text
 short_option_of Excluded = codes "--releases"
 short_option_of Default = codes "--pre-stated"
 short_option_of Included = codes "--pre"
 
--- the argument is the option of a rule, in either form
+-- the argument is the option for a rule, in either form
 abbrev pub IsOptionOf : PreReleases → Text → Type 0
 IsOptionOf rule argument = (argument ≡ option_of rule) ⊎ (argument ≡ short_option_of rule)
 
--- without an option it is Cargo's dialect
+-- the dialect, which is Cargo's without an option
 abbrev pub dialect_or_cargo : Option (Dialect × Text) → Dialect
 dialect_or_cargo None = Cargo
 dialect_or_cargo (Some r) = r.0
 
--- without an option the rule is the default
+-- the rule, which is the default without an option
 abbrev pub rule_or_default : Option PreReleases → PreReleases
 rule_or_default None = Default
 rule_or_default (Some rule) = rule
@@ -63,8 +63,8 @@ meant o = if o.wants_name then Err NoDialect else Ok (record {
   pre_releases = rule_or_default o.rule;
 })
 
--- the name that an argument gives: the argument after `--dialect`, or what follows `--dialect=` in
--- it; and so with `--as`
+-- the name that an argument gives: the argument itself if a name is expected, otherwise what
+-- follows `--dialect=` or `--as=` in it
 abbrev pub Names : OptionsValue → Text → Text → Type 0
 Names o argument name = ((o.wants_name ≡ true) × (argument ≡ name))
     ⊎ ((o.wants_name ≡ false)
@@ -74,7 +74,7 @@ Names o argument name = ((o.wants_name ≡ true) × (argument ≡ name))
 abbrev pub IsDialectName : Text → Type 0
 IsDialectName name = (dialect : Dialect) × (name ≡ name_of dialect)
 
--- the dialect that an argument asks for, and the option that does so
+-- the dialect that an argument requests, and the option that requests it
 abbrev pub AsksFor : OptionsValue → Text → Dialect → Text → Type 0
 AsksFor o argument dialect option =
     (Names o argument (name_of dialect) × (option ≡ dialect_option_of dialect))
@@ -88,7 +88,7 @@ IsOption argument = WantsName argument ⊎ (argument ≡ codes "--npm")
     ⊎ ((name : Text) × (argument ≡ codes "--dialect=" ++ name))
     ⊎ ((name : Text) × (argument ≡ codes "--as=" ++ name))
 
--- the error is that the option is given twice
+-- the error is that the option was given twice
 abbrev pub TellsTwice : Text → ArgumentError → Type 0
 TellsTwice option (GivenTwice told) = told.now ≡ option
 TellsTwice option _ = ⊥
@@ -99,12 +99,13 @@ TellsContradiction option earlier (Contradiction told other) =
     (told.now ≡ option) × (other.now ≡ earlier)
 TellsContradiction option earlier _ = ⊥
 
--- the error is that no dialect has the name, or that memory ran out
+-- the error is that no dialect has the name, or it is `Unreadable`, which is returned if memory
+-- runs out
 abbrev pub TellsUnknown : Text → ArgumentError → Type 0
 TellsUnknown name (UnknownDialect told) = string_bytes told ≡ name
 TellsUnknown name Unreadable = ⊤
 TellsUnknown name _ = ⊥
 
--- there is an error, and it is such a one
+-- the result is an error for which `Is` is true
 abbrev pub Fails : {A : Type 0} → (ArgumentError → Type 0) → Result A ArgumentError → Type 0
 Fails Is result = MatchResult result (λ _. ⊥) Is

@@ -1,28 +1,29 @@
--- Prefixes of the texts of a language: the texts that some text of it begins with, and the longest
--- such prefix of a text.
+-- Prefixes of the texts of a language, which are the texts with which some text of it begins; and
+-- the longest such prefix of a text.
 use Rattle.std.specs.Prelude.{ℕ, ◌<◌, ◌≤◌, ◌++◌, List, [], length, take}
 use Rattle.std.specs.List.{AllByRecursion, Any}
 use Rattle.std.specs.Str.{IsCharBoundary, IsUtf8}
 use Rattle.semver_texts.specs.Texts.{Text}
 
--- some text after it makes one of the language
+-- some text of the language begins with t and continues with UTF-8
 abbrev pub Begins : (Text → Type 0) → Text → Type 0
 Begins Is t = (rest : Text) × IsUtf8 rest × Is (t ++ rest)
 
--- so does one of ASCII
+-- some text of the language begins with t and continues with ASCII
 abbrev pub BeginsWhole : (Text → Type 0) → Text → Type 0
 BeginsWhole Is t = (rest : Text) × AllByRecursion (λ b. b < 128) rest × Is (t ++ rest)
 
--- one of the completions after it does
+-- t with one of the completions after it is a text of the language
 abbrev pub GoesOn : (Text → Type 0) → List Text → Text → Type 0
 GoesOn Is completions t = Any (λ completion. Is (t ++ completion)) completions
 
--- each of them has at most 8 bytes
+-- each completion has at most 8 bytes
 abbrev pub AreShort : List Text → Type 0
 AreShort completions = AllByRecursion (λ completion. length completion ≤ 8) completions
 
--- some text is of the language, and each prefix of its texts goes on with one of the completions,
--- all short and of ASCII
+-- the completions are short and ASCII. One of them completes the empty text to a text of the
+-- language. For each prefix of a text of the language, one of them completes it, if the prefix and
+-- the rest are UTF-8
 pub record AreCompletions (Is : Text → Type 0) (completions : List Text) : Type 0 where
   pub ascii : AllByRecursion (AllByRecursion (λ b. b < 128)) completions
   pub short : AreShort completions
@@ -30,16 +31,16 @@ pub record AreCompletions (Is : Text → Type 0) (completions : List Text) : Typ
   pub complete : (t rest : Text) → IsUtf8 t → IsUtf8 rest → Is (t ++ rest)
       → GoesOn Is completions t
 
--- the offset, between two characters, is the end of the longest such prefix that the text begins
--- with
+-- the offset, which is between two characters, is the end of the longest prefix with which the text
+-- begins, of those that end between two characters
 pub record IsLongestPrefix (Begins : Text → Type 0) (t : Text) (offset : ℕ) : Type 0 where
   pub within : offset ≤ length t
   pub boundary : IsCharBoundary t offset
   pub prefix : Begins (take offset t)
   pub no_longer : (n : ℕ) → offset < n → IsCharBoundary t n → ¬ (Begins (take n t))
 
--- the offset is the end of the longest prefix of bytes, which needn't be UTF-8, that text of ASCII
--- makes one of the language
+-- the offset is the end of the longest prefix, of bytes that needn't be UTF-8, which some ASCII
+-- completes to a text of the language
 pub record IsLongestWholePrefix (Is : Text → Type 0) (t : Text) (offset : ℕ) : Type 0 where
   pub within : offset ≤ length t
   pub prefix : BeginsWhole Is (take offset t)

@@ -1,11 +1,12 @@
--- The reasons why a text is refused: a row for each.
+-- The reasons why a text is invalid, with a row for each.
 use Rattle.std.specs.Prelude.{◌++◌, ℤ, pos, codes, decimal}
 use Rattle.semver_texts.specs.NpmLimits.{max_build_length, max_length}
 use Rattle.semver_texts.specs.Texts.{Text}
 use Rattle.invalid_strings.specs.declared.reasons.Reason.{Reason}
 use Rattle.invalid_strings.specs.declared.reasons.Reason.TheVariants as reason
 
--- its number in C, Python and JavaScript, its name for programs, and its sentence for people
+-- the number of a reason in C, Python and JavaScript, its name for programs, and its sentence for
+-- people
 abbrev pub row_of : Reason → ℤ × Text × Text
 row_of reason.Empty = (pos 1, codes "empty", codes "the string is empty")
 row_of reason.NotThreeNumbers =

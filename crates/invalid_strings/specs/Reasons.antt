@@ -1,5 +1,5 @@
--- Why a text is not a version: a reason, by the longest prefix that it begins with and the byte
--- after it, if there is one.
+-- Why a text is not a version: the reason, from the longest prefix with which the text begins and
+-- the byte after it, if there is one.
 use Prim.Native.Char.{code}
 use Rattle.std.specs.Prelude.{◌≡◌, ◌↔◌, ℕ, Bool, not, ◌&&◌, ◌||◌, ◌==◌, nat_lt, []}
 use Rattle.std.specs.Prelude.{◌∷◌, ◌++◌, if◌then◌else◌, IsTrue, Option, Some, None, codes, length}
@@ -24,15 +24,15 @@ use Rattle.invalid_strings.specs.declared.reasons.Reason.TheVariants.{CargoV, Cr
 
 -- ---- the prefix
 
--- the prefix and these bytes are a version, whatever its length
+-- the prefix with these bytes after it is a version, of any length
 abbrev pub Completes : Grammar → Text → Text → Type 0
 Completes grammar prefix more = IsVersionAtAnyLength grammar (prefix ++ more)
 
--- some version begins so, but each is longer than the dialect allows
+-- some versions begin with the text, but all of them are longer than the grammar allows
 abbrev pub IsTooLong : Grammar → Text → Type 0
 IsTooLong grammar text = ((more : Text) × Completes grammar text more) × ¬ (IsPrefixIn grammar text)
 
--- its last bytes; 0 before its first
+-- the byte with the index n, counted from the end; 0 if there is none
 abbrev pub from_end : Text → ℕ → ℕ
 from_end prefix n = slice_index (reverse prefix) n
 
@@ -46,11 +46,11 @@ is_blank prefix = list_all (λ b. not (is_ascii_digit b || (b == code "v"))) pre
 abbrev pub ends_in_digit : Text → Bool
 ends_in_digit prefix = is_ascii_digit (from_end prefix 0)
 
--- it ends in a zero, with no digit before it
+-- the prefix ends in a zero that has no digit before it
 abbrev pub ends_in_zero : Text → Bool
 ends_in_zero prefix = (from_end prefix 0 == code "0") && not (is_ascii_digit (from_end prefix 1))
 
--- it ends in a letter, a digit or a hyphen
+-- the prefix ends in a letter, a digit or a hyphen
 abbrev pub ends_in_part : Text → Bool
 ends_in_part prefix = is_part_byte (from_end prefix 0)
 
@@ -63,29 +63,31 @@ abbrev pub byte_text : Option ℕ → Text
 byte_text None = []
 byte_text (Some b) = b ∷ []
 
--- what may follow a number or an identifier somewhere
+-- a separator: `.`, `-`, `+` or ASCII white space
 abbrev pub is_separator : ℕ → Bool
 is_separator b = (b == code ".") || ((b == code "-") || ((b == code "+") || is_ascii_white_space b))
 
 -- ---- the reason
 
--- after fewer than three numbers: after a number more of them are missing, else a number is
+-- the reason after fewer than three numbers: if the prefix ends in a number, others are missing;
+-- otherwise a number is expected
 abbrev pub missing_after : Text → Reason
 missing_after prefix = if ends_in_digit prefix then NotThreeNumbers else NumberExpected
 
--- the limit of the numbers of a dialect
+-- the reason for a number above the limit of a grammar
 abbrev pub too_large_in : Grammar → Reason
 too_large_in grammar.Crate = TooLarge
 too_large_in grammar.Cargo = TooLarge
 too_large_in grammar.Npm = NpmTooLarge
 
--- the same of a bound that is above it
+-- the reason for a raised bound above that limit
 abbrev pub bound_too_large_in : Grammar → Reason
 bound_too_large_in grammar.Crate = BoundTooLarge
 bound_too_large_in grammar.Cargo = BoundTooLarge
 bound_too_large_in grammar.Npm = NpmBoundTooLarge
 
--- what a byte is that no version has there: a `v` before the numbers, or any other
+-- the reason for a byte that no version has there. In Cargo's and the crate's grammars, a `v`
+-- before the numbers has a reason of its own
 abbrev pub unexpected_in : Grammar → Text → ℕ → Reason
 unexpected_in grammar.Cargo prefix b =
     if (b == code "v") && is_blank prefix then CargoV else UnexpectedCharacter
@@ -93,8 +95,9 @@ unexpected_in grammar.Crate prefix b =
     if (b == code "v") && is_blank prefix then CrateV else UnexpectedCharacter
 unexpected_in grammar.Npm prefix b = UnexpectedCharacter
 
--- by whether the prefix is a version of any length, is one with a letter after it, and with a zero;
--- whether the prefix and the byte are too long; the prefix, and the byte
+-- the reason, from whether the prefix is a version of any length, whether it is one with the letter
+-- `a` after it, whether it is one with a zero after it, and whether the prefix with the byte is too
+-- long; and from the prefix and the byte
 abbrev pub reason_by : Grammar → Bool → Bool → Bool → Bool → Text → Option ℕ → Reason
 reason_by g version letter zero too_long prefix None = if is_blank prefix then Empty
     else (if not letter then missing_after prefix
@@ -109,7 +112,7 @@ reason_by g version letter zero too_long prefix (Some b) = if too_long then TooL
     else missing_after prefix)
     else (if zero then EmptyIdentifier else LeadingZero)))))
 
--- the reason at a prefix and the byte after it
+-- the reason for a prefix and the byte after it, if there is one
 pub record IsReason (grammar : Grammar) (prefix : Text) (next : Option ℕ) (reason : Reason) : Type 0
   where
     pub version : Bool

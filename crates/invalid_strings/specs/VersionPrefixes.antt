@@ -1,4 +1,4 @@
--- Prefixes of versions: the texts that some version begins with, in each dialect.
+-- Prefixes of versions: the texts with which some version begins, in each dialect.
 use Rattle.std.specs.Prelude.{ℕ, ◌++◌}
 use Rattle.semver_texts.specs.Texts.{Text}
 use Rattle.semver_texts.specs.ToolVersions.{IsVersionTextIn}
@@ -8,20 +8,21 @@ use Rattle.invalid_strings.specs.Prefixes.{BeginsWhole, IsLongestWholePrefix}
 use Rattle.invalid_strings.specs.declared.bytes.Length.{Length}
 use Rattle.invalid_strings.specs.declared.bytes.Length.TheVariants.{Allowed, Any}
 
--- the text is a version of a dialect, as long as the dialect allows or of any length
+-- the text is a version in a grammar, with a length that the grammar allows, or of any length
 abbrev pub IsVersionOf : Length → Grammar → Text → Type 0
 IsVersionOf Allowed grammar text = IsVersionTextIn grammar text
 IsVersionOf Any grammar text = IsVersionAtAnyLength grammar text
 
--- some text after it makes a version
+-- some version begins with the text
 abbrev pub IsPrefixIn : Grammar → Text → Type 0
 IsPrefixIn grammar text = (more : Text) × IsVersionTextIn grammar (text ++ more)
 
--- so does some text of ASCII: the prefix doesn't end within a character
+-- some version begins with the text and continues with ASCII. So the text doesn't end within a
+-- character
 abbrev pub IsWholePrefixIn : Grammar → Text → Type 0
 IsWholePrefixIn grammar text = BeginsWhole (IsVersionTextIn grammar) text
 
--- the offset is the end of the longest such prefix that the text begins with
+-- the offset is the end of the longest such prefix with which the text begins
 abbrev pub IsLongestVersionPrefix : Grammar → Text → ℕ → Type 0
 IsLongestVersionPrefix grammar text offset =
     IsLongestWholePrefix (IsVersionTextIn grammar) text offset

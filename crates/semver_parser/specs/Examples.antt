@@ -1,4 +1,5 @@
--- Worked examples: which tree spells a text, what it is rewritten to, and which versions meet it.
+-- Worked examples: which tree spells a text, what it is rewritten to, and which versions satisfy
+-- it.
 use Rattle.std.specs.Prelude.{◌≡◌, ℕ, Bool, true, ◌&&◌, List, [], ◌∷◌, ◌++◌, codes, refl}
 use Rattle.std.proofs.Common.{inr}
 use Rattle.std.specs.Fmt.{digits}
@@ -20,26 +21,27 @@ use Rattle.semver_ranges.specs.Meeting.{meets_set}
 use Rattle.semver_ranges.specs.StatedPreReleases.{meets_tree_as_stated}
 use Rattle.semver_ranges.specs.PrintedRanges.{set_text}
 
--- a tree that spells the text fits in the mode, and its comparators are printed so
+-- a tree spells the text and fits in the mode, and its comparators are printed as `printed`
 abbrev pub IsRewritten : Text → Compat → Text → Type 0
 IsRewritten text mode printed =
     (tree : SetTree) × Spells tree text × (fits mode tree ≡ true)
     × (set_text (rewritten mode tree) ≡ printed)
 
--- a tree that spells the text has this meaning of its own for the version, and comparators that are
--- met so
+-- a tree spells the text. The version satisfies the tree if and only if `own` is true, and the
+-- comparators of the tree if and only if `comparators` is true
 abbrev pub IsMet : Text → Compat → PlainVersion → Bool → Bool → Type 0
 IsMet text mode v own comparators =
     (tree : SetTree) × Spells tree text × (meets_tree mode tree v ≡ own)
     × (meets_set v (rewritten mode tree) ≡ comparators)
 
--- a tree that spells the text has this meaning of its own for the version, and is met so as stated
+-- a tree spells the text. The version satisfies the tree if and only if `own` is true, and
+-- satisfies it by the default rule for pre-releases if and only if `as_stated` is true
 abbrev pub IsMetAsStated : Text → Compat → PlainVersion → Bool → Bool → Type 0
 IsMetAsStated text mode v own as_stated =
     (tree : SetTree) × Spells tree text × (meets_tree mode tree v ≡ own)
     × (meets_tree_as_stated mode tree v ≡ as_stated)
 
--- a version without pre-release
+-- a version without a pre-release
 abbrev pub release : ℕ → ℕ → ℕ → PlainVersion
 release a b c = filled (a ∷ b ∷ c ∷ []) []
 
@@ -47,8 +49,7 @@ release a b c = filled (a ∷ b ∷ c ∷ []) []
 abbrev pub version : ℕ → ℕ → ℕ → List IdentifierValue → PlainVersion
 version a b c pre = filled (a ∷ b ∷ c ∷ []) pre
 
--- one simple as a range, and its text as a whole set: what is before the partial, and the
--- partial
+-- the set of only one term, and below, its text: the operator and the partial version
 abbrev pub lone : Form → PartialTree → SetTree
 lone form p = simples (record { form = form; partial = p }) [] ∷ []
 
@@ -58,7 +59,7 @@ pub lone-spells : (form : Form) (p : PartialTree) (front back : Text)
 lone-spells form p front back f b =
     ([], front ++ back, [], refl, (front, back, f, b, refl), refl, refl)
 
--- two partials round a hyphen, and their text
+-- the text of a set of only one hyphen range
 pub hyphen-spells : (left right : PartialTree) (front back : Text) → SpellsPartial left front
     → SpellsPartial right back
     → Spells (hyphen left right ∷ []) ((front ++ codes " " ++ codes "-" ++ codes " " ++ back) ++ [])
@@ -83,7 +84,7 @@ hyphen-spells left right front back l r = (
   refl,
 )
 
--- a pre-release keeps numbers and texts; the raised bound has none
+-- the numbers and texts of a pre-release are kept; the raised bound has no pre-release
 abbrev pub beta : PartialTree
 beta = three (codes "1") (codes "2") (codes "3") (codes "beta" ∷ codes "4" ∷ []) []
 
@@ -97,7 +98,7 @@ pub caret_beta_prints : (mode : Compat)
 unfolding digits
 caret_beta_prints mode = (lone caret beta, caret_beta, refl, refl)
 
--- `~>` is `~`, and blanks may follow it
+-- `~>` means `~`, and blanks may follow it
 pub tilde_prints : (mode : Compat) → IsRewritten (codes "~> 1.2.3") mode (codes ">=1.2.3 <1.3.0")
 unfolding digits
 tilde_prints mode = (
@@ -108,7 +109,7 @@ tilde_prints mode = (
   refl,
 )
 
--- a bare version of three numbers goes by the mode
+-- how three numbers without an operator are read depends on the mode
 abbrev pub plain : PartialTree
 plain = three (codes "1") (codes "2") (codes "3") [] []
 
@@ -136,7 +137,8 @@ caret_zero mode = let p : PartialTree = three (codes "0") (codes "0") (codes "1"
       refl,
     )
 
--- nothing stated: any version, and below 0.0.0 for `<` and `>`
+-- no number stated: versions below 0.0.0 for `<` and `>`, and otherwise those that aren't below
+-- 0.0.0
 pub above_any : (mode : Compat) → IsRewritten (codes ">*") mode (codes "<0.0.0")
 unfolding digits
 above_any mode = (
@@ -157,7 +159,7 @@ up_to_any mode = (
   refl,
 )
 
--- the empty text is one empty range, and `||` two
+-- the empty text is one empty range, and `||` is two
 pub nothing_prints : (mode : Compat) → IsRewritten [] mode (codes ">=0.0.0")
 unfolding digits
 nothing_prints mode = (empty ∷ [], ([], [], [], refl, refl, refl, refl), refl, refl)
@@ -177,7 +179,8 @@ bars_print mode = (
   refl,
 )
 
--- a side of a hyphen range that states nothing is left out, and two of them are one comparator
+-- a side of a hyphen range that states no number is left out; if neither side states one, there is
+-- one comparator
 pub right_side_prints : (mode : Compat) → IsRewritten (codes "* - 3.4.5") mode (codes "<=3.4.5")
 unfolding digits
 right_side_prints mode = let r : PartialTree = three (codes "3") (codes "4") (codes "5") [] [] in (
@@ -211,7 +214,7 @@ pre_side_prints mode = let l : PartialTree = three (codes "1") (codes "2") (code
       refl,
     )
 
--- what is after a wildcard isn't stated, and may be of any size
+-- a number after a wildcard isn't stated, and may be of any size
 pub after_wildcard : (mode : Compat)
     → IsRewritten (codes "1.*.99999999999999999999") mode (codes ">=1.0.0 <2.0.0")
 unfolding digits
@@ -224,7 +227,7 @@ after_wildcard mode = let p : PartialTree = three (codes "1") (codes "*")
       refl,
     )
 
--- a raised bound may be too large where the number itself isn't
+-- a raised bound may be too large even if the number itself isn't
 abbrev pub last : PartialTree
 last = three (codes "0") (codes "0") (codes "18446744073709551615") [] []
 
@@ -240,7 +243,7 @@ last_npm = (lone bare last, last_spells, refl, refl)
 pub last_cargo : IsTooLarge Cargo (codes "0.0.18446744073709551615")
 last_cargo = (lone bare last, last_spells, refl)
 
--- digits are kept as a number, but for those above 64 bits; a build is dropped
+-- parts of digits are kept as numbers if these are at most 2^64 - 1; build metadata is dropped
 pub kept_parts : (mode : Compat)
     → IsRewritten (codes "=1.2.3-007.99999999999999999999+x.y") mode
     (codes "=1.2.3-7.99999999999999999999")

@@ -1,4 +1,4 @@
--- The lines of a text: what the report writes of it.
+-- The lines that the report writes for a text.
 use Rattle.std.specs.Prelude.{◌≡◌, ℕ, Bool, true, false, ◌||◌, List, [], ◌∷◌, ◌++◌, IsTrue, Option}
 use Rattle.std.specs.Prelude.{Result, Ok, Err, MatchResult, codes}
 use Rattle.std.specs.Io.KnownBytes.{Appends}
@@ -35,46 +35,48 @@ range_error_word NotARange = codes "not-a-range"
 range_error_word NumberTooLarge = codes "number-too-large"
 range_error_word OutOfMemory = codes "out-of-memory"
 
--- what is after `version: ` for a text, and whether it is no error word
+-- what is after `version: ` for a text, and whether it is a value and not the word for an error
 pub data VersionLine : Text → Bool → Text → Type 0 where
-  -- the version that the text is, printed
+  -- the version that the text spells, printed
   version_printed : (text : Text) (v : VersionValue) → IsOutcomeOf text (Ok v)
       → VersionLine text true (version_text v)
-  -- the word of the text's error
+  -- the word for the error of the text
   version_refused : (text : Text) (e : ErrorValue) → IsOutcomeOf text (Err e)
       → VersionLine text false (version_error_word e)
-  -- where reading the text may run out of memory
+  -- out of memory, if reading the text may run out of memory
   version_unread : (text : Text) → TextMayRunOut text
       → VersionLine text false (version_error_word spec.OutOfMemory)
-  -- in place of a printed version
+  -- out of memory, instead of a printed version
   version_unprinted : (text : Text) (v : VersionValue) → IsOutcomeOf text (Ok v)
       → VersionLine text false (version_error_word spec.OutOfMemory)
 
--- what is after `cargo: ` and `npm: ` for a text, and whether it is no error word
+-- what is after `cargo: ` and `npm: ` for a text, and whether it is a value and not the word for an
+-- error
 pub data RangeLine : Compat → Text → Bool → Text → Type 0 where
-  -- the comparators of the tree that spells the text, printed
+  -- the comparators to which the tree of the text is rewritten, printed
   set_printed : (mode : Compat) (text : Text) (tree : SetTree) → Spells tree text
       → IsTrue (fits mode tree) → RangeLine mode text true (set_text (rewritten mode tree))
   -- no tree spells the text
   not_a_range : (mode : Compat) (text : Text) → ¬ (IsRangeText text)
       → RangeLine mode text false (range_error_word NotARange)
-  -- one does, and doesn't fit
+  -- some tree spells the text, but doesn't fit
   number_too_large : (mode : Compat) (text : Text) (tree : SetTree) → Spells tree text
       → fits mode tree ≡ false → RangeLine mode text false (range_error_word NumberTooLarge)
-  -- in place of a set, or of a printed set
+  -- out of memory, instead of a set or of a printed set
   no_memory : (mode : Compat) (text : Text) (tree : SetTree) → Spells tree text
       → IsTrue (fits mode tree) → RangeLine mode text false (range_error_word OutOfMemory)
 
--- a line: its label, what it shows, and a line feed
+-- a line: its label, what is shown, and a line feed
 abbrev pub line : Text → Text → Text
 line label shown = label ++ shown ++ 10 ∷ []
 
--- the three lines that show these
+-- the three lines that show these texts
 abbrev pub lines : Text → Text → Text → Text
 lines version cargo npm =
     line (codes "version: ") version ++ line (codes "cargo: ") cargo ++ line (codes "npm: ") npm
 
--- the bytes are the lines of the text, of which at least one holds no error word exactly if `good`
+-- the bytes are the lines of the text; `good` is true if and only if at least one of the lines
+-- shows a value
 pub record AreLines (text : Text) (good : Bool) (bytes : Text) : Type 0 where
   pub version : Text
   pub cargo : Text
@@ -88,7 +90,7 @@ pub record AreLines (text : Text) (good : Bool) (bytes : Text) : Type 0 where
   pub some_good : good ≡ (version_good || (cargo_good || npm_good))
   pub whole : bytes ≡ lines version cargo npm
 
--- `Ok(good)`: exactly the lines were written; `Err`: a beginning of such lines was
+-- after `Ok(good)`, exactly these lines were written; after `Err`, a beginning of such lines
 abbrev pub WritesLines : {E : Type 0} → Text → Option (List ℕ) → Option (List ℕ) → Result Bool E
     → Type 0
 WritesLines text old new r = MatchResult r
@@ -96,7 +98,8 @@ WritesLines text old new r = MatchResult r
     (λ _. (good : Bool) × (bytes : Text) × AreLines text good bytes
     × AppendsBeginning old new bytes)
 
--- 0 where some line holds no error word, 1 where each holds one, 2 after a failed write
+-- 0 if some line shows a value, 1 if each line shows the word for an error, and 2 after a failed
+-- write
 abbrev pub status_of : {E : Type 0} → Result Bool E → ℕ
 status_of (Ok true) = 0
 status_of (Ok false) = 1
