@@ -245,12 +245,15 @@ export interface TermVersion<D extends Dialect = 'npm'> {
   build: string
 }
 
+/** The operator of a term. It is `'~'` also for `~>`. */
+export type TermOperator = '' | '=' | '<' | '<=' | '>' | '>=' | '~' | '^' | '-'
+
 /** A term of a range, as it is written. */
 export interface Term<D extends Dialect = 'npm'> {
   /** The index of its range: how many `||` are before it. */
   range: number
-  /** `''`, `'='`, `'<'`, `'<='`, `'>'`, `'>='`, `'~'`, `'^'`, or `'-'` for a hyphen range. */
-  operator: string
+  /** The operator; `''` if there is none, and `'-'` for a hyphen range. */
+  operator: TermOperator
   /** The index of its first character. */
   start: number
   /** The index after its last character. */
@@ -270,7 +273,7 @@ export declare function terms<D extends Dialect = 'npm'>(range: string, options:
  * three numbers are stated, and its build metadata isn't. Throws a `SemverError` if the range or the
  * version is invalid, and a `TypeError` if no version of the range begins where the written one does.
  */
-export declare function replaceVersion(range: string, written: Pick<TermVersion<Dialect>, 'start'>, version: AnyVersion, options?: OptionsOrLoose<Dialect>): string
+export declare function replaceVersion(range: string, written: Pick<TermVersion<Dialect>, 'start' | 'hasV'>, version: AnyVersion, options?: OptionsOrLoose<Dialect>): string
 /** Returns the lowest version of all that satisfy a range; null if none does. */
 export declare function minVersion<D extends Dialect = 'npm'>(range: RangeOf<D>, options?: WithoutDialect): SemVer<D> | null
 export declare function minVersion<D extends Dialect = 'npm'>(range: AnyRange, options: OptionsOrLoose<D>): SemVer<D> | null

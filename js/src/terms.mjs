@@ -68,5 +68,5 @@ export function replaceVersion(range, written, version, options) {
   if (made === 0) return stringBack()
   if (made === 1) throw new TypeError(`no version of the range begins at index ${written.start}`)
   if (made === OUT_OF_MEMORY) throw new RangeError('out of memory')
-  throw made === -1 ? invalidVersion(string, meaning) : invalidRange(range, meaning)
+  throw made === -1 ? invalidVersion(string, meaning, 1) : invalidRange(range, meaning)
 }

@@ -46,7 +46,7 @@ if TYPE_CHECKING:
     from ._ranges import Invalid, Range
     from ._satisfying import satisfies
     from ._strings import String
-    from ._terms import Component, PartialVersion, Term, replace_version, terms
+    from ._terms import Component, PartialVersion, Term, TermOperator, replace_version, terms
     from ._versions import AnyVersion, Identifier, Version, precedence
 
 __version__ = "1.0.0"
@@ -71,6 +71,7 @@ __all__ = [
     "SemverError",
     "String",
     "Term",
+    "TermOperator",
     "Version",
     "VersionError",
     "compare_ranges",

@@ -2,7 +2,7 @@
 
 import ctypes
 from dataclasses import dataclass
-from typing import Callable, Dict, List, Literal, Optional, Union
+from typing import Callable, Dict, List, Literal, Optional, Union, cast
 
 from ._errors import RangeError, VersionError
 from ._interface import INVALID_ARGUMENT, INVALID_RANGE, INVALID_VERSION, NUMBER_TOO_LARGE
@@ -14,6 +14,9 @@ from ._versions import Version
 
 Component = Union[int, Literal["x", "X", "*"]]
 """A component of a version in a range: a number, or a wildcard as it is written."""
+
+TermOperator = Literal["", "=", "<", "<=", ">", ">=", "~", "^", "-"]
+"""The operator of a term: "~" also for `~>`, and "-" for a hyphen range."""
 
 _NUMBER, _WILDCARD, _HYPHEN = 1, 2, 8
 _WILDCARDS: Dict[int, Literal["x", "X", "*"]] = {ord("x"): "x", ord("X"): "X", ord("*"): "*"}
@@ -53,7 +56,7 @@ class Term:
     """
 
     range: int
-    operator: str
+    operator: TermOperator
     start: int
     end: int
     version: PartialVersion
@@ -108,6 +111,8 @@ def replace_version(
     isn't one, and `ValueError` if no version of the range begins where the written one does. The
     result may be invalid if the version is at one of the dialect's limits.
     """
+    if not isinstance(written, PartialVersion):
+        raise TypeError(f"not a PartialVersion of a term: {written!r}")
     dialect = dialect_of(dialect)
     other = str(version) if isinstance(version, Version) else version
     replaced = ctypes.c_char_p()
@@ -137,7 +142,7 @@ def _term(term: CTerm, index_at: Callable[[int], int]) -> Term:
     sign = LIBRARY.semver_parser_operator_sign(term.op)
     return Term(
         term.range,
-        sign.decode("ascii"),
+        cast(TermOperator, sign.decode("ascii")),
         index_at(term.start),
         index_at(term.end),
         _version(term.version, index_at),

@@ -216,6 +216,8 @@ class Terms(unittest.TestCase):
         self.assertEqual(version_error.exception.string, "2.0")
         with self.assertRaisesRegex(ValueError, "no version of the range begins at index 1"):
             replace_version("1.2", term.version, "2.0.0", dialect="npm")
+        with self.assertRaisesRegex(TypeError, r"not a PartialVersion of a term: Term\("):
+            replace_version("^1.2", term, "2.0.0", dialect="npm")  # type: ignore[arg-type]
         largest = "9007199254740991.0.0"
         too_large = replace_version("^1.2", term.version, largest, dialect="npm")
         self.assertEqual(too_large, "^9007199254740991.0")
