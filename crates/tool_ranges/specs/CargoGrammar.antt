@@ -1,4 +1,4 @@
--- A requirement as Cargo reads it, and the texts that spell it: comparators separated by commas.
+-- Cargo's requirements, and the texts that spell them: comparators separated by commas.
 use Rattle.std.specs.Prelude.{◌≡◌, ◌≤◌, Bool, true, false, ◌&&◌, ◌||◌, ◌==◌, not}
 use Rattle.std.specs.Prelude.{if◌then◌else◌, List, [], ◌∷◌, ◌++◌, length, codes, IsTrue}
 use Rattle.std.specs.List.{list_all, list_any}
@@ -11,7 +11,7 @@ use Rattle.semver_ranges.specs.RangeTree.{is_wildcard}
 use Rattle.semver_ranges.specs.RangeTree.{SpellsPartial}
 use Rattle.semver_ranges.specs.Partials.{stated, states_nothing}
 
--- the sign of an operator
+-- the sign of an operator; nothing if there is no operator
 abbrev pub sign : Form → Text
 sign bare = []
 sign equal = codes "="
@@ -22,33 +22,35 @@ sign at_least = codes ">="
 sign tilde = codes "~"
 sign caret = codes "^"
 
--- whether nothing but wildcards is after a wildcard
+-- whether each component after a wildcard is a wildcard
 abbrev pub wildcards_are_last : List Text → Bool
 wildcards_are_last [] = true
 wildcards_are_last (c ∷ cs) =
     if is_wildcard c then list_all is_wildcard cs else wildcards_are_last cs
 
--- whether Cargo reads a partial: no number is after a wildcard, a pre-release or a build after
--- three numbers alone, and no number in the pre-release has a leading zero
+-- whether Cargo accepts a partial version: only wildcards follow a wildcard, a pre-release or build
+-- metadata needs three stated numbers, and no part of the pre-release has a leading zero
 abbrev pub is_partial_of_cargo : PartialTree → Bool
 is_partial_of_cargo p = wildcards_are_last (components p)
     && ((is_empty (qualifier p) || length (stated p) == 3)
     && has_no_leading_zeros p)
 
--- a wildcard that stands for every release: one without operator and dots
+-- whether a partial version has only one component
 abbrev pub is_one : PartialTree → Bool
 is_one (one a) = true
 is_one _ = false
 
+-- whether a comparator is a single wildcard without an operator, which contains every release
 abbrev pub is_every : Simple → Bool
 is_every s = is_bare s.form && (is_one s.partial && states_nothing s.partial)
 
--- whether Cargo reads a comparator: its first number is stated, but where it is for every
--- release
+-- whether Cargo accepts a comparator: its partial version is acceptable and states the first
+-- number, unless the comparator is a single wildcard without an operator
 abbrev pub is_of_cargo : Simple → Bool
 is_of_cargo s = is_partial_of_cargo s.partial && (is_every s || not (states_nothing s.partial))
 
--- a comparator's text: its sign and its partial, each between any spaces
+-- a comparator's text: its sign and its partial version, with any number of spaces before, between
+-- and after them
 pub record SpellsComparator (s : Simple) (t : Text) : Type 0 where
   pub before : Text
   pub gap : Text
@@ -61,7 +63,7 @@ pub record SpellsComparator (s : Simple) (t : Text) : Type 0 where
   pub is_read : IsTrue (is_of_cargo s)
   pub text : t ≡ before ++ (sign s.form ++ (gap ++ (word ++ after)))
 
--- one or more comparators, separated by commas
+-- the text of one or more comparators, separated by commas
 abbrev pub SpellsComparators : List Simple → Text → Type 0
 SpellsComparators [] t = ⊥
 SpellsComparators (s ∷ []) t = SpellsComparator s t
@@ -69,12 +71,12 @@ SpellsComparators (s ∷ next ∷ others) t = (front : Text) × (back : Text)
     × SpellsComparator s front × SpellsComparators (next ∷ others) back
     × (t ≡ front ++ (codes "," ++ back))
 
--- whether a wildcard that stands for every release is alone
+-- whether a comparator that states no number, if there is one, is the only comparator
 abbrev pub stands_alone : List Simple → Bool
 stands_alone (s ∷ []) = true
 stands_alone ss = not (list_any (λ s. states_nothing s.partial) ss)
 
--- a requirement's text: at most 32 comparators
+-- a requirement's text: one to 32 comparators; one that states no number is the only one
 pub record SpellsRequirement (tree : List Simple) (t : Text) : Type 0 where
   pub comparators : SpellsComparators tree t
   pub alone : IsTrue (stands_alone tree)

@@ -1,9 +1,9 @@
--- What a requirement means to Cargo for a version, by a rule for pre-releases: by agreement on
--- stated numbers and by precedence against the zero-filled version. By default a pre-release counts
--- only if some comparator states its numbers and a pre-release. Cargo has no rule by which each
--- within the bounds counts. Here it is precedence against the comparators of `cargo::rewrite`, of
--- which a lower bound of fewer than three numbers begins with the lowest pre-release, such as
--- `>=1.2.0-0`.
+-- Which versions satisfy a requirement in Cargo's dialect, under each rule for pre-releases. This
+-- is defined by agreement with the stated numbers, and by precedence against the zero-filled
+-- version. By default, a pre-release counts only if some comparator states its three numbers and a
+-- pre-release. Cargo has no rule by which every pre-release within the bounds counts. Here, the
+-- rule `Included` is precedence against the comparators of `cargo::rewrite`, but a lower bound of
+-- fewer than three numbers begins with the lowest pre-release, such as `>=1.2.0-0`.
 use Rattle.std.specs.Prelude.{ℕ, Bool, true, ◌&&◌, ◌||◌, if◌then◌else◌, List, [], ◌∷◌}
 use Rattle.std.specs.Prelude.{length, take}
 use Rattle.std.specs.List.{list_all, list_any}
@@ -24,37 +24,40 @@ use Rattle.version_sets.specs.declared.rules.PreReleases.{PreReleases}
 use Rattle.version_sets.specs.declared.rules.PreReleases.TheVariants.{Default, Included, Excluded}
 use Rattle.tool_ranges.specs.AnySize.{zero_filled_any}
 
--- whether some component is a wildcard
+-- whether some component of a partial version is a wildcard
 abbrev pub has_wildcard : PartialTree → Bool
 has_wildcard p = list_any is_wildcard (components p)
 
--- no operator is `^`, and `=` where there is a wildcard
+-- the operator that Cargo reads: without one it is `^`, or `=` if there is a wildcard
 abbrev pub named : Bool → Form → Form
 named wild bare = if wild then equal else caret
 named wild form = form
 
+-- a comparator with the operator that Cargo reads
 abbrev pub as_read : Simple → Simple
 as_read s = record { form = named (has_wildcard s.partial) s.form; partial = s.partial }
 
--- how the numbers of a version compare with as many stated ones
+-- how the first numbers of a version, as many as are stated, compare with the stated numbers
 abbrev pub against : List ℕ → PlainVersion → Ordering
 against s v = slice_cmp nat_cmp (take (length s) (numbers v)) s
 
--- whether a version may be one of those with the same numbers: by default a release
+-- whether a version that has the stated numbers satisfies a term such as `=1.2`: every one does
+-- with `Included`, otherwise only a release
 abbrev pub is_one : PreReleases → PlainVersion → Bool
 is_one Included v = true
 is_one _ v = is_empty v.pre
 
--- one with the stated numbers
+-- whether a version has the stated numbers, and satisfies a term such as `=1.2`
 abbrev pub is_one_of : PreReleases → List ℕ → PlainVersion → Bool
 is_one_of rule s v = is_eq (against s v) && is_one rule v
 
--- below one or two stated numbers: by default by only these
+-- whether a version is below one or two stated numbers: with `Included` it is below the zero-filled
+-- version, otherwise its first numbers are below the stated ones
 abbrev pub is_below_some : PreReleases → List ℕ → PlainVersion → PlainVersion → Bool
 is_below_some Included s z v = is_lt (precedence v z)
 is_below_some _ s z v = is_lt (against s v)
 
--- one or two numbers stated
+-- whether a version satisfies a comparator with one or two stated numbers
 abbrev pub meets_some_stated : PreReleases → Form → List ℕ → PlainVersion → PlainVersion → Bool
 meets_some_stated rule less s z v = is_below_some rule s z v
 meets_some_stated rule greater s z v = is_gt (against s v)
@@ -63,28 +66,30 @@ meets_some_stated rule at_least s z v = is_gt (against s v) || is_one_of rule s 
 meets_some_stated rule caret s z v = is_ge (against s v) && agrees_past_zeros s (numbers v)
 meets_some_stated rule _ s z v = is_one_of rule s v
 
--- nothing stated: by default a release. Three stated: as the port in Cargo mode
+-- whether a version satisfies a comparator, by how many numbers are stated. If none is, each
+-- release does, and with `Included` each version. If three are, it is as in the crate's Cargo mode
 abbrev pub meets_by_count : PreReleases → Form → List ℕ → PlainVersion → PlainVersion → Bool
 meets_by_count rule form [] z v = is_one rule v
 meets_by_count rule form (a ∷ []) z v = meets_some_stated rule form (a ∷ []) z v
 meets_by_count rule form (a ∷ b ∷ []) z v = meets_some_stated rule form (a ∷ b ∷ []) z v
 meets_by_count rule form (a ∷ b ∷ c ∷ rest) z v = meets_form Cargo form (a ∷ b ∷ c ∷ rest) z v
 
--- whether a version meets a comparator
+-- whether a version satisfies a comparator
 abbrev pub meets_one : PreReleases → Simple → PlainVersion → Bool
 meets_one rule s v =
     meets_by_count rule (as_read s).form (stated s.partial) (zero_filled_any s.partial) v
 
--- whether a version counts by default: a release does, and a pre-release where some comparator
+-- whether a version counts by default: each release does, and a pre-release does if some comparator
 -- states its three numbers and a pre-release
 abbrev pub counts : List Simple → PlainVersion → Bool
 counts tree v = is_empty v.pre || list_any (λ s. states_pre_release_at (of_simple s) v) tree
 
--- whether a version meets a requirement by default: each comparator, and it counts
+-- whether a version satisfies a requirement by default: it satisfies each comparator, and it counts
 abbrev pub meets_by_default : List Simple → PlainVersion → Bool
 meets_by_default tree v = list_all (λ s. meets_one Default s v) tree && counts tree v
 
--- by each rule; without pre-releases a release that meets it by default
+-- whether a version satisfies a requirement under a rule. With `Excluded`, it is a release that
+-- satisfies the requirement by default
 abbrev pub meets_requirement : PreReleases → List Simple → PlainVersion → Bool
 meets_requirement Default tree v = meets_by_default tree v
 meets_requirement Included tree v = list_all (λ s. meets_one Included s v) tree

@@ -1,5 +1,5 @@
--- The comparators that stand for a requirement: those of each of its simples, as Cargo reads it, in
--- one range.
+-- The plain comparators that a requirement is rewritten to: those of each of its terms in Cargo's
+-- dialect, all in one range.
 use Rattle.std.specs.Prelude.{Bool, List, [], ◌∷◌}
 use Rattle.std.specs.List.{list_all, flat_map}
 use Rattle.semver_ranges.specs.declared.range.Compat.TheVariants.{Cargo}
@@ -8,7 +8,7 @@ use Rattle.semver_ranges.specs.RewritingTable.{PlainComparator, PlainSet}
 use Rattle.tool_ranges.specs.CargoMeaning.{as_read}
 use Rattle.tool_ranges.specs.ToolTable.{written_in, fits_in}
 
--- the comparators of one
+-- the plain comparators of a term, with the operator that Cargo reads
 abbrev pub written_one : Simple → List PlainComparator
 written_one s = written_in Cargo (as_read s)
 

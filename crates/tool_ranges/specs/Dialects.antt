@@ -1,4 +1,5 @@
--- The dialects of range texts: their trees, what is refused of a text, and to what it is rewritten.
+-- The dialects of range texts: their trees, which texts are invalid, and the comparators that a
+-- text is rewritten to.
 use Rattle.std.specs.Prelude.{◌≡◌, Bool, false, List, IsTrue, Result}
 use Rattle.semver_ranges.specs.declared.range_set.RangeError.{RangeError}
 use Rattle.semver_texts.specs.Texts.{Text}
@@ -23,14 +24,14 @@ use Rattle.tool_ranges.specs.NpmGrammar.{SpellsNpmRange}
 use Rattle.tool_ranges.specs.NpmMeaning.{meets_npm}
 use Rattle.tool_ranges.specs.NpmTable.{npm_fits, rewritten_npm}
 
--- the trees of a dialect
+-- the trees that texts of a dialect have
 abbrev pub TreeOf : Dialect → Type 0
 TreeOf Cargo = List Simple
 TreeOf Npm = SetTree
 TreeOf CrateCargo = SetTree
 TreeOf CrateNpm = SetTree
 
--- a tree spells a text
+-- a tree spells a text in a dialect
 abbrev pub SpellsAs : (dialect : Dialect) → TreeOf dialect → Text → Type 0
 SpellsAs Cargo tree t = SpellsRequirement tree t
 SpellsAs Npm tree t = SpellsNpmRange tree t
@@ -38,59 +39,60 @@ SpellsAs CrateCargo tree t = Spells tree t
 SpellsAs CrateNpm tree t = Spells tree t
 
 -- whether the numbers that a tree states, and those of its raised bounds, are at most 2^64 - 1, or
--- to npm 2^53 - 1
+-- at most 2^53 - 1 in npm's dialect
 abbrev pub fits_as : (dialect : Dialect) → TreeOf dialect → Bool
 fits_as Cargo tree = requirement_fits tree
 fits_as Npm tree = npm_fits tree
 fits_as CrateCargo tree = fits compat.Cargo tree
 fits_as CrateNpm tree = fits compat.Npm tree
 
--- the plain comparators that stand for a tree, with exact bounds
+-- the plain comparators with exact bounds that a tree is rewritten to
 abbrev pub rewritten_as : (dialect : Dialect) → TreeOf dialect → PlainSet
 rewritten_as Cargo tree = rewritten_requirement tree
 rewritten_as Npm tree = rewritten_npm tree
 rewritten_as CrateCargo tree = rewritten_exactly compat.Cargo tree
 rewritten_as CrateNpm tree = rewritten_exactly compat.Npm tree
 
--- a set of the comparators to which each tree of a text is rewritten
+-- the set is the one that each tree of the text is rewritten to
 abbrev pub IsRewrittenAs : Dialect → Text → PlainSet → Type 0
 IsRewrittenAs dialect t set =
     (tree : TreeOf dialect) → SpellsAs dialect tree t → set ≡ rewritten_as dialect tree
 
--- whether a tree means a release
+-- whether a release satisfies a tree
 abbrev pub means_release : (dialect : Dialect) → TreeOf dialect → PlainVersion → Bool
 means_release Cargo tree v = meets_requirement Default tree v
 means_release Npm tree v = meets_npm Default tree v
 means_release CrateCargo tree v = meets_tree compat.Cargo tree v
 means_release CrateNpm tree v = meets_tree compat.Npm tree v
 
--- the grammar of the versions that are checked by a dialect
+-- the grammar of versions in a dialect
 abbrev pub grammar_of : Dialect → Grammar
 grammar_of Cargo = grammar.Cargo
 grammar_of Npm = grammar.Npm
 grammar_of CrateCargo = grammar.Crate
 grammar_of CrateNpm = grammar.Crate
 
--- the mode that a set of a dialect has
+-- the mode of the comparators that ranges of a dialect are rewritten to
 abbrev pub mode_of : Dialect → Compat
 mode_of Cargo = compat.Cargo
 mode_of Npm = compat.Npm
 mode_of CrateCargo = compat.Cargo
 mode_of CrateNpm = compat.Npm
 
--- what a text is in a dialect: a range text or none, one that has a set, and one with a number that
--- is too large
+-- the text is a range in the dialect: some tree spells it
 abbrev pub IsTextAs : Dialect → Text → Type 0
 IsTextAs dialect t = (tree : TreeOf dialect) × SpellsAs dialect tree t
 
+-- the text is a range in the dialect, and its numbers fit
 abbrev pub HasSetAs : Dialect → Text → Type 0
 HasSetAs dialect t =
     (tree : TreeOf dialect) × SpellsAs dialect tree t × IsTrue (fits_as dialect tree)
 
+-- the text is a range in the dialect, and a stated number or one of a raised bound is too large
 abbrev pub IsTooLargeAs : Dialect → Text → Type 0
 IsTooLargeAs dialect t =
     (tree : TreeOf dialect) × SpellsAs dialect tree t × (fits_as dialect tree ≡ false)
 
--- what a call that reads a text in a dialect refuses
+-- when a call that reads a text in a dialect may succeed, and when it returns each error
 abbrev pub RefusesAs : {A : Type 0} → Dialect → Text → Result A RangeError → Type 0
 RefusesAs dialect t r = Refuses (IsTextAs dialect t) (IsTooLargeAs dialect t) (HasSetAs dialect t) r

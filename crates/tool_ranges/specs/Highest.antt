@@ -1,4 +1,4 @@
--- Which of many version texts is the highest in a set, or the lowest.
+-- Which of many version texts is the highest, or the lowest, in a set.
 use Rattle.std.specs.Prelude.{◌≡◌, ◌≢◌, ◌<◌, ℕ, Bool, true, List, Option, Some, MatchOption}
 use Rattle.std.specs.Prelude.{slice_get, if◌then◌else◌}
 use Rattle.std.specs.Borrow.{Bor}
@@ -26,12 +26,12 @@ pub record IsMember (g : Grammar) (set : SetValue) (texts : List (Bor Text)) (k 
   pub plain : version.plain ≡ v
   pub is_in : contains set v ≡ true
 
--- precedence, or the other way round for the lowest
+-- precedence, or for the lowest version the reverse of it
 abbrev pub order_for : Bool → PlainVersion → PlainVersion → Ordering
 order_for lowest = if lowest then flip_args precedence else precedence
 
--- by an order it is the first of the highest: each earlier one is below it, and no later one is
--- above it
+-- in an order, the version at the index is the first of the highest ones: each earlier one is below
+-- it, and none is above it
 pub record IsHighest (order : PlainVersion → PlainVersion → Ordering)
     (IsOne : ℕ → PlainVersion → Type 0) (index : ℕ) : Type 0 where
   pub version : PlainVersion
@@ -39,13 +39,15 @@ pub record IsHighest (order : PlainVersion → PlainVersion → Ordering)
   pub earlier : (k : ℕ) (v : PlainVersion) → IsOne k v → k < index → order v version ≡ Less
   pub later : (k : ℕ) (v : PlainVersion) → IsOne k v → order v version ≢ Greater
 
--- the index is that of the highest, or of the lowest, or there is none
+-- the result is the index of the highest version in the set, or of the lowest if `lowest` is true,
+-- or `None` if no text is a version in the set
 abbrev pub FindsHighest : Bool → Grammar → SetValue → List (Bor Text) → Option ℕ → Type 0
 FindsHighest lowest g set texts found =
     MatchOption found ((k : ℕ) (v : PlainVersion) → ¬ (IsMember g set texts k v))
     (IsHighest (order_for lowest) (IsMember g set texts))
 
--- the text is that of the highest, or of the lowest, or there is none
+-- the result is the text of the highest version in the set, or of the lowest if `lowest` is true,
+-- or `None` if no text is a version in the set
 abbrev pub FindsHighestText : Bool → Grammar → SetValue → List (Bor Text) → Option (Bor Text)
     → Type 0
 FindsHighestText lowest g set texts found =

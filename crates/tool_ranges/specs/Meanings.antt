@@ -1,4 +1,4 @@
--- What a range text means: in which dialect, and with which pre-releases.
+-- Which versions satisfy a range text, in a dialect and under a rule for pre-releases.
 use Rattle.std.specs.Prelude.{◌≡◌, Bool}
 use Rattle.semver_texts.specs.Texts.{Text}
 use Rattle.semver_texts.specs.Versions.{VersionValue}
@@ -14,21 +14,23 @@ use Rattle.tool_ranges.specs.CargoMeaning.{meets_requirement}
 use Rattle.tool_ranges.specs.NpmMeaning.{meets_npm}
 use Rattle.tool_ranges.specs.Dialects.{TreeOf, SpellsAs}
 
--- whether a tree of a dialect means a version by a rule for pre-releases
+-- whether a version satisfies a tree of a dialect under a rule for pre-releases
 abbrev pub meant_by : (dialect : Dialect) → PreReleases → TreeOf dialect → VersionValue → Bool
 meant_by Cargo rule tree v = meets_requirement rule tree v.plain
 meant_by Npm rule tree v = meets_npm rule tree v.plain
 meant_by CrateCargo rule tree v = meant_with rule compat.Cargo tree v
 meant_by CrateNpm rule tree v = meant_with rule compat.Npm tree v
 
--- so by both
+-- whether a version satisfies a tree under a meaning, which has a dialect and a rule
 abbrev pub meant_as : (meaning : Meaning) → TreeOf meaning.dialect → VersionValue → Bool
 meant_as meaning tree v = meant_by meaning.dialect meaning.pre_releases tree v
 
--- a set of exactly the versions that each tree of a text means
+-- for each tree of the text, and each version whose numbers fit 64 bits, the set contains the
+-- version if and only if the version satisfies the tree
 abbrev pub MeansBy : Dialect → PreReleases → Text → SetValue → Type 0
 MeansBy dialect rule t set = (tree : TreeOf dialect) (v : VersionValue)
     → SpellsAs dialect tree t → Fits v.plain → contains set v.plain ≡ meant_by dialect rule tree v
 
+-- as `MeansBy`, with the dialect and the rule of a meaning
 abbrev pub MeansAs : Meaning → Text → SetValue → Type 0
 MeansAs meaning t set = MeansBy meaning.dialect meaning.pre_releases t set

@@ -1,7 +1,7 @@
--- What a range text means to npm for a version, by a rule for pre-releases: by agreement on stated
--- numbers and by precedence against the zero-filled version. By default a pre-release counts only
--- beside a term that states its numbers and a pre-release. Where each within the bounds counts, it
--- is `includePrerelease` of node-semver.
+-- Which versions satisfy a range text in npm's dialect, under each rule for pre-releases. This is
+-- defined by agreement with the stated numbers, and by precedence against the zero-filled version.
+-- By default, a pre-release counts only if a term of the same range states its three numbers and a
+-- pre-release. The rule `Included` is `includePrerelease` of node-semver.
 use Rattle.std.specs.Prelude.{ℕ, Bool, true, false, ◌&&◌, ◌||◌, ◌==◌, if◌then◌else◌, List, []}
 use Rattle.std.specs.Prelude.{◌∷◌, length}
 use Rattle.std.specs.List.{list_all, list_any}
@@ -22,46 +22,51 @@ use Rattle.version_sets.specs.declared.rules.PreReleases.TheVariants.{Default, I
 use Rattle.tool_ranges.specs.AnySize.{zero_filled_any}
 use Rattle.tool_ranges.specs.CargoMeaning.{against}
 
--- 0.0.0, below which npm doesn't look
+-- whether a version is 0.0.0, which by default is not a lower bound in npm's dialect
 abbrev pub is_zero : PlainVersion → Bool
 is_zero z = list_all (λ n. n == 0) (numbers z) && is_empty z.pre
 
--- not below the zero-filled version; by default any version where that is 0.0.0
+-- whether a version is not below the zero-filled version. If that is 0.0.0, it is no lower bound,
+-- except with `Included`
 abbrev pub is_from : PreReleases → PlainVersion → PlainVersion → Bool
 is_from Included z v = is_ge (precedence v z)
 is_from _ z v = is_zero z || is_ge (precedence v z)
 
--- not below the zero-filled version; where that has no pre-release, not below its numbers
+-- whether a version is not below the zero-filled version, or, if that has no pre-release, whether
+-- its numbers are not below the stated ones
 abbrev pub is_from_numbers : List ℕ → PlainVersion → PlainVersion → Bool
 is_from_numbers s z v = if is_empty z.pre then is_ge (against s v) else is_ge (precedence v z)
 
--- where the versions of one or two stated numbers begin. If each pre-release counts, they begin
--- with the numbers, and those of `~` with the zero-filled version
+-- whether a version is not below the lower bound of a term with one or two stated numbers. With
+-- `Included`, the bound includes the pre-releases of these numbers, except for `~`
 abbrev pub begins_some : PreReleases → Form → List ℕ → PlainVersion → PlainVersion → Bool
 begins_some Included tilde s z v = is_ge (precedence v z)
 begins_some Included form s z v = is_ge (against s v)
 begins_some rule form s z v = is_from rule z v
 
--- where those of three begin. If each pre-release counts, `^` of a first number 0 begins with the
--- numbers
+-- whether a version is not below the lower bound of a term with three stated numbers. With
+-- `Included`, the bound of `^` with the first number 0 and no pre-release includes the pre-releases
+-- of these numbers
 abbrev pub begins_three : PreReleases → Form → List ℕ → PlainVersion → PlainVersion → Bool
 begins_three Included caret s z v =
     if z.major == 0 then is_from_numbers s z v else is_ge (precedence v z)
 begins_three rule form s z v = is_from rule z v
 
--- nothing stated: none for `<` and `>`, any for the others
+-- whether a version satisfies a term that states nothing: none does for `<` and `>`, and every
+-- version does for the others
 abbrev pub meets_nothing_stated : Form → Bool
 meets_nothing_stated less = false
 meets_nothing_stated greater = false
 meets_nothing_stated _ = true
 
--- above the versions with one or two stated numbers: by default from the version on in which the
--- last of them is raised
+-- whether a version is above one or two stated numbers: with `Included` its first numbers are
+-- above, otherwise it is not below the version in which the last stated number is raised
 abbrev pub is_above_some : PreReleases → List ℕ → PlainVersion → Bool
 is_above_some Included s v = is_gt (against s v)
 is_above_some _ s v = is_ge (precedence v (up (length s) s))
 
--- one or two numbers stated: `<` and `<=` by only these
+-- whether a version satisfies a term with one or two stated numbers. For `<` and `<=`, only as many
+-- of its numbers are compared
 abbrev pub meets_some_stated : PreReleases → Form → List ℕ → PlainVersion → PlainVersion → Bool
 meets_some_stated rule less s z v = is_lt (against s v)
 meets_some_stated rule at_most s z v = is_le (against s v)
@@ -71,7 +76,7 @@ meets_some_stated rule caret s z v =
     begins_some rule caret s z v && agrees_past_zeros s (numbers v)
 meets_some_stated rule form s z v = begins_some rule form s z v && agrees (length s) s v
 
--- three numbers stated
+-- whether a version satisfies a term with three stated numbers
 abbrev pub meets_three_stated : PreReleases → Form → List ℕ → PlainVersion → PlainVersion → Bool
 meets_three_stated rule less s z v = is_lt (precedence v z)
 meets_three_stated rule at_most s z v = is_le (precedence v z)
@@ -89,48 +94,53 @@ meets_by_count rule form (a ∷ b ∷ []) z v = meets_some_stated rule form (a �
 meets_by_count rule form (a ∷ b ∷ c ∷ rest) z v =
     meets_three_stated rule form (a ∷ b ∷ c ∷ rest) z v
 
--- whether a version meets a simple
+-- whether a version satisfies a term
 abbrev pub meets_one : PreReleases → Simple → PlainVersion → Bool
 meets_one rule s v =
     meets_by_count rule s.form (stated s.partial) (zero_filled_any s.partial) v
 
--- whether a version meets the left side of a hyphen range. If each pre-release counts, it begins
--- with its numbers
+-- whether a version satisfies the left side of a hyphen range. With `Included`, a side without a
+-- pre-release includes the pre-releases of its numbers
 abbrev pub meets_left : PreReleases → PartialTree → PlainVersion → Bool
 meets_left Included p v = is_from_numbers (stated p) (zero_filled_any p) v
 meets_left rule p v = meets_one rule (left_side p) v
 
--- whether a version meets a range: each of its simples, or both sides
+-- whether a version satisfies a range: each of its terms, or both sides of a hyphen range. Every
+-- version satisfies an empty range
 abbrev pub meets_range : PreReleases → RangeTree → PlainVersion → Bool
 meets_range rule empty v = true
 meets_range rule (hyphen left right) v =
     meets_left rule left v && meets_one rule (right_side right) v
 meets_range rule (simples first others) v = list_all (λ s. meets_one rule s v) (first ∷ others)
 
--- whether npm matches everything of a version by a term: the empty range, `>=0.0.0`, and what
--- states no number, but for `<` and `>`
+-- whether a term matches everything for npm's default rule, by whether it states nothing, and
+-- whether its zero-filled version is 0.0.0: `<` and `>` never do, `>=` does if that version is
+-- 0.0.0, and the others do if nothing is stated
 abbrev pub asks_nothing_by : Form → Bool → Bool → Bool
 asks_nothing_by less none zero = false
 asks_nothing_by greater none zero = false
 asks_nothing_by at_least none zero = zero
 asks_nothing_by _ none zero = none
 
+-- whether a term matches everything for npm's default rule; an empty range does
 abbrev pub matches_everything : Term → Bool
 matches_everything (of_simple s) =
     asks_nothing_by s.form (states_nothing s.partial) (is_zero (zero_filled s.partial))
 matches_everything of_nothing = true
 
+-- whether each term of a range matches everything
 abbrev pub is_every_release : RangeTree → Bool
 is_every_release range = list_all matches_everything (terms range)
 
--- whether a version meets a text by default: where some range of it matches everything, every
--- release and no pre-release does; else what meets some range and counts in it
+-- whether a version satisfies a text by default. If some range matches everything, each release
+-- does and no pre-release. Otherwise the version has to satisfy some range, and to count in it
 abbrev pub meets_by_default : SetTree → PlainVersion → Bool
 meets_by_default tree v =
     if list_any is_every_release tree then is_empty v.pre
     else list_any (λ range. meets_range Default range v && counts_in range v) tree
 
--- by each rule; without pre-releases a release that meets it by default
+-- whether a version satisfies a text under a rule. With `Excluded`, it is a release that satisfies
+-- the text by default
 abbrev pub meets_npm : PreReleases → SetTree → PlainVersion → Bool
 meets_npm Default tree v = meets_by_default tree v
 meets_npm Included tree v = list_any (λ range. meets_range Included range v) tree

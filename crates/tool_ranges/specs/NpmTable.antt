@@ -1,5 +1,6 @@
--- The comparators that stand for a range text as npm reads it: those of each range by the tool's
--- table in npm's mode, `>=0.0.0` where it matches everything.
+-- The comparators that an npm range text is rewritten to: those of its ranges, by `ToolTable` in
+-- npm mode. An empty range, a hyphen range without a number, and any other term that matches
+-- everything, is rewritten to `>=0.0.0`.
 use Rattle.std.specs.Prelude.{Bool, true, ◌&&◌, Option, Some, None}
 use Rattle.std.specs.List.{list_all}
 use Rattle.semver_texts.specs.NpmLimits.{is_safe}
@@ -14,15 +15,15 @@ use Rattle.tool_ranges.specs.ToolTable.{raised_in, written_in}
 abbrev pub rewritten_npm : SetTree → PlainSet
 rewritten_npm tree = set_by (written_in Npm) Npm tree
 
--- whether the numbers of a bound are at most 2^53 - 1, where there is one
+-- whether the numbers of a bound, if there is one, are at most 2^53 - 1
 abbrev pub is_safe_bound : Option PlainVersion → Bool
 is_safe_bound None = true
 is_safe_bound (Some bound) = list_all is_safe (numbers bound)
 
--- whether the numbers that a simple states, and those of its raised bound, are
+-- whether the numbers that a term states, and those of its raised bound, are at most 2^53 - 1
 abbrev pub is_safe_simple : Simple → Bool
 is_safe_simple s = list_all is_safe (stated s.partial) && is_safe_bound (raised_in Npm s)
 
--- whether those of a text are
+-- whether the numbers that a tree states, and those of its raised bounds, are at most 2^53 - 1
 abbrev pub npm_fits : SetTree → Bool
 npm_fits tree = fits_by is_safe_simple tree

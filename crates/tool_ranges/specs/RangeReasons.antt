@@ -1,5 +1,5 @@
--- Why a text is not a range: a reason, by the longest prefix that some range text begins with and
--- the byte after it, if there is one. The first row that applies decides.
+-- Why a text is not a range. The reason depends on the longest prefix with which some range text
+-- begins, and on the byte after it, if there is one. The first row that applies decides.
 use Prim.Native.Char.{code}
 use Rattle.std.specs.Prelude.{◌≡◌, ◌↔◌, ◌-◌, ℕ, Bool, not, ◌&&◌, ◌||◌, ◌==◌, nat_lt, ◌++◌, codes}
 use Rattle.std.specs.Prelude.{if◌then◌else◌, false, IsTrue, Option, Some, None, drop, length}
@@ -28,29 +28,31 @@ use Rattle.tool_ranges.specs.TooLarge.{is_separator}
 
 -- ---- the prefix
 
--- nothing but spaces
+-- whether the prefix has nothing but spaces
 abbrev pub is_spaces : Text → Bool
 is_spaces prefix = list_all (λ b. b == 32) prefix
 
 abbrev pub ends_in_space : Text → Bool
 ends_in_space prefix = from_end prefix 0 == 32
 
--- it ends in a digit or a wildcard
+-- whether a byte is a wildcard
 abbrev pub is_wildcard : ℕ → Bool
 is_wildcard b = (b == code "x") || ((b == code "X") || (b == code "*"))
 
+-- whether the prefix ends in a digit or a wildcard
 abbrev pub ends_in_component : Text → Bool
 ends_in_component prefix = ends_in_digit prefix || is_wildcard (from_end prefix 0)
 
--- it doesn't end within a comparator's word
+-- whether the prefix doesn't end in a word
 abbrev pub is_between : Text → Bool
 is_between prefix = is_separator (from_end prefix 0)
 
--- it ends in one word that is at least as long as the smallest limit of npm's: no shorter word is
--- too long
+-- whether no byte of a text separates words
 abbrev pub is_word : Text → Bool
 is_word t = list_all (λ b. not (is_separator b)) t
 
+-- whether the last 250 bytes of the prefix are in one word. 250 is the smallest of npm's limits on
+-- lengths, so no shorter word is too long
 abbrev pub is_long : Text → Bool
 is_long prefix =
     if nat_lt (length prefix) max_build_length then false
@@ -61,44 +63,46 @@ is_long prefix =
 abbrev pub is_operator : ℕ → Bool
 is_operator b = is_in_range 60 62 b || ((b == code "^") || (b == code "~"))
 
--- a comparator without operator begins with it
+-- whether a term without an operator may begin with the byte: it is a digit or a wildcard
 abbrev pub begins_partial : ℕ → Bool
 begins_partial b = is_ascii_digit b || is_wildcard b
 
--- it begins a pre-release or a build
+-- whether a pre-release or build metadata begins with the byte
 abbrev pub is_mark : ℕ → Bool
 is_mark b = (b == code "-") || (b == code "+")
 
--- an identifier may end before it
+-- whether an identifier may end before the byte
 abbrev pub ends_identifier : ℕ → Bool
 ends_identifier b = version.is_separator b || ((b == code "|") || (b == code ","))
 
--- ---- the rows, by whether the prefix is a range text, and whether a letter after it makes one
+-- ---- the rows: `complete` if the prefix is a range, `letter` if it is one with `a` after it
 
--- it ends within an identifier that is empty, or has a leading zero
+-- whether the prefix ends in an identifier that is empty or has a leading zero
 abbrev pub is_open : Bool → Bool → Bool
 is_open complete letter = letter && not complete
 
--- it ends where a number or a wildcard is to come, or the second of two bars
+-- whether a number, a wildcard or the second of two bars is missing at the end of the prefix
 abbrev pub is_begun : Bool → Bool → Bool
 is_begun complete letter = not complete && not letter
 
--- the identifier has one, or the number before a digit
+-- whether the identifier at the end of the prefix has a leading zero, or the number to which the
+-- byte adds a digit
 abbrev pub has_leading_zero : Bool → Bool → Text → ℕ → Bool
 has_leading_zero complete letter prefix b = (is_open complete letter && ends_in_digit prefix)
     || (is_ascii_digit b && (ends_in_zero prefix && not letter))
 
--- nothing follows
+-- the reason if no byte follows the prefix
 abbrev pub reason_at_end : Bool → Text → Reason
 reason_at_end letter prefix = if is_spaces prefix then Empty
     else (if letter then (if ends_in_digit prefix then LeadingZero else EmptyIdentifier)
     else (if from_end prefix 0 == code "|" then UnexpectedEnd else NumberExpected))
 
--- to Cargo a comma follows each requirement but a wildcard and one of 32 comparators
+-- the reason for a comma after a requirement: Cargo allows one, unless the requirement is a
+-- wildcard or has 32 comparators
 abbrev pub reason_of_comma : Text → Reason
 reason_of_comma prefix = if has_no_digit prefix then CargoWildcard else TooManyComparators
 
--- to Cargo, else another
+-- the reason in Cargo's dialect, or `other` if none of its rows applies
 abbrev pub reason_of_cargo : Bool → Bool → Text → ℕ → Reason → Reason
 reason_of_cargo complete letter prefix b other = if b == code "|" then CargoBars
     else (if (b == code "v") && is_between prefix then CargoV
@@ -109,13 +113,13 @@ reason_of_cargo complete letter prefix b other = if b == code "|" then CargoBars
     else (if complete && (b == code ",") then reason_of_comma prefix
     else other)))))
 
--- to npm
+-- the reason in npm's dialect, or `other` if none of its rows applies
 abbrev pub reason_of_npm : Bool → Bool → Text → ℕ → Reason → Reason
 reason_of_npm complete letter prefix b other =
     if is_dotted_byte b && (not (is_open complete letter) && is_long prefix) then TooLong
     else (if b == code "," then NpmComma else other)
 
--- to the crate
+-- the reason in the crate's dialects, or `other` if none of their rows applies
 abbrev pub reason_of_crate : Text → ℕ → Reason → Reason
 reason_of_crate prefix b other = if b == code "," then CrateComma
     else (if (b == code "v") && is_between prefix then CrateV else other)
@@ -126,13 +130,14 @@ reason_of Npm complete letter prefix b other = reason_of_npm complete letter pre
 reason_of CrateCargo complete letter prefix b other = reason_of_crate prefix b other
 reason_of CrateNpm complete letter prefix b other = reason_of_crate prefix b other
 
--- a number is to come, and the byte begins none
+-- whether a number is missing, and the byte is not a digit. No number is missing if the prefix has
+-- only spaces, or ends in a bar or `-`
 abbrev pub expects_number : Bool → Bool → Text → ℕ → Bool
 expects_number complete letter prefix b = is_begun complete letter && not (is_ascii_digit b)
     && not (is_spaces prefix
     || ((from_end prefix 0 == code "|") || (from_end prefix 0 == code "-")))
 
--- to each dialect
+-- the reason by the rows of all dialects
 abbrev pub reason_of_any : Bool → Bool → Text → ℕ → Reason
 reason_of_any complete letter prefix b =
     if is_mark b && (ends_in_component prefix && not letter) then NotThreeNumbers
@@ -140,13 +145,14 @@ reason_of_any complete letter prefix b =
     else (if expects_number complete letter prefix b then NumberExpected
     else UnexpectedCharacter))
 
+-- the reason in a dialect
 abbrev pub reason_by : Dialect → Bool → Bool → Text → Option ℕ → Reason
 reason_by d complete letter prefix None = reason_at_end letter prefix
 reason_by d complete letter prefix (Some b) =
     if has_leading_zero complete letter prefix b then LeadingZero
     else reason_of d complete letter prefix b (reason_of_any complete letter prefix b)
 
--- the reason at a prefix and the byte after it
+-- the reason for a prefix and the byte after it, if there is one
 pub record IsReasonAs (d : Dialect) (prefix : Text) (next : Option ℕ) (reason : Reason) : Type 0
   where
     pub complete : Bool

@@ -1,4 +1,4 @@
--- What is answered of a version text and a range text.
+-- Whether a version text satisfies a range text, or which of the two is invalid.
 use Rattle.std.specs.Prelude.{◌≡◌, ◌⊎◌, Bool, Result, Ok, Err}
 use Rattle.semver_texts.specs.ToolVersions.{IsVersionTextIn, SpellsIn}
 use Rattle.semver_ranges.specs.declared.range_set.RangeError.TheVariants.{NotARange}
@@ -14,7 +14,8 @@ use Rattle.tool_ranges.specs.declared.satisfying.SatisfiesError.{SatisfiesError}
 use Rattle.tool_ranges.specs.declared.satisfying.SatisfiesError.TheVariants.{InvalidRange}
 use Rattle.tool_ranges.specs.declared.satisfying.SatisfiesError.TheVariants.{InvalidVersion}
 
--- of a version and a range text: whether the text means the version, or what is refused of it
+-- the result for a version and a range text: whether the version satisfies the range, or the error
+-- of the range text
 abbrev pub AnswersOf : Meaning → VersionValue → Text → Result Bool SatisfiesError → Type 0
 AnswersOf m v range (Ok met) = HasSetAs m.dialect range
     × ((tree : TreeOf m.dialect) → SpellsAs m.dialect tree range → met ≡ meant_as m tree v)
@@ -23,7 +24,8 @@ AnswersOf m v range (Err (InvalidRange NotARange)) = ¬ (IsTextAs m.dialect rang
 AnswersOf m v range (Err (InvalidRange NumberTooLarge)) = IsTooLargeAs m.dialect range
 AnswersOf m v range (Err (InvalidRange OutOfMemory)) = ⊥
 
--- the version text is read first, and what it spells is asked of the range text
+-- the result for a version text and a range text: `InvalidVersion` if the first is invalid,
+-- otherwise the result for its version
 abbrev pub Satisfies : Meaning → Text → Text → Result Bool SatisfiesError → Type 0
 Satisfies m version range r =
     ((¬ (IsVersionTextIn (grammar_of m.dialect) version)) × (r ≡ Err InvalidVersion))

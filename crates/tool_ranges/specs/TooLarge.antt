@@ -1,5 +1,5 @@
--- Where a number is too large: the first number that is above the limit of the dialect, or can't be
--- raised, in the first term that states such a number or has such a bound.
+-- The offset of the number that is too large: the first that is above the limit of the dialect, or
+-- can't be raised, in the first term that doesn't fit.
 use Prim.Native.Char.{code}
 use Rattle.std.specs.Prelude.{◌≡◌, ℕ, zero, suc, ◌+◌, ◌-◌, ◌^◌, Bool, false, ◌&&◌, ◌||◌, ◌==◌, not}
 use Rattle.std.specs.Prelude.{if◌then◌else◌, List, [], ◌∷◌, drop, length, nat_lt, take}
@@ -23,7 +23,7 @@ use Rattle.invalid_strings.specs.Reasons.{bound_too_large_in, too_large_in}
 use Rattle.invalid_strings.specs.declared.reasons.Reason.{Reason}
 use Rattle.tool_ranges.specs.Dialects.{SpellsAs, TreeOf, grammar_of}
 
--- the terms of a range in the order of its text: the sides of a hyphen range are `>=` and `<=`
+-- the terms of a range in the order of its text; the sides of a hyphen range are `>=` and `<=`
 abbrev pub terms_of : RangeTree → List Simple
 terms_of empty = []
 terms_of (hyphen left right) = left_side left ∷ right_side right ∷ []
@@ -35,32 +35,33 @@ terms_as Npm tree = flat_map terms_of tree
 terms_as CrateCargo tree = flat_map terms_of tree
 terms_as CrateNpm tree = flat_map terms_of tree
 
--- those that state a number
+-- the terms that state a number
 abbrev pub stating : List Simple → List Simple
 stating terms = filter (λ s. not (states_nothing s.partial)) terms
 
--- whether the numbers that a term states, and those of its raised bound, are within the limit
+-- whether the numbers that a term states, and those of its raised bound, are within the limit of
+-- the dialect
 abbrev pub term_fits_as : Dialect → Simple → Bool
 term_fits_as Cargo s = fits_in compat.Cargo (as_read s)
 term_fits_as Npm s = is_safe_simple s
 term_fits_as CrateCargo s = simple_fits compat.Cargo s
 term_fits_as CrateNpm s = simple_fits compat.Npm s
 
--- the words of a text are separated by each byte but letters, digits, `-`, `.`, `+` and `*`
+-- whether a byte separates words: any byte except letters, digits, `-`, `.`, `+` and `*`
 abbrev pub is_separator : ℕ → Bool
 is_separator b = not (is_dotted_byte b || ((b == code "+") || (b == code "*")))
 
 abbrev pub words : Text → List Text
 words t = slice_split is_separator t
 
--- whether a word states a number: it begins with a digit, to npm after a `v`
+-- whether a word states a number: it begins with a digit, or, as npm allows, with `v` and a digit
 abbrev pub states_number : Text → Bool
 states_number [] = false
 states_number (b ∷ []) = is_ascii_digit b
 states_number (b ∷ c ∷ t) = is_ascii_digit b || ((b == code "v") && is_ascii_digit c)
 
--- where, in the text of some words, the one begins that states a number after n others that do; the
--- last word if there is none
+-- the offset, in the text of some words, of the word that states a number and comes after n others
+-- that do; the offset of the last word if there is no such word
 abbrev pub begin_of_word : ℕ → List Text → ℕ
 begin_of_word n [] = 0
 begin_of_word n (w ∷ []) = 0
@@ -69,22 +70,25 @@ begin_of_word zero (w ∷ next ∷ others) =
 begin_of_word (suc n) (w ∷ next ∷ others) =
     suc (length w) + begin_of_word (if states_number w then n else suc n) (next ∷ others)
 
--- whether a component begins with a number below a limit, and with no letter after it
+-- the letters and digits at the beginning of a component
 abbrev pub run_of : Text → Text
 run_of c = take (prefix_len is_ascii_alphanumeric c) c
 
+-- whether the letters and digits at the beginning of a component are the digits of a number below a
+-- limit
 abbrev pub is_below : ℕ → Text → Bool
 is_below limit c = all_ascii_digits (run_of c) && nat_lt (digits_value 10 (run_of c)) limit
 
--- where, in the text of some components, the first begins that isn't below a limit; the last if
--- each is
+-- the offset, in the text of some components, of the first that isn't below a limit; the offset of
+-- the last component if each is
 abbrev pub component_at : ℕ → List Text → ℕ
 component_at limit [] = 0
 component_at limit (c ∷ []) = 0
 component_at limit (c ∷ next ∷ others) =
     if is_below limit c then suc (length c) + component_at limit (next ∷ others) else 0
 
--- the same in a text that begins with a version, to npm after a `v`
+-- the offset of the first number that isn't below a limit, in a text that begins with a version,
+-- perhaps after a `v`
 abbrev pub number_at : ℕ → Text → ℕ
 number_at limit [] = 0
 number_at limit (b ∷ t) =
@@ -96,27 +100,31 @@ abbrev pub limit_of : Dialect → ℕ
 limit_of Npm = 2 ^ 53 - 1
 limit_of dialect = 2 ^ 64 - 1
 
--- where the number is that is too large: in the word of the first term that does not fit, the first
--- number that isn't below the limit. It is above that, or can't be raised
+-- the offset of the number that is too large, in the word that begins at `begin`: the first number
+-- that isn't below the limit. It is above the limit, or can't be raised
 abbrev pub number_offset : Dialect → ℕ → Text → ℕ
 number_offset dialect begin t = begin + number_at (limit_of dialect) (drop begin t)
 
+-- the offset of the number that is too large, in the word of the first term that doesn't fit. The
+-- word is found by counting the terms before it that state a number, and skipping as many words
+-- that state one
 abbrev pub limit_offset : (dialect : Dialect) → TreeOf dialect → Text → ℕ
 limit_offset dialect tree t = number_offset dialect
     (begin_of_word (prefix_len (term_fits_as dialect) (stating (terms_as dialect tree))) (words t))
     t
 
--- the reason, by the text from that number on: it is above the limit, or it is the limit and can't
--- be raised
+-- whether the number at the beginning of a text is the limit
 abbrev pub is_limit : ℕ → Text → Bool
 is_limit limit t = all_ascii_digits (run_of t) && (digits_value 10 (run_of t) == limit)
 
+-- the reason, by the text from the number on: it is the limit and can't be raised, or it is above
+-- the limit
 abbrev pub limit_reason : Dialect → Text → Reason
 limit_reason dialect t =
     if is_limit (limit_of dialect) t then bound_too_large_in (grammar_of dialect)
     else too_large_in (grammar_of dialect)
 
--- the offset is that of a tree of the text
+-- the offset is `limit_offset` of a tree of the text
 pub record IsLimitOffset (dialect : Dialect) (t : Text) (offset : ℕ) : Type 0 where
   pub tree : TreeOf dialect
   pub spelled : SpellsAs dialect tree t

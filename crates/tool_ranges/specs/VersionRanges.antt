@@ -1,4 +1,4 @@
--- Ranges that were read: a set of versions, and the meaning by which it was read.
+-- Ranges that were read: a set of versions, and the meaning with which it was read.
 use Rattle.std.specs.Prelude.{◌≡◌, ◌&&◌, Bool, Result, Ok, Err}
 use Rattle.std.specs.Ordering.{int_eq}
 use Rattle.semver_texts.specs.Texts.{Text}
@@ -19,18 +19,19 @@ pub record RangeValue : Type 0 where
   pub versions : SetValue
   pub meaning : Meaning
 
--- the grammar of the versions that are checked by a range
+-- the grammar of versions in the dialect of a range
 abbrev pub versions_grammar : RangeValue → Grammar
 versions_grammar range = grammar_of range.meaning.dialect
 
--- of a version text: whether the range contains its version, or that it is none
+-- the result for a version text: whether the range contains its version, or `InvalidVersion` if it
+-- is invalid
 abbrev pub ContainsText : RangeValue → Text → Result Bool SatisfiesError → Type 0
 ContainsText range text (Ok contained) = (v : VersionValue)
     × SpellsIn (versions_grammar range) v text × (contained ≡ contains range.versions v.plain)
 ContainsText range text (Err InvalidVersion) = ¬ (IsVersionTextIn (versions_grammar range) text)
 ContainsText range text (Err (InvalidRange error)) = ⊥
 
--- whether two meanings have the same dialect and the same rule, by their numbers
+-- whether two meanings have the same dialect and the same rule, compared by their numbers
 abbrev pub same_meaning : Meaning → Meaning → Bool
 same_meaning a b =
     int_eq (number_of a.dialect) (number_of b.dialect)

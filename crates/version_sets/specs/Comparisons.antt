@@ -1,4 +1,4 @@
--- What a comparison of two sets returns: the lowest of some versions, or that there is none.
+-- What a comparison of two sets returns: the lowest of some versions, or `None` if there are none.
 use Rattle.std.specs.Prelude.{◌≡◌, ◌≢◌, [], Option, Some, None}
 use Rattle.std.specs.declared.cmp.Ordering.TheVariants.{Less}
 use Rattle.semver_texts.specs.Digits.{plain_kept}
@@ -8,29 +8,31 @@ use Rattle.semver_texts.specs.VersionViews.{version_value}
 use Rattle.semver_texts.specs.declared.version.Version.{Version}
 use Rattle.version_sets.specs.VersionSets.{SetValue, IsIn, IsPreRelease}
 
--- it is one of those asked for, has no build, and none of them is below it by precedence
+-- the version is one of the requested ones, it has no build metadata, and none of the requested
+-- ones is below it by precedence
 pub record IsLowestOf (IsOne : PlainVersion → Type 0) (v : VersionValue) : Type 0 where
   pub is_one : IsOne v.plain
   pub no_build : v.build ≡ []
   pub lowest : (w : PlainVersion) → IsOne w → precedence w v.plain ≢ Less
 
--- it is a version as it is kept: a number of 2^64 or more as its text
+-- the `Version` is the value as it is kept: a number of 2^64 or more in the pre-release is kept as
+-- its text
 abbrev pub IsKeptOf : VersionValue → Version → Type 0
 IsKeptOf v version =
     version_value version ≡ record { plain = plain_kept v.plain; build = v.build }
 
--- an answer that is the lowest of those asked for, as it is kept, and none exactly where there are
--- none
+-- the result is the lowest of the requested versions, as a `Version` keeps it, or `None` if and
+-- only if there are none
 abbrev pub TellsLowest : (PlainVersion → Type 0) → Option Version → Type 0
 TellsLowest IsOne None = (v : PlainVersion) → ¬ IsOne v
 TellsLowest IsOne (Some version) =
     (v : VersionValue) × IsLowestOf IsOne v × IsKeptOf v version
 
--- the lowest of those asked for is a pre-release
+-- the lowest of the requested versions is a pre-release
 abbrev pub LowestIsPreRelease : (PlainVersion → Type 0) → Type 0
 LowestIsPreRelease IsOne = (v : VersionValue) × IsPreRelease v.plain × IsLowestOf IsOne v
 
--- in the first set and not in the second
+-- the version is in the first set and not in the second
 abbrev pub IsInFirstAlone : SetValue → SetValue → PlainVersion → Type 0
 IsInFirstAlone first second v = IsIn v first × (¬ IsIn v second)
 

@@ -1,4 +1,4 @@
--- What contracts see of a release: a version without a pre-release.
+-- The version that a `Release` is in contracts: one without a pre-release.
 use Rattle.std.specs.Prelude.{[]}
 use Rattle.semver_texts.specs.Versions.{PlainVersion}
 use Rattle.version_sets.specs.declared.release.Release.{Release}

@@ -1,4 +1,4 @@
--- Sets of versions by their boundaries, and which versions are in them.
+-- Sets of versions, which are given by their boundaries, and which versions are in a set.
 use Rattle.std.specs.Prelude.{◌≡◌, ◌≢◌, ◌^◌, ◌<◌, ◌&&◌, Bool, true, false, IsTrue}
 use Rattle.std.specs.Prelude.{if◌then◌else◌, List}
 use Rattle.std.specs.List.{AllByRecursion}
@@ -13,35 +13,35 @@ use Rattle.semver_texts.specs.declared.grammar.Digits.TheVariants.{Kept, AnySize
 use Rattle.semver_texts.specs.Precedence.{precedence}
 use Rattle.version_sets.specs.Boundaries.{is_inside, IsIncreasing}
 
--- the boundaries of the releases, and those of the pre-releases; and how identifiers of digits
--- alone are read in the versions that are looked up
+-- the boundaries of the releases and of the pre-releases, and how identifiers of digits are read in
+-- the versions that are looked up
 pub record SetValue : Type 0 where
   pub releases : List PlainVersion
   pub pre_releases : List PlainVersion
   pub digits : Digits
 
--- whether a version is in a set: the boundaries of its kind say so
+-- whether a version is in a set, by the boundaries of its kind: of the releases or the pre-releases
 abbrev pub contains : SetValue → PlainVersion → Bool
 contains set v =
     if is_empty v.pre
     then is_inside precedence set.releases v else is_inside precedence set.pre_releases v
 
--- whether a version as it is kept is in a set, which says how its identifiers of digits alone are
--- read
+-- whether a version, as a `Version` keeps it, is in a set. The set says how identifiers of digits
+-- are read
 abbrev pub contains_kept : SetValue → PlainVersion → Bool
 contains_kept set v = contains set (plain_by set.digits v)
 
--- its numbers fit 64 bits
+-- the numbers of a version fit 64 bits
 abbrev pub Fits : PlainVersion → Type 0
 Fits v = (v.major < 2 ^ 64) × (v.minor < 2 ^ 64) × (v.patch < 2 ^ 64)
 
--- whether identifiers of digits alone are read in the same way
+-- whether identifiers of digits are read in the same way
 abbrev pub same_digits : Digits → Digits → Bool
 same_digits Kept Kept = true
 same_digits AnySize AnySize = true
 same_digits _ _ = false
 
--- whether two sets read digits in the same way and have the same boundaries
+-- whether two sets read identifiers of digits in the same way and have the same boundaries
 abbrev pub same_set : SetValue → SetValue → Bool
 same_set a b =
     same_digits a.digits b.digits
@@ -64,18 +64,19 @@ pub record AreBoundaries (IsOfKind : PlainVersion → Type 0) (boundaries : List
   pub increase : IsIncreasing precedence boundaries
   pub are_of_kind : AllByRecursion IsOfKind boundaries
 
--- the normal form
+-- the normal form of a set: its boundaries are of their kind, and each is below the next
 pub record IsNormal (set : SetValue) : Type 0 where
   pub releases : AreBoundaries IsRelease set.releases
   pub pre_releases : AreBoundaries IsPreRelease set.pre_releases
 
--- it is of a kind and in the set, and none of the kind that is in the set is below, by precedence
+-- the version is of a kind and in the set, and no version of that kind in the set is below it by
+-- precedence
 pub record IsLowest (IsOfKind : PlainVersion → Type 0) (set : SetValue) (v : PlainVersion)
     : Type 0 where
   pub is_of_kind : IsOfKind v
   pub is_in : IsIn v set
   pub lowest : (w : PlainVersion) → IsOfKind w → IsIn w set → precedence w v ≢ Less
 
--- none of a kind is in the set
+-- no version of a kind is in the set
 abbrev pub HasNone : (PlainVersion → Type 0) → SetValue → Type 0
 HasNone IsOfKind set = (v : PlainVersion) → IsOfKind v → ¬ IsIn v set

@@ -1,5 +1,5 @@
--- A means of proof, which no public clause cites: what a set that is being built says of each
--- version.
+-- A means of proof, which no public clause cites: what is known of each version while the set of a
+-- range text is built.
 use Rattle.std.specs.Prelude.{◌≡◌, Bool, true, false, ◌||◌, Option, Some, None}
 use Rattle.std.specs.List.{list_any}
 use Rattle.semver_texts.specs.Versions.{PlainVersion}
@@ -11,12 +11,12 @@ use Rattle.tool_ranges.specs.declared.matching.Progress.{Progress}
 use Rattle.tool_ranges.specs.declared.sets.Building.{Building}
 use Rattle.tool_ranges.specs.Steps.Matching.{counts}
 
--- whether a version has some numbers, where there are some
+-- whether a version has the numbers of a release, if there is one
 abbrev pub is_one_of : Option Release → PlainVersion → Bool
 is_one_of None v = false
 is_one_of (Some r) v = has_numbers v r
 
--- what is known of a version: as where one version is asked about
+-- what is known of a version, in the form that it has if only one version is checked
 abbrev pub known : Bool → PlainVersion → Building → Progress
 known all v b = record {
   here = in_each b.here v;
@@ -26,7 +26,7 @@ known all v b = record {
   every = b.every;
 }
 
--- whether the ends can be read back from their texts
+-- the ends of the spans of pre-releases can be read back from their texts
 pub record Prints (digits : Digits) (b : Building) : Type 0 where
   pub here : each_prints digits b.here ≡ true
   pub ranges : ranges_print digits b.ranges ≡ true

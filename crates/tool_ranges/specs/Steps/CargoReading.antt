@@ -1,5 +1,5 @@
--- A means of proof, which no public clause cites: the functions on lists that the reader of Cargo's
--- requirements follows, and what private contracts see of what it finds.
+-- A means of proof, which no public clause cites: the functions on lists that describe how Cargo's
+-- requirements are read, and what private contracts say of the results.
 use Prim.Native.Char.{code}
 use Rattle.std.specs.Prelude.{◌≡◌, Bool, false, ◌&&◌, ◌==◌, if◌then◌else◌, Option, Some}
 use Rattle.std.specs.Prelude.{None, List, [], ◌∷◌}
@@ -20,11 +20,12 @@ abbrev pub begins_with_tilde_greater : Text → Bool
 begins_with_tilde_greater (a ∷ b ∷ t) = (a == code "~") && (b == code ">")
 begins_with_tilde_greater _ = false
 
--- a comparator up to its comma or the end, and what follows the comma
+-- a comparator and what follows its comma, if the text after it is empty or begins with a comma
 abbrev pub at_end : Simple → Text → Option (Simple × Option Text)
 at_end s [] = Some (s, None)
 at_end s (b ∷ t) = if b == code "," then Some (s, Some t) else None
 
+-- if Cargo accepts a comparator: the comparator, and what follows its comma, after any blanks
 abbrev pub if_read : Simple → Text → Option (Simple × Option Text)
 if_read s t = if is_of_cargo s then at_end s (after_blanks grammar.Cargo t) else None
 
@@ -41,12 +42,12 @@ comparator_here t =
 abbrev pub comparator_at : Text → Option (Simple × Option Text)
 comparator_at t = comparator_here (after_blanks grammar.Cargo t)
 
--- what is after a comma, where one is there
+-- the text after a comma, if there is one
 abbrev pub after_comma : Option (Bor Text) → Option Text
 after_comma None = None
 after_comma (Some rest) = Some rest.now
 
--- the comparator that was found, as it is read, and what follows its comma
+-- the comparator that was found, with the operator that Cargo reads, and what follows its comma
 abbrev pub FindsComparator : Option (Simple × Option Text)
     → Option (read.Simple × Option (Bor Text)) → Type 0
 FindsComparator o None = o ≡ None

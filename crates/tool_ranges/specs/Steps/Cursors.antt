@@ -1,5 +1,5 @@
 -- A means of proof, which no public clause cites: the terms of a range text in each dialect, one
--- after the other, and what contracts see of the cursor that yields them.
+-- after the other, and what contracts say of the cursor that yields them.
 use Rattle.std.specs.Prelude.{◌≡◌, ℕ, zero, suc, Bool, true, false, ◌||◌, not, ◌+◌}
 use Rattle.std.specs.Prelude.{if◌then◌else◌, Option, Some, None, is_some, option_map, Result, Ok}
 use Rattle.std.specs.Prelude.{Err, List, [], ◌∷◌, map}
@@ -31,7 +31,7 @@ use Rattle.tool_ranges.specs.Steps.CargoReading.{comparator_at}
 
 -- ---- the comparators of a requirement
 
--- those from a place on, of which there may be n: a wildcard has to be alone
+-- a comparator and those after it, if it states a number or is the only one
 abbrev pub with_others : Bool → (Text → Option (List Simple)) → Option (Simple × Option Text)
     → Option (List Simple)
 with_others is_first others None = None
@@ -40,21 +40,22 @@ with_others is_first others (Some (s, None)) =
 with_others is_first others (Some (s, Some after)) =
     if states_nothing s.partial then None else option_map (λ ss. s ∷ ss) (others after)
 
+-- the comparators of the rest of a requirement, which may be at most n
 abbrev pub comparators_from : ℕ → Bool → Text → Option (List Simple)
 comparators_from zero is_first t = None
 comparators_from (suc n) is_first t =
     with_others is_first (comparators_from n false) (comparator_at t)
 
--- a comparator, and those after its comma, where one is there
+-- a comparator, and those after its comma, if there is one
 abbrev pub with_comma : Simple → ℕ → Option (Bor Text) → Option (List Simple)
 with_comma s n None = Some (s ∷ [])
 with_comma s n (Some after) = option_map (λ ss. s ∷ ss) (comparators_from n false after.now)
 
--- those of a whole requirement
+-- the comparators of a whole requirement, which may be at most 32
 abbrev pub requirement : Text → Option (List Simple)
 requirement t = comparators_from 32 true t
 
--- ---- the tree of a text, and the simples of its ranges
+-- ---- the tree of a text, and the terms of its ranges
 abbrev pub read_as : (dialect : Dialect) → Text → Option (TreeOf dialect)
 read_as Cargo t = requirement t
 read_as Npm t = if list_all may_stand (chars t) then read grammar.Npm t else None
@@ -67,7 +68,7 @@ ranges_of lower Npm tree = map (yielded lower) tree
 ranges_of lower CrateCargo tree = map (yielded lower) tree
 ranges_of lower CrateNpm tree = map (yielded lower) tree
 
--- the events of ranges: their simples, with the next range between each two
+-- the events of ranges: their terms, with `next_range` between each two ranges
 abbrev pub events_in : List (List Simple) → List Event
 events_in [] = []
 events_in (ss ∷ []) = in_front ss []
@@ -79,7 +80,7 @@ text_events lower dialect t =
 
 -- ---- the cursor
 
--- the events that are left of comparators
+-- the events of the comparators that are left
 abbrev pub comparators_left : ℕ → Bool → Option (Bor Text) → Option (List Event)
 comparators_left n is_first None = Some []
 comparators_left n is_first (Some rest) =
@@ -89,7 +90,7 @@ abbrev pub HasLeftIn : Grammar → Cursor → Option (List Event) → Type 0
 HasLeftIn d (Requirement c) o = o ≡ comparators_left c.more c.is_first c.rest
 HasLeftIn d (Ranges events) o = HasLeft d events o
 
--- what comes first, and a cursor after it
+-- the event is the first that is left, and the cursor has the others left
 abbrev pub ComesFirst : Grammar → Option (List Event) → read.Event → Cursor → Type 0
 ComesFirst d o e after =
     (x : Event) × (left : Option (List Event)) × IsEventOf x e × HasLeftIn d after left
@@ -101,12 +102,12 @@ GivesNext d o None after = o ≡ Some []
 GivesNext d o (Some (Ok e)) after = ComesFirst d o e after
 GivesNext d o (Some (Err e)) after = (o ≡ None) × (e ≡ NotARange)
 
--- how many events are left at most
+-- an upper bound on the number of events that are left
 abbrev pub size_of : Cursor → ℕ
 size_of (Requirement c) = c.more + flag (is_some c.rest)
 size_of (Ranges events) = size_left events
 
--- the comparator that may come next, and what follows its comma
+-- the next comparator, and what follows its comma; `None` if the rest of the requirement is invalid
 abbrev pub FindsNext : ℕ → Bool → Text → Option (found.Simple × Option (Bor Text)) → Type 0
 FindsNext n is_first t None = comparators_from n is_first t ≡ None
 FindsNext n is_first t (Some found) = (s : Simple) × (k : ℕ) × IsSimpleOf (as_read s) found.0

@@ -1,5 +1,5 @@
--- A means of proof, which no public clause cites: the version of which a range is asked, and what
--- each term of the range says of it, from the left to the right.
+-- A means of proof, which no public clause cites: whether a version satisfies a range text, found
+-- from its terms from left to right.
 use Rattle.std.specs.Prelude.{◌≡◌, Bool, true, false, ◌&&◌, ◌||◌, not, if◌then◌else◌, nat_eq}
 use Rattle.std.specs.Prelude.{List, [], ◌∷◌}
 use Rattle.std.specs.Cmp.Lexicographic.{pointwise}
@@ -34,15 +34,15 @@ use Rattle.tool_ranges.specs.declared.matching.Progress.{Progress}
 use Rattle.tool_ranges.specs.Dialects.{TreeOf}
 use Rattle.tool_ranges.specs.Steps.Cursors.{ranges_of}
 
--- the version of a borrowed version, without its build
+-- the version of a borrowed version, without its build metadata
 abbrev pub plain_of : VersionRefValue → PlainVersion
 plain_of borrowed = (refs.version_of borrowed).plain
 
--- whether a partial states the three numbers of a version, and a pre-release
+-- whether a partial version states the three numbers of a version, and a pre-release
 abbrev pub states_at : Partial → PlainVersion → Bool
 states_at p v = not (is_empty (version_of p).pre) && pointwise nat_eq (numbers v) (stated_of p)
 
--- ---- the rules for pre-releases: whether each within the bounds counts, and else by default
+-- ---- whether each pre-release within the bounds counts, and the rule for that
 
 abbrev pub rule_of : Bool → PreReleases
 rule_of true = Included
@@ -52,12 +52,12 @@ abbrev pub takes_all : PreReleases → Bool
 takes_all Included = true
 takes_all rule = false
 
--- how the left side of a hyphen range is written
+-- whether the left side of a hyphen range is written as stated, or with the lowest pre-release
 abbrev pub lower_of : Dialect → Bool → LowerBounds
 lower_of Npm true = Lowest
 lower_of dialect all = Stated
 
--- ---- a term: whether a version meets it, and whether its numbers fit
+-- ---- a term: whether a version satisfies it, and whether its numbers fit
 abbrev pub term_met : Dialect → Bool → PlainVersion → Simple → Bool
 term_met Cargo all v s =
     cargo.meets_by_count (rule_of all) s.form (stated s.partial) (zero_filled_any s.partial) v
@@ -75,7 +75,7 @@ term_fits CrateNpm s = simple_fits mode.Npm s
 
 -- ---- ranges
 
--- whether a version counts in each range
+-- whether a version counts in each range, whatever its terms state
 abbrev pub counts : Bool → PlainVersion → Bool
 counts all v = all || is_empty v.pre
 
@@ -84,7 +84,7 @@ abbrev pub begun : Bool → Progress
 begun counts =
     record { here = true; counts = counts; nothing = true; met = false; every = false }
 
--- with a term
+-- what is known after one more term
 abbrev pub taken : Dialect → Bool → PlainVersion → Simple → Progress → Progress
 taken dialect all v s t = record t {
   here = t.here && term_met dialect all v s;
@@ -92,7 +92,7 @@ taken dialect all v s t = record t {
   nothing = t.nothing && npm.matches_everything (of_simple s);
 }
 
--- at the end of a range
+-- what is known at the end of a range
 abbrev pub ended : Bool → Progress → Progress
 ended counts t = record {
   here = true;
@@ -102,38 +102,42 @@ ended counts t = record {
   every = t.every || t.nothing;
 }
 
--- with events
+-- what is known after more events
 abbrev pub after : Dialect → Bool → PlainVersion → Progress → List Event → Progress
 after dialect all v t [] = t
 after dialect all v t (one_simple s ∷ es) = after dialect all v (taken dialect all v s t) es
 after dialect all v t (next_range ∷ es) = after dialect all v (ended (counts all v) t) es
 
--- whether each simple of a range is met, and the version counts in it; and whether it matches
--- everything
+-- whether a version satisfies each term of a range, and counts in the range
 abbrev pub range_met : Dialect → Bool → PlainVersion → List Simple → Bool
 range_met dialect all v ss = list_all (term_met dialect all v) ss
     && (counts all v || list_any (λ s. states_pre_release_at (of_simple s) v) ss)
 
+-- whether each term of a range matches everything
 abbrev pub range_every : List Simple → Bool
 range_every ss = list_all (λ s. npm.matches_everything (of_simple s)) ss
 
--- what a tree says of a version
+-- at the end of a text, it is known whether the version satisfies some range of the tree and counts
+-- in it, and whether some range matches everything
 abbrev pub Says : (dialect : Dialect) → Bool → PlainVersion → Progress → TreeOf dialect → Type 0
 Says dialect all v progress tree =
     (progress.met
     ≡ list_any (range_met dialect all v) (ranges_of (lower_of dialect all) dialect tree))
     × (progress.every ≡ list_any range_every (ranges_of (lower_of dialect all) dialect tree))
 
--- the answer: if some range of npm matches everything, by default each release and no pre-release
+-- whether the version satisfies the text. In npm's dialect, if some range matches everything, each
+-- release does by default and no pre-release
 abbrev pub met_by : Dialect → Bool → PlainVersion → Progress → Bool
 met_by Npm false v progress = if progress.every then is_empty v.pre else progress.met
 met_by dialect all v progress = progress.met
 
+-- whether the version satisfies the text under a rule
 abbrev pub said : Dialect → PreReleases → PlainVersion → Progress → Bool
 said dialect Excluded v progress = is_empty v.pre && met_by dialect false v progress
 said dialect rule v progress = met_by dialect (takes_all rule) v progress
 
--- whether npm takes each release and no pre-release where some range matches everything
+-- whether, if some range matches everything, each release satisfies the text and no pre-release
+-- does: in npm's dialect, unless each pre-release within the bounds counts
 abbrev pub takes_releases : Dialect → PreReleases → Bool
 takes_releases Npm rule = not (takes_all rule)
 takes_releases dialect rule = false

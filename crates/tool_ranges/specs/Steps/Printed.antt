@@ -1,5 +1,6 @@
--- A means of proof, which no public clause cites: the comparators that are printed for a range, by
--- the sides of the zero-filled version between which the versions of each term are.
+-- A means of proof, which no public clause cites: the comparators that are printed for a range.
+-- They are found from the sides of each term's zero-filled version between which the versions of
+-- that term are.
 use Rattle.std.specs.Prelude.{◌≡◌, ◌++◌, ◌&&◌, List, [], ◌∷◌, map, not, Option, Some, None}
 use Rattle.std.specs.Prelude.{if◌then◌else◌, is_some}
 use Rattle.semver_texts.specs.Texts.{Text, is_empty}
@@ -20,7 +21,7 @@ use Rattle.tool_ranges.specs.Dialects.{SpellsAs, TreeOf}
 use Rattle.tool_ranges.specs.Steps.Cursors.{ranges_of}
 use Rattle.tool_ranges.specs.Steps.Table.{ends_past, sides}
 
--- the comparator of a lower side, and of an upper one
+-- the comparator of a lower side
 abbrev pub lower_comparator : LowerBounds → SideValue → PlainVersion → PlainComparator
 lower_comparator Stated (above k) z = comparator Gte (up k (numbers z))
 lower_comparator Lowest (above k) z = comparator Gte (exact_bound (up k (numbers z)))
@@ -29,25 +30,28 @@ lower_comparator Lowest below z = comparator Gte (exact_bound z)
 lower_comparator lower past z = comparator Gt z
 lower_comparator lower at z = comparator Gte z
 
+-- the comparator of an upper side
 abbrev pub upper_comparator : SideValue → PlainVersion → PlainComparator
 upper_comparator (above k) z = comparator Lt (exact_bound (up k (numbers z)))
 upper_comparator past z = comparator Lte z
 upper_comparator at z = comparator Lt z
 upper_comparator below z = comparator Lt (exact_bound z)
 
+-- the comparator of a side, if there is one
 abbrev pub at_side : (SideValue → PlainVersion → PlainComparator) → Option SideValue → PlainVersion
     → List PlainComparator
 at_side comparator_of None z = []
 at_side comparator_of (Some side) z = comparator_of side z ∷ []
 
--- those of two sides: between both sides of a version is that version alone
+-- the comparators of two sides. If there is a lower side, and the upper one is directly above the
+-- version, only the version is between them
 abbrev pub printed : LowerBounds → Option SideValue → Option SideValue → PlainVersion
     → List PlainComparator
 printed lower first last z =
     if is_some first && ends_past last then comparator Eq z ∷ []
     else at_side (lower_comparator lower) first z ++ at_side upper_comparator last z
 
--- those of a term, and of the ranges of a tree
+-- the comparators of a term
 abbrev pub printed_term : LowerBounds → Dialect → Simple → List PlainComparator
 printed_term lower dialect s =
     printed lower
@@ -55,12 +59,13 @@ printed_term lower dialect s =
     (sides dialect s.form (stated s.partial) (not (is_empty (zero_filled s.partial).pre))).1
     (zero_filled s.partial)
 
+-- the comparators of the ranges of a tree
 abbrev pub printed_ranges : LowerBounds → (dialect : Dialect) → Compat → TreeOf dialect
     → List PlainRange
 printed_ranges lower dialect mode tree =
     map (range_of_simples (printed_term lower dialect) mode) (ranges_of lower dialect tree)
 
--- a set of the comparators that are printed for each tree of a text
+-- the set has the comparators that are printed for each tree of the text
 abbrev pub IsPrintedAs : LowerBounds → Dialect → Compat → Text → PlainSet → Type 0
 IsPrintedAs lower dialect mode t set = (tree : TreeOf dialect) → SpellsAs dialect tree t
     → set ≡ record { ranges = printed_ranges lower dialect mode tree; compat = mode }

@@ -1,5 +1,5 @@
--- A means of proof, which no public clause cites: what a reader of a range text finds out, and why
--- it refuses the text.
+-- A means of proof, which no public clause cites: what is known of a range text that was read, and
+-- why it is invalid.
 use Rattle.std.specs.Prelude.{◌≡◌, false, Some, None, IsTrue}
 use Rattle.semver_texts.specs.Texts.{Text}
 use Rattle.semver_ranges.specs.declared.range_set.RangeError.{RangeError}
@@ -9,12 +9,12 @@ use Rattle.tool_ranges.specs.declared.dialect.Dialect.{Dialect}
 use Rattle.tool_ranges.specs.Dialects.{TreeOf, fits_as}
 use Rattle.tool_ranges.specs.Steps.Cursors.{read_as}
 
--- a text has a tree, which fits, and of which something is so
+-- a text has a tree whose numbers fit and that has some property
 abbrev pub IsRead : (dialect : Dialect) → Text → (TreeOf dialect → Type 0) → Type 0
 IsRead dialect t Is = (tree : TreeOf dialect) × (read_as dialect t ≡ Some tree)
     × IsTrue (fits_as dialect tree) × Is tree
 
--- why there is no answer that needs no memory
+-- why a call that does not allocate returns an error
 abbrev pub IsRefusedAs : Dialect → Text → RangeError → Type 0
 IsRefusedAs dialect t NotARange = read_as dialect t ≡ None
 IsRefusedAs dialect t NumberTooLarge = (tree : TreeOf dialect) × (read_as dialect t ≡ Some tree)

@@ -1,4 +1,4 @@
--- To be the same range is an equivalence, as `==` asks: a means of proof.
+-- `same_range` is an equivalence, as `==` requires: a means of proof.
 use Rattle.std.specs.Cmp.{IsEquivalence}
 use Rattle.std.proofs.lemmas.Cmp.{int_eq_equiv, on_equiv, and_equiv}
 use Rattle.tool_ranges.specs.DialectTable.{number_of}

@@ -1,4 +1,4 @@
--- What combining two lists of boundaries gives: a means of proof.
+-- A means of proof: the combination of two lists of boundaries.
 use Rattle.std.specs.Prelude.{◌≡◌, Bool, true, false, not, ◌&&◌, ◌||◌, List}
 use Rattle.std.specs.List.{list_any}
 use Rattle.semver_texts.specs.Versions.{PlainVersion}
@@ -10,7 +10,7 @@ use Rattle.version_sets.specs.declared.set_operations.Combination.TheVariants.{D
 use Rattle.version_sets.specs.VersionSets.{SetValue, contains, Fits}
 use Rattle.version_sets.specs.Steps.Sweeps.{PieceValue, sweep, changes}
 
--- whether what is in the first or in the second is in the combination
+-- whether a version is in the combination, by whether it is in the first and in the second set
 abbrev pub keeps : Combination → Bool → Bool → Bool
 keeps Union x y = x || y
 keeps Intersection x y = x && y
@@ -25,7 +25,7 @@ keeps_some how ps = list_any (λ p. keeps how p.in_first p.in_second) ps
 abbrev pub combined : Combination → List (PieceValue PlainVersion) → List PlainVersion
 combined how ps = changes (keeps how) false ps
 
--- two sets combined, kind by kind
+-- the combination of two sets, made for each kind of versions
 abbrev pub combined_sets : Combination → SetValue → SetValue → SetValue
 combined_sets how a b = record {
   releases = combined how (pieces a.releases b.releases);
@@ -33,7 +33,7 @@ combined_sets how a b = record {
   digits = a.digits;
 }
 
--- a version is in the combination of two sets
+-- a version whose numbers fit 64 bits is in the combination of two sets
 abbrev pub IsKept : Combination → SetValue → SetValue → PlainVersion → Type 0
 IsKept how a b v = Fits v × (keeps how (contains a v) (contains b v) ≡ true)
 

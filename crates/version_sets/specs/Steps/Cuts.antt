@@ -1,5 +1,5 @@
--- Cuts, which are places in the order of versions, and intervals between two of them: a means of
--- proof.
+-- A means of proof: cuts, which are positions in the order of versions, and intervals between two
+-- of them.
 use Rattle.std.specs.Prelude.{ℕ, Bool, true, false, ◌&&◌, not, Option, Some, None, map, take}
 use Rattle.std.specs.Ordering.{nat_cmp, is_ge, is_gt}
 use Rattle.std.specs.Cmp.Lexicographic.{slice_cmp}
@@ -16,8 +16,8 @@ use Rattle.version_sets.specs.declared.cut.Interval.{Interval}
 use Rattle.version_sets.specs.declared.cut.Side.{Side}
 use Rattle.version_sets.specs.declared.cut.Side.TheVariants.{Below, At, Past, Above}
 
--- a side of a version: below each with its three numbers, right below it, right above it, and above
--- each with its first n numbers
+-- the sides of a version: below every version with its three numbers, directly below it, directly
+-- above it, and above every version with its first n numbers
 pub data SideValue : Type 0 where
   below : SideValue
   at : SideValue
@@ -41,21 +41,21 @@ is_above at z v = is_ge (precedence v z)
 is_above past z v = is_gt (precedence v z)
 is_above (above n) z v = is_gt (first_numbers n v z)
 
--- whether a version is above a lower side, which may be none, and above an upper one; and whether
--- it is between both
+-- whether a version is above a lower side; if there is none, every version is
 abbrev pub is_above_lower : Option SideValue → PlainVersion → PlainVersion → Bool
 is_above_lower None z v = true
 is_above_lower (Some side) z v = is_above side z v
 
+-- whether a version is above an upper side; if there is none, no version is
 abbrev pub is_above_upper : Option SideValue → PlainVersion → PlainVersion → Bool
 is_above_upper None z v = false
 is_above_upper (Some side) z v = is_above side z v
 
+-- whether a version is above the lower side and not above the upper one
 abbrev pub is_between : Option SideValue × Option SideValue → PlainVersion → PlainVersion → Bool
 is_between sides z v = is_above_lower sides.0 z v && not (is_above_upper sides.1 z v)
 
--- the version beside which a cut is, as its identifiers of digits alone are kept, and as they are
--- read
+-- the version at which a cut is, with its identifiers of digits as they are kept
 abbrev pub beside_kept : Cut → PlainVersion
 beside_kept cut = record {
   major = cut.numbers.major;
@@ -64,6 +64,7 @@ beside_kept cut = record {
   pre = map kept (cut_at_dots cut.pre.now);
 }
 
+-- the version at which a cut is, with its identifiers of digits as they are read
 abbrev pub beside : Digits → Cut → PlainVersion
 beside digits cut = plain_by digits (beside_kept cut)
 
@@ -71,16 +72,17 @@ beside digits cut = plain_by digits (beside_kept cut)
 abbrev pub is_above_cut : Digits → Cut → PlainVersion → Bool
 is_above_cut digits cut v = is_above (side_value cut.side) (beside digits cut) v
 
--- whether it is above a lower cut, which may be none, and above an upper one; and whether it is in
--- an interval
+-- whether a version is above a lower cut; if there is none, every version is
 abbrev pub is_past_lower : Digits → Option Cut → PlainVersion → Bool
 is_past_lower digits None v = true
 is_past_lower digits (Some cut) v = is_above_cut digits cut v
 
+-- whether a version is above an upper cut; if there is none, no version is
 abbrev pub is_past_upper : Digits → Option Cut → PlainVersion → Bool
 is_past_upper digits None v = false
 is_past_upper digits (Some cut) v = is_above_cut digits cut v
 
+-- whether a version is in an interval: above the lower cut and not above the upper one
 abbrev pub is_in_interval : Digits → Interval → PlainVersion → Bool
 is_in_interval digits interval v =
     is_past_lower digits interval.lower v && not (is_past_upper digits interval.upper v)

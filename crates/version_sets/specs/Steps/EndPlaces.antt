@@ -1,4 +1,4 @@
--- Where pre-releases begin and end beside cuts: a means of proof.
+-- A means of proof: the versions at which spans of pre-releases begin and end.
 use Rattle.std.specs.Prelude.{◌||◌, map}
 use Rattle.semver_texts.specs.Digits.{plain_by}
 use Rattle.semver_texts.specs.Texts.{cut_at_dots, is_empty}
@@ -7,8 +7,8 @@ use Rattle.semver_ranges.specs.Partials.{kept}
 use Rattle.version_sets.specs.Steps.SpanViews.{successor}
 use Rattle.version_sets.specs.declared.pre_release_place.PreReleaseEnd.{PreReleaseEnd}
 
--- where an end of pre-releases is, as its identifiers are kept and as they are read: none has no
--- identifiers
+-- the version at an end of a span, with its identifiers as they are kept. If it has none, it gets
+-- the number 0, so that it is a pre-release
 abbrev pub kept_end : PreReleaseEnd → PlainVersion
 kept_end l = record {
   major = l.numbers.major;
@@ -18,5 +18,6 @@ kept_end l = record {
       (l.successor || is_empty (map kept (cut_at_dots l.pre.now)));
 }
 
+-- the version at an end of a span, with its identifiers of digits as they are read
 abbrev pub end_place : PreReleaseEnd → PlainVersion
 end_place l = plain_by l.digits (kept_end l)

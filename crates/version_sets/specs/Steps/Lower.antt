@@ -1,4 +1,4 @@
--- The lower one of two versions by precedence, where there are both: a means of proof.
+-- A means of proof: the lower of two versions by precedence, or the only one that is given.
 use Rattle.std.specs.Prelude.{Bool, false, if◌then◌else◌, Option, Some, None}
 use Rattle.std.specs.Ordering.{is_lt}
 use Rattle.semver_texts.specs.Versions.{PlainVersion}

@@ -1,5 +1,4 @@
--- What precedence sees of a version, and of lists of boundaries: a means of proof, and the view of
--- a `VersionSet`.
+-- A means of proof: the version that precedence compares, and the value of a `VersionSet`.
 use Rattle.std.specs.Prelude.{List, map}
 use Rattle.semver_texts.specs.Versions.{PlainVersion}
 use Rattle.semver_texts.specs.VersionViews.{version_value}

@@ -1,4 +1,4 @@
--- To be the same set is an equivalence, as `==` asks: a means of proof.
+-- `same_set` is an equivalence, as `==` requires: a means of proof.
 use Rattle.std.specs.Prelude.{◌≡◌, true, refl}
 use Rattle.std.specs.Cmp.{IsEquivalence}
 use Rattle.std.proofs.lemmas.Cmp.{lists_equiv, eq_by_cmp_equiv, on_equiv, and_equiv}

@@ -1,4 +1,4 @@
--- The views of borrowed comparators, and the text of ranges after others: a means of proof.
+-- A means of proof: the values of borrowed comparators, and the text of ranges that follow others.
 use Rattle.std.specs.Prelude.{List, [], ◌∷◌, ◌++◌, codes, flat_map, map, Option, Some, None}
 use Rattle.semver_ranges.specs.PrintedRanges.{range_text}
 use Rattle.semver_ranges.specs.RewritingTable.{PlainComparator, PlainRange, comparator}
@@ -21,6 +21,6 @@ others_value (Some s) = shown_value s ∷ []
 abbrev pub interval_value : ShownInterval → List PlainComparator
 interval_value i = shown_value i.first ∷ others_value i.second
 
--- the text of ranges that follow others
+-- the text of ranges that follow others, with ` || ` before each
 abbrev pub others_text : List PlainRange → Text
 others_text ranges = flat_map (λ range. codes " || " ++ range_text range) ranges

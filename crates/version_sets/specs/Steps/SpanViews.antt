@@ -1,4 +1,4 @@
--- What contracts see of spans, and of where pre-releases begin and end: a means of proof.
+-- A means of proof: the values of spans, and tests of the versions at which they begin and end.
 use Rattle.std.specs.Prelude.{Bool, true, false, ◌&&◌, if◌then◌else◌, List, [], ◌∷◌, ◌++◌}
 use Rattle.std.specs.Prelude.{Option, Some, None, option_map}
 use Rattle.std.specs.List.{list_all}
@@ -10,16 +10,16 @@ use Rattle.version_sets.specs.declared.spans.Bounds.{Bounds}
 use Rattle.version_sets.specs.declared.spans.Span.{Span}
 use Rattle.version_sets.specs.Steps.Spans.{SpanValue, is_between}
 
--- identifiers, and the number 0 after them
+-- identifiers, followed by the number 0 if `zero` is true
 abbrev pub successor : List IdentifierValue → Bool → List IdentifierValue
 successor identifiers zero = identifiers ++ (if zero then numeric 0 ∷ [] else [])
 
--- whether what compares so with a version is above it, or is at or above it
+-- whether the result of a comparison is greater, or, if the flag is false, greater or equal
 abbrev pub is_past : Bool → Ordering → Bool
 is_past true o = is_gt o
 is_past false o = is_ge o
 
--- whether a test holds of where something begins or ends, if there is such a place
+-- whether a test holds for a version, if there is one
 abbrev pub holds_at : (PlainVersion → Bool) → Option PlainVersion → Bool
 holds_at p None = true
 holds_at p (Some v) = p v
@@ -32,9 +32,10 @@ module _ {L : Type 0} (place : L → PlainVersion) where
   abbrev pub is_within : Bounds L → PlainVersion → Bool
   is_within b v = is_between precedence (option_map place b.from) (option_map place b.to) v
 
-  -- whether a test holds of where bounds begin and end, and of where each of some spans does
+  -- whether a test holds for the versions at which bounds begin and end, if there are any
   abbrev pub bounds_hold : (PlainVersion → Bool) → Bounds L → Bool
   bounds_hold p b = holds_at p (option_map place b.from) && holds_at p (option_map place b.to)
 
+  -- whether a test holds for the versions at which each span begins and ends
   abbrev pub spans_hold : (PlainVersion → Bool) → List (Span L) → Bool
   spans_hold p spans = list_all (λ s. p (place s.from) && holds_at p (option_map place s.to)) spans

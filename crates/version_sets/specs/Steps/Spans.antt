@@ -1,5 +1,5 @@
--- Spans of one kind of versions, each from a bound on and below another, if there is one, and the
--- boundaries of what is in some of them: a means of proof.
+-- A means of proof: spans of one kind of versions, and the boundaries of their union. A span begins
+-- at a bound and ends below another, if there is one.
 use Rattle.std.specs.Prelude.{◌≡◌, Bool, false, ◌&&◌, not, if◌then◌else◌, ⊤}
 use Rattle.std.specs.Prelude.{Option, Some, None, option_to_list, List, [], ◌∷◌, ◌++◌}
 use Rattle.std.specs.List.{list_any}
@@ -11,7 +11,7 @@ pub record SpanValue (T : Type 0) : Type 0 where
   pub to : Option T
 
 module _ {T : Type 0} (cmp : T → T → Ordering) where
-  -- whether v is at or above a bound; none is above all
+  -- whether v is at or above a bound; if there is no bound, nothing is
   abbrev pub reached : Option T → T → Bool
   reached None v = false
   reached (Some b) v = is_ge (cmp v b)
@@ -23,22 +23,23 @@ module _ {T : Type 0} (cmp : T → T → Ordering) where
   abbrev pub is_in : SpanValue T → T → Bool
   is_in s v = is_between (Some s.from) s.to v
 
-  -- it ends above its begin
+  -- the span ends above its beginning, or has no end
   abbrev pub IsSpan : SpanValue T → Type 0
   IsSpan s = reached s.to s.from ≡ false
 
-  -- the bound that less reached, and the one that more does
+  -- the higher of two bounds; `None` is above all others
   abbrev pub later : Option T → Option T → Option T
   later None b = None
   later (Some a) None = None
   later (Some a) (Some b) = if is_ge (cmp a b) then Some a else Some b
 
+  -- the lower of two bounds; `None` is above all others
   abbrev pub earlier : Option T → Option T → Option T
   earlier None b = b
   earlier (Some a) None = Some a
   earlier (Some a) (Some b) = if is_lt (cmp b a) then Some b else Some a
 
-  -- whether a bound is below v
+  -- whether a bound is below v; `None` is not
   abbrev pub is_below : Option T → T → Bool
   is_below None v = false
   is_below (Some b) v = is_lt (cmp b v)
@@ -46,11 +47,11 @@ module _ {T : Type 0} (cmp : T → T → Ordering) where
   abbrev pub span_boundaries : SpanValue T → List T
   span_boundaries s = s.from ∷ option_to_list s.to
 
-  -- two that meet as one
+  -- two spans that meet, as one span
   abbrev pub met : SpanValue T → SpanValue T → SpanValue T
   met s x = record { from = s.from; to = later s.to x.to }
 
-  -- the boundaries of a span and of ascending ones after it
+  -- the boundaries of the union of a span and of ascending ones after it
   abbrev pub joined : SpanValue T → List (SpanValue T) → List T
   joined s [] = span_boundaries s
   joined s (x ∷ xs) =
@@ -60,7 +61,7 @@ module _ {T : Type 0} (cmp : T → T → Ordering) where
   all_joined [] = []
   all_joined (x ∷ xs) = joined x xs
 
-  -- each begins at or above the one before it, and the first at or above a
+  -- each span begins at or above the beginning of the one before it, and the first at or above a
   abbrev pub IsAscending : T → List (SpanValue T) → Type 0
   IsAscending a [] = ⊤
   IsAscending a (x ∷ xs) = (is_lt (cmp x.from a) ≡ false) × IsAscending x.from xs
@@ -69,7 +70,7 @@ module _ {T : Type 0} (cmp : T → T → Ordering) where
   all_ascend [] = ⊤
   all_ascend (x ∷ xs) = IsAscending x.from xs
 
-  -- whether some span ends at or below its begin
+  -- whether some span ends at or below its beginning
   abbrev pub some_empty : List (SpanValue T) → Bool
   some_empty xs = list_any (λ s. reached s.to s.from) xs
 

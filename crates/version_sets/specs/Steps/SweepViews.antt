@@ -1,4 +1,4 @@
--- The pieces that an iterator has left, by the places of its boundaries: a means of proof.
+-- A means of proof: the pieces that an iterator has left, with the versions of its boundaries.
 use Rattle.std.specs.Prelude.{List, map}
 use Rattle.semver_texts.specs.Versions.{PlainVersion}
 use Rattle.semver_texts.specs.Precedence.{precedence}

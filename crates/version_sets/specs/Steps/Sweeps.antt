@@ -1,26 +1,28 @@
--- Two lists of boundaries swept together, from the lowest to the greatest: a means of proof.
+-- A means of proof: two lists of boundaries that are swept together, from the lowest to the
+-- highest.
 use Rattle.std.specs.Prelude.{Bool, true, false, not, if◌then◌else◌, List, [], ◌∷◌}
 use Rattle.std.specs.Ordering.{is_ge, match_ordering}
 use Rattle.std.specs.declared.cmp.Ordering.{Ordering}
 
--- from a boundary on, up to that of the next piece: whether this is in the first, in the second
+-- a piece, from its boundary up to that of the next piece, and whether it is in the first set and
+-- in the second
 pub record PieceValue (T : Type 0) : Type 0 where
   pub from : T
   pub in_first : Bool
   pub in_second : Bool
 
--- a list that is swept together with any other: x and y say whether what is below the sweep's first
--- piece is in the first, in the second
+-- the sweep of a list together with any other. The two flags say whether what is below the first
+-- piece of the sweep is in the first set and in the second
 abbrev pub SweepWith : Type 0 → Type 0
 SweepWith T = Bool → Bool → List T → List (PieceValue T)
 
--- the first list has no more boundaries
+-- the sweep if the first list has no more boundaries
 abbrev pub sweep_alone : {T : Type 0} → SweepWith T
 sweep_alone x y [] = []
 sweep_alone x y (b ∷ ys) =
     record { from = b; in_first = x; in_second = not y } ∷ sweep_alone x (not y) ys
 
--- the first list has the boundary a, and then those that `after` sweeps
+-- the sweep if the first list has the boundary a, and then those that `after` sweeps
 abbrev pub sweep_step : {T : Type 0} → (T → T → Ordering) → T → SweepWith T → SweepWith T
 sweep_step cmp a after x y [] =
     record { from = a; in_first = not x; in_second = y } ∷ after (not x) y []
@@ -35,19 +37,19 @@ abbrev pub sweep : {T : Type 0} → (T → T → Ordering) → List T → SweepW
 sweep cmp [] = sweep_alone
 sweep cmp (a ∷ xs) = sweep_step cmp a (sweep cmp xs)
 
--- what f says of the last piece at or below v, and k where there is none
+-- what f returns for the last piece at or below v, or k if there is none
 abbrev pub held : {T : Type 0} → (T → T → Ordering) → (Bool → Bool → Bool) → Bool
     → List (PieceValue T) → T → Bool
 held cmp f k [] v = k
 held cmp f k (p ∷ ps) v =
     if is_ge (cmp v p.from) then held cmp f (f p.in_first p.in_second) ps v else k
 
--- whether they differ
+-- whether two flags differ
 abbrev pub differ : Bool → Bool → Bool
 differ true b = not b
 differ false b = b
 
--- the boundaries where what f says of the pieces changes, from k on
+-- the boundaries at which what f returns for the pieces changes, starting with k
 abbrev pub changes : {T : Type 0} → (Bool → Bool → Bool) → Bool → List (PieceValue T) → List T
 changes f k [] = []
 changes f k (p ∷ ps) =
