@@ -1,5 +1,5 @@
--- How many lines a text has, how many of these are kept, how many have no version, and the first of
--- those.
+-- How many lines a text has, how many of them are kept, empty or invalid, and the first invalid
+-- one.
 use Rattle.std.specs.Prelude.{ℕ, ◌+◌, ◌-◌, ◌^◌, min, List, [], ◌∷◌, Option, Some, None}
 use Rattle.std.specs.Option.{option_map}
 use Rattle.semver_texts.specs.Texts.{Text}
@@ -7,7 +7,7 @@ use Rattle.release_filter.specs.Verdicts.{Verdict, kept, dropped, invalid, empty
 use Rattle.release_filter.specs.declared.counts.Counts.{Counts}
 use Rattle.release_filter.specs.declared.counts.InvalidLine.{InvalidLine}
 
--- a line that has a text and no version: its number, and the front of its text
+-- an invalid line, which is not empty and has no version: its number, and the beginning of its text
 pub record InvalidValue : Type 0 where
   pub number : ℕ
   pub front : Text
@@ -31,14 +31,15 @@ counts_value c = record {
   first_invalid = option_map invalid_value c.first_invalid;
 }
 
--- before any line
+-- the counts before any line
 abbrev pub no_counts : CountsValue
 no_counts = record { lines = 0; kept = 0; empty = 0; invalid = 0; first_invalid = None }
 
--- one more, up to 2^64 - 1
+-- one more, but at most 2^64 - 1
 abbrev pub one_more : ℕ → ℕ
 one_more n = min (n + 1) (2 ^ 64 - 1)
 
+-- the first invalid line, if one more is found
 abbrev pub first_of : Option InvalidValue → InvalidValue → Option InvalidValue
 first_of None line = Some line
 first_of (Some first) line = Some first

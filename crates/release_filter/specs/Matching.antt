@@ -5,6 +5,6 @@ use Rattle.tool_ranges.specs.VersionRanges.{RangeValue}
 use Rattle.version_sets.specs.PreReleaseRules.{numbers_fit}
 use Rattle.version_sets.specs.VersionSets.{contains}
 
--- a version matches a range if its numbers fit, and the range contains it
+-- whether the numbers of a version fit 64 bits, and the range contains it
 abbrev pub matches : RangeValue → VersionValue → Bool
 matches range v = numbers_fit v.plain && contains range.versions v.plain

@@ -1,5 +1,5 @@
--- A text that comes in pieces: what a piece does, what the end of the text does, what is left, and
--- what an error leaves.
+-- A text that comes in pieces: the effects of a piece, of the end of the text and of an error, and
+-- the state after each.
 use Rattle.std.specs.Prelude.{◌≡◌, ◌&&◌, Bool, true, false, List, [], ◌∷◌, ◌++◌, IsTrue, take}
 use Rattle.semver_texts.specs.Texts.{Text, is_empty}
 use Rattle.release_filter.specs.Counting.{CountsValue, counted}
@@ -11,16 +11,16 @@ use Rattle.release_filter.specs.Selections.{selected_of}
 use Rattle.release_filter.specs.declared.lines.LinesError.{LinesError}
 use Rattle.release_filter.specs.declared.lines.LinesError.TheVariants.{OutOfMemory, NoVersion}
 
--- what is done with lines, and what came of those so far: which are kept, whether one without a
--- version is an error, what is held for the end of the text, and the counts
+-- how lines are treated, and the state after the lines so far: which lines are kept, whether an
+-- invalid line is an error, the lines that are held until the end of the text, and the counts
 pub record FoldValue : Type 0 where
   pub rule : LineRule
   pub is_strict : Bool
   pub held : HeldValue
   pub counts : CountsValue
 
--- what holds the lines of a text: what came of those that have ended, whether none has yet, and the
--- first bytes of the line that has begun and not ended
+-- the state after some bytes of a text: that after the lines that have ended, whether none has
+-- ended yet, and the first bytes of the line that has begun
 pub record LinesValue : Type 0 where
   pub fold : FoldValue
   pub at_front : Bool
@@ -28,8 +28,8 @@ pub record LinesValue : Type 0 where
 
 -- ---- lines
 
--- lines were taken that are these: each is counted, and of the kept ones what is selected was
--- appended or is held
+-- these lines were taken: each is counted, and the kept ones that are wanted were appended or are
+-- held
 pub record Folds (f : FoldValue) (lines : List Text) (verdicts : List Verdict) (g : FoldValue)
     (old new : Text) : Type 0 where
   pub each : AreVerdictsOn f.rule lines verdicts
@@ -38,23 +38,24 @@ pub record Folds (f : FoldValue) (lines : List Text) (verdicts : List Verdict) (
   pub appended : new ≡ old ++ added
   pub state : g ≡ record f { held = g.held; counts = counted f.counts verdicts }
 
--- all these lines were taken, and if it matters, none is invalid
+-- all these lines were taken, and if invalid lines are errors, none is invalid
 pub record TakesLines (f : FoldValue) (lines : List Text) (g : FoldValue)
     (old new : Text) : Type 0 where
   pub verdicts : List Verdict
   pub folds : Folds f lines verdicts g old new
   pub valid : IsTrue f.is_strict → has_invalid verdicts ≡ false
 
--- why no more lines were taken than some that are these: the memory ran out; or an invalid line is
--- an error, and the last of them is the first such line, of this number
+-- why no more lines than these were taken: an allocation failed, and no line before is an error; or
+-- invalid lines are errors, and the last of these lines is the first invalid one and has this
+-- number
 abbrev pub StopsBy : LinesError → FoldValue → List Verdict → CountsValue → Type 0
 StopsBy OutOfMemory f verdicts counts = IsTrue f.is_strict → has_invalid verdicts ≡ false
 StopsBy (NoVersion number) f verdicts counts = IsTrue f.is_strict
     × (before : List Verdict) × (front : Text) × (verdicts ≡ before ++ invalid front ∷ [])
     × (has_invalid before ≡ false) × (number ≡ counts.lines)
 
--- some first ones of these lines were taken, and then there was an error: what they append was
--- appended, and these are the counts
+-- the first ones of these lines were taken, and then there was an error. The output for the lines
+-- taken was appended, and these are the counts after them
 pub record Stops (error : LinesError) (f : FoldValue) (lines : List Text) (counts : CountsValue)
     (old new : Text) : Type 0 where
   pub taken : List Text
@@ -68,7 +69,8 @@ pub record Stops (error : LinesError) (f : FoldValue) (lines : List Text) (count
 
 -- ---- pieces
 
--- a piece was taken: the lines that it ends, and of the one that it begins the first bytes are left
+-- a piece was taken: the lines that end in it were taken, and the first bytes of the line that it
+-- begins are held
 pub record Takes (s : LinesValue) (piece : Text) (t : LinesValue) (old new : Text) : Type 0 where
   pub lines : List Text
   pub unended : Text
@@ -80,7 +82,7 @@ pub record Takes (s : LinesValue) (piece : Text) (t : LinesValue) (old new : Tex
     begun = take longest_front unended;
   }
 
--- an error came among the lines that a piece ends, or after them
+-- there was an error at one of the lines that end in a piece, or after them
 pub record StopsIn (error : LinesError) (s : LinesValue) (piece : Text) (counts : CountsValue)
     (old new : Text) : Type 0 where
   pub lines : List Text
@@ -88,25 +90,26 @@ pub record StopsIn (error : LinesError) (s : LinesValue) (piece : Text) (counts 
   pub cut : AreCut (end_byte s.fold.rule.ending) (s.begun ++ piece) lines unended
   pub stops : Stops error s.fold (marked_off s.at_front lines) counts old new
 
--- the last line, if it has no end of its own; it gets one if each is to have one
+-- the last line, if it has no end of its own; if `closes` is true, it gets one
 abbrev pub last_lines : Bool → LinesValue → List Text
 last_lines closes s =
     lines_in closes (end_byte s.fold.rule.ending) (after_mark s.at_front s.begun)
 
--- the end of a file was taken, and its last line got an end if it is to have one
+-- the end of a file was taken; if `closes` is true, a last line without an end got one
 pub record Ends (closes : Bool) (s t : LinesValue) (old new : Text) : Type 0 where
   pub takes : TakesLines s.fold (last_lines closes s) t.fold old new
   pub state : t ≡ record { fold = t.fold; at_front = true; begun = [] }
 
--- what is held is none
+-- the same state with no line held
 abbrev pub concluded : LinesValue → LinesValue
 concluded s = record s { fold = record s.fold { held = emptied s.fold.held } }
 
+-- whether a last line without an end gets one: if the lines are sorted
 abbrev pub closes_last : LinesValue → Bool
 closes_last s = is_sorted s.fold.held.selection
 
--- the end of the text was taken, and the rest of the answer was appended. Then no byte of a text
--- was taken and nothing is held; the counts stay
+-- the end of the text was taken, and the rest of the output was appended. After that the state is
+-- that before the first byte of a text, except for the counts
 pub record Finishes (s t : LinesValue) (old new : Text) : Type 0 where
   pub last : LinesValue
   pub before : Text
@@ -128,8 +131,9 @@ TakesPieces s (piece ∷ pieces) t old new = (m : LinesValue) × (mid : Text)
 abbrev pub begun_text : LinesValue → LinesValue
 begun_text s = record (concluded s) { at_front = true; begun = [] }
 
--- all lines of a text were taken that are these: of the kept ones what is wanted was appended. Then
--- the state is that before the first byte of a text, but for the counts
+-- all lines of a text were taken, and of the kept ones those that are wanted were appended. After
+-- that the state is that before the first byte of a text, except for the counts. If invalid lines
+-- are errors, none is invalid
 pub record Completes (s : LinesValue) (text : Text) (t : LinesValue) (old new : Text) : Type 0 where
   pub verdicts : List Verdict
   pub each : AreVerdictsOn s.fold.rule

@@ -1,4 +1,4 @@
--- What a line is to a filter, after one of some prefixes.
+-- What a filter decides about a line.
 use Rattle.std.specs.Prelude.{◌≡◌, ◌≤◌, ◌⊎◌, ℕ, Bool, true, false, List, [], ◌∷◌, ◌++◌, IsTrue}
 use Rattle.std.specs.Prelude.{if◌then◌else◌, drop, take, length}
 use Rattle.std.specs.List.{list_any}
@@ -11,21 +11,21 @@ use Rattle.release_filter.specs.Matching.{matches}
 use Rattle.release_filter.specs.LineTexts.{line_text, longest_text}
 use Rattle.release_filter.specs.declared.line_texts.LineEnd.{LineEnd}
 
--- which lines are kept, after which prefixes; what ends a line; and whether a kept line is given
--- without its prefix
+-- the range that versions of kept lines are in, the prefixes that a line may have, what ends a
+-- line, and whether a kept line is written without its prefix
 pub record LineRule : Type 0 where
   pub filter : RangeValue
   pub prefixes : List Text
   pub ending : LineEnd
   pub strips_prefix : Bool
 
--- the text is the prefix and then the text of a version in a dialect
+-- the text is the prefix followed by the text of a version in a dialect
 abbrev pub SpellsAfter : Grammar → Text → Text → VersionValue → Type 0
 SpellsAfter grammar prefix text v =
     (rest : Text) × (text ≡ prefix ++ rest) × SpellsIn grammar v rest
 
--- the first of the prefixes after which the text spells a version decides: it is this prefix, and
--- this version
+-- the text has this version after this prefix. Of the prefixes, it is the first after which the
+-- text has a version
 abbrev pub HasVersion : Grammar → List Text → Text → Text → VersionValue → Type 0
 HasVersion grammar [] text first v = ⊥
 HasVersion grammar (prefix ∷ prefixes) text first v =
@@ -33,14 +33,14 @@ HasVersion grammar (prefix ∷ prefixes) text first v =
     ⊎ (((w : VersionValue) → ¬ (SpellsAfter grammar prefix text w))
     × HasVersion grammar prefixes text first v)
 
--- without a prefix it is as with the empty one
+-- the prefixes that are tried: only the empty one if none is given
 abbrev pub tried : List Text → List Text
 tried [] = [] ∷ []
 tried (prefix ∷ prefixes) = prefix ∷ prefixes
 
--- a line is kept: it has this version, without its build, and this is given of it; or it is
--- dropped, since its version doesn't match; or it has no version: then it is empty, or invalid, and
--- its text begins with this
+-- what is decided about a line. It is kept, with its version without build metadata, and the bytes
+-- to write. Or it is dropped, since its version doesn't match. Or it has no version: then it is
+-- empty, or it is invalid, with the beginning of its text
 pub data Verdict : Type 0 where
   kept : PlainVersion → Text → Verdict
   dropped empty : Verdict
@@ -52,16 +52,17 @@ is_invalid dropped = false
 is_invalid empty = false
 is_invalid (invalid front) = true
 
--- some line has a text and no version
+-- whether some line is invalid: it is not empty and has no version
 abbrev pub has_invalid : List Verdict → Bool
 has_invalid verdicts = list_any (λ v. is_invalid v) verdicts
 
--- of an invalid line so many bytes of its text are reported
+-- the number of bytes of an invalid line's text that are reported
 abbrev pub reported : ℕ
 reported = 81
 
 module _ (rule : LineRule) where
-  -- the line has this version after this prefix
+  -- the line has this version after this prefix; if its text is longer than `longest_text`, it has
+  -- none
   abbrev pub HasAfter : Text → Text → VersionValue → Type 0
   HasAfter line prefix v = (length (line_text rule.ending line) ≤ longest_text)
       × HasVersion (versions_grammar rule.filter) (tried rule.prefixes)
@@ -70,11 +71,12 @@ module _ (rule : LineRule) where
   abbrev pub HasNoVersion : Text → Type 0
   HasNoVersion line = (prefix : Text) (v : VersionValue) → ¬ (HasAfter line prefix v)
 
-  -- what is given of a line that has a version after a prefix of so many bytes
+  -- the bytes to write for a line that has a version after a prefix of `count` bytes
   abbrev pub given_after : ℕ → Text → Text
   given_after count line = if rule.strips_prefix then drop count line else line
 
-  -- the line is that: its version matches, or doesn't; or it has none, with a text or without one
+  -- the verdict on a line: it has a version that matches or doesn't, or it has none, and its text
+  -- is empty or isn't
   abbrev pub IsVerdictOn : Text → Verdict → Type 0
   IsVerdictOn line (kept version given) = (prefix : Text) × (v : VersionValue)
       × HasAfter line prefix v × IsTrue (matches rule.filter v) × (version ≡ v.plain)
@@ -86,7 +88,7 @@ module _ (rule : LineRule) where
       × (is_empty (line_text rule.ending line) ≡ false)
       × (front ≡ take reported (line_text rule.ending line))
 
-  -- these lines are those, in their order
+  -- these are the verdicts on the lines, in their order
   abbrev pub AreVerdictsOn : List Text → List Verdict → Type 0
   AreVerdictsOn [] [] = Unit {0}
   AreVerdictsOn (line ∷ lines) (verdict ∷ verdicts) =

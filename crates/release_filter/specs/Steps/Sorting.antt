@@ -1,4 +1,4 @@
--- What is held, and how it is sorted: a means of proof.
+-- A means of proof: the lines that are held, and how they are sorted.
 use Rattle.std.specs.Prelude.{Bool, true, List, [], ◌∷◌, map}
 use Rattle.std.specs.Ordering.{is_gt, is_lt}
 use Rattle.std.specs.declared.cmp.Ordering.{Ordering}
@@ -15,7 +15,7 @@ use Rattle.release_filter.specs.declared.selection.Selection.TheVariants.{Sorted
 abbrev pub seen_lines : List IndexedLine → List SelectedValue
 seen_lines lines = map (λ l. selected_value l.line.now) lines
 
--- whether a version is better that compares so with the best one
+-- whether a version is better than the best one so far, by how it compares with that
 abbrev pub is_better_by : Selection → Ordering → Bool
 is_better_by Each o = is_gt o
 is_better_by Highest o = is_gt o
@@ -23,7 +23,7 @@ is_better_by Lowest o = is_lt o
 is_better_by Sorted o = is_gt o
 is_better_by Reversed o = is_gt o
 
--- whether a version is better than that of the first line that is held
+-- whether a version is better than that of the first line that is held; it is if no line is held
 abbrev pub is_better : Selection → PlainVersion → List SelectedValue → Bool
 is_better selection version [] = true
 is_better selection version (best ∷ more) =

@@ -1,4 +1,4 @@
--- What a filter says of one line: a means of proof, and a part of the view of `Lines`.
+-- A means of proof, and a part of the view of `Lines`: what a filter decides about one line.
 use Rattle.std.specs.Prelude.{◌≡◌, ◌≢◌, ◌≤◌, ◌++◌, ◌⊎◌, ℕ, Bool, true, false, List, [], ◌∷◌, All}
 use Rattle.std.specs.Prelude.{IsTrue, String, length, map, string_bytes, take}
 use Rattle.std.specs.Global.{Global}
@@ -49,7 +49,7 @@ fold_value f = record {
 
 -- ---- one line
 
--- what a line of this text is that has no version
+-- the verdict on a line with this text, if it has no version
 abbrev pub without_version : Text → Verdict
 without_version [] = empty
 without_version (x ∷ xs) = invalid (take reported (x ∷ xs))
@@ -59,11 +59,12 @@ verdict_of (NotAVersion text) = without_version text.now
 verdict_of Outside = dropped
 verdict_of (Kept borrowed given) = kept (version_of borrowed).plain given.now
 
--- the text has this version after this one prefix
+-- `first` is this prefix, and the text is the prefix followed by the text of this version
 abbrev pub HasOne : Grammar → Text → Text → Text → VersionValue → Type 0
 HasOne grammar prefix text first v = (first ≡ prefix) × SpellsAfter grammar prefix text v
 
--- what is said of a line of this text, if it has such versions after such prefixes
+-- what was decided about a line with this text, if `Has` says which version it has after which
+-- prefix
 abbrev pub Judges : LineRule → (Text → VersionValue → Type 0) → Text → Text → Judged → Type 0
 Judges rule Has text line (NotAVersion said) =
     ((prefix : Text) (v : VersionValue) → ¬ (Has prefix v)) × (said.now ≡ text)
@@ -75,30 +76,31 @@ Judges rule Has text line (Kept borrowed given) = (prefix : Text) × (v : Versio
 
 -- ---- a piece
 
--- a piece in three parts: what ends the line that was begun before, whole lines, and what begins
--- another. If no line ends in it, all of it is the last part
+-- a piece in three parts: the end of the line that was begun before, whole lines, and the beginning
+-- of another line. If no line ends in the piece, all of it is the last part
 pub record IsCut (end : ℕ) (piece first whole begun : Text) : Type 0 where
   pub parts : piece ≡ first ++ (whole ++ begun)
   pub ends_first : ((first ≡ []) × (whole ≡ [])) ⊎ IsWholeLine end first
   pub ends_whole : IsEmptyOrEndsWith whole end
   pub no_end : All (λ b. b ≢ end) begun
 
--- what is taken of the line that has begun, if it isn't empty
+-- the bytes as a line, if there are any
 abbrev pub some_line : Text → List Text
 some_line [] = []
 some_line (x ∷ xs) = (x ∷ xs) ∷ []
 
--- the line that has begun was taken with these bytes, if it isn't empty then
+-- the line that has begun was taken with these bytes at its end, if it isn't empty then
 pub record EndsLine (s : LinesValue) (end : Text) (t : LinesValue) (old new : Text) : Type 0 where
   pub takes : TakesLines s.fold (some_line (after_mark s.at_front (s.begun ++ end))) t.fold old new
   pub state : t ≡ record { fold = t.fold; at_front = s.at_front; begun = [] }
 
--- what is held of a line that has not ended: bytes of which none ends a line, and not too many
+-- the bytes that are held of a line that has not ended: none of them ends a line, and there are at
+-- most `longest_front`
 pub record IsBegun (end : ℕ) (begun : Text) : Type 0 where
   pub no_end : All (λ b. b ≢ end) begun
   pub short : length begun ≤ longest_front
 
--- what the last line gets at its end, if each line is to have one and it isn't empty
+-- what is appended to the last line: `end`, if each line is to have an end and the line isn't empty
 abbrev pub closing : Bool → Text → Text → Text
 closing true [] end = []
 closing true (x ∷ xs) end = end
