@@ -6,7 +6,7 @@ use Rattle.range_terms.specs.declared.term.Operator.TheVariants.{Bare, Equal, Le
 use Rattle.range_terms.specs.declared.term.Operator.TheVariants.{Greater, GreaterOrEqual, Tilde}
 use Rattle.range_terms.specs.declared.term.Operator.TheVariants.{Caret, Hyphen}
 
--- its number in C: the operators of comparators have the numbers that they have there
+-- its number in C; the operators of comparators have the same numbers there
 abbrev pub number_of : Operator → ℤ
 number_of Less = pos 0
 number_of LessOrEqual = pos 1
@@ -18,7 +18,7 @@ number_of Caret = pos 6
 number_of Bare = pos 7
 number_of Hyphen = pos 8
 
--- how it is written; `~>` is the same as `~`
+-- its sign, which is `~` for `~>`, too; for a hyphen range the hyphen
 abbrev pub sign_of : Operator → Text
 sign_of Bare = []
 sign_of Equal = codes "="

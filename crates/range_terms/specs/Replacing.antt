@@ -1,4 +1,4 @@
--- A version of a term may be replaced by another, and the string stays a range.
+-- How the version of a term may be replaced by another, so that the text stays a range.
 use Rattle.std.specs.Prelude.{◌≡◌, ◌&&◌, not, Some, IsTrue, ◌++◌, drop, take}
 use Rattle.semver_texts.specs.Texts.{Text}
 use Rattle.semver_texts.specs.declared.grammar.Grammar.TheVariants as grammar
@@ -19,7 +19,7 @@ use Rattle.range_terms.specs.WrittenTerms.{WrittenTerm, WrittenVersion}
 abbrev pub replaced : Text → Span → Text → Text
 replaced t span word = take span.start t ++ (word ++ drop span.end t)
 
--- what the version of a term is after, or the one before the hyphen
+-- what is before the version of a term, or before the left one of a hyphen range
 abbrev pub role_in : Operator → Role
 role_in operator.Bare = after_form bare
 role_in operator.Equal = after_form equal
@@ -31,8 +31,8 @@ role_in operator.Tilde = after_form tilde
 role_in operator.Caret = after_form caret
 role_in operator.Hyphen = after_form bare
 
--- a word of a dialect that may replace another: to Cargo it states a number, since a wildcard
--- without one has to be alone
+-- a word that may replace another in a dialect. In Cargo's it states a number, since a comparator
+-- that states none must be the only one
 abbrev pub MayReplace : Dialect → Role → PartialTree → Text → Type 0
 MayReplace dialect.Cargo role p word = SpellsPartial p word
     × IsTrue (is_partial_of_cargo p && not (states_nothing p))
@@ -40,7 +40,7 @@ MayReplace dialect.Npm role p word = SpellsWord grammar.Npm role p word
 MayReplace dialect.CrateCargo role p word = SpellsWord grammar.Crate role p word
 MayReplace dialect.CrateNpm role p word = SpellsWord grammar.Crate role p word
 
--- each version of a term of a text may be replaced
+-- each version of a term may be replaced, and the text stays a range of the dialect
 pub record IsReplaceable (d : Dialect) (t : Text) (x : WrittenTerm) : Type 0 where
   pub version : (p : PartialTree) (word : Text) → MayReplace d (role_in x.operator) p word
       → IsTextAs d (replaced t x.version.span word)

@@ -1,5 +1,5 @@
--- The terms of a range text as they are written, and where each is: by the pieces into which the
--- grammar cuts the text.
+-- The terms of a range text as they are written, and their offsets. They follow from the pieces
+-- into which the grammar cuts the text.
 use Prim.Native.Char.{code}
 use Rattle.std.specs.Prelude.{ℕ, ◌+◌, ◌-◌, ◌^◌, suc, Bool, if◌then◌else◌, Option, Some, None}
 use Rattle.std.specs.Prelude.{option_map, List, [], ◌∷◌, ◌++◌, length, slice_index}
@@ -27,7 +27,7 @@ use Rattle.range_terms.specs.declared.term.PartialVersion.{PartialVersion}
 use Rattle.range_terms.specs.declared.term.Span.{Span}
 use Rattle.range_terms.specs.declared.term.Term.{Term}
 
--- ---- a term, without where its strings are in memory
+-- ---- a term, with its strings as bytes
 
 pub record WrittenVersion : Type 0 where
   pub span : Span
@@ -69,30 +69,32 @@ term_value t =
 
 -- ---- what is written in a word
 
--- the component that a text is: a wildcard, which is one byte, or the value of its digits, at most
--- 2^64 - 1
+-- the component of a text: a wildcard, which is one byte, or the value of its digits, which is
+-- given as 2^64 - 1 if it is larger
 abbrev pub component_of : Text → Component
 component_of c =
     if is_wildcard c then Wildcard (slice_index c 0)
     else Number (if fits_u64 (digits_value 10 c) then digits_value 10 c else 2 ^ 64 - 1)
 
--- those of a partial, which has one to three
+-- the first component of a partial version
 abbrev pub major_of : PartialTree → Component
 major_of (one a) = component_of a
 major_of (two a b) = component_of a
 major_of (three a b c pre build) = component_of a
 
+-- the second component, if there is one
 abbrev pub minor_of : PartialTree → Option Component
 minor_of (one a) = None
 minor_of (two a b) = Some (component_of b)
 minor_of (three a b c pre build) = Some (component_of b)
 
+-- the third component, if there is one
 abbrev pub patch_of : PartialTree → Option Component
 patch_of (one a) = None
 patch_of (two a b) = None
 patch_of (three a b c pre build) = Some (component_of c)
 
--- the version of a partial, whose word is at a span, and begins with a `v` or not
+-- the version of a partial version, if its word is at this span, and begins with `v` or doesn't
 abbrev pub version_of : Span → Bool → PartialTree → WrittenVersion
 version_of span has_v p =
     record {
@@ -105,13 +107,13 @@ version_of span has_v p =
       build = join_with_byte (code ".") (build_parts p);
     }
 
--- the same, of a word that is these bytes from an offset on
+-- the version of a partial version, if its word begins at this offset
 abbrev pub word_at : ℕ → PartialTree → Text → WrittenVersion
 word_at offset p word = version_of (record { start = offset; end = offset + length word })
     (begins_with (code "v") word)
     p
 
--- the operator of what is before a partial
+-- the operator before a partial version
 abbrev pub operator_of : Form → Operator
 operator_of bare = operator.Bare
 operator_of equal = operator.Equal
@@ -122,10 +124,10 @@ operator_of at_least = operator.GreaterOrEqual
 operator_of tilde = operator.Tilde
 operator_of caret = operator.Caret
 
--- ---- the terms of a text, from an offset on, and of the k-th range and those after it
+-- ---- the terms of a text that begins at an offset, from the range with the index k on
 
 module _ (d : Grammar) where
-  -- of a simple: what is before its word, and the word
+  -- the term of an operator, if there is one, and a word
   abbrev pub simple_at : (k offset : ℕ) (s : Simple) (t : Text) → SpellsSimple d s t → WrittenTerm
   simple_at k offset s t (front, word, form, spelled, whole) =
       record {
@@ -143,7 +145,7 @@ module _ (d : Grammar) where
       simple_at k offset first front spelled
       ∷ simples_at k (offset + length (front ++ gap)) next others back more
 
-  -- of a hyphen range: its two words
+  -- the terms of a range. A hyphen range is one term with two words, and an empty range has no term
   abbrev pub range_at : (k offset : ℕ) (r : RangeTree) (t : Text) → SpellsRange d r t
       → List WrittenTerm
   range_at k offset empty t spelled = []
@@ -171,12 +173,13 @@ module _ (d : Grammar) where
       padded_at k offset r front spelled
       ++ ranges_at (suc k) (offset + length front + 2) (next ∷ others) back more
 
--- the blanks before a comparator of Cargo: without an operator, both those before and after it
+-- the blanks before a comparator of Cargo. Without an operator, these include the blanks that an
+-- operator would have after it
 abbrev pub blanks_before : Form → Text → Text → Text
 blanks_before bare before gap = before ++ gap
 blanks_before _ before gap = before
 
--- of a comparator of Cargo, which is in the first range
+-- the term of a comparator of Cargo, which is in the range with the index 0
 abbrev pub comparator_at : (offset : ℕ) (s : Simple) (t : Text) → SpellsComparator s t
     → WrittenTerm
 comparator_at offset s t spelled =

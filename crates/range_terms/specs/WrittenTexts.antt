@@ -7,21 +7,23 @@ use Rattle.range_terms.specs.declared.term.Component.{Component}
 use Rattle.range_terms.specs.declared.term.Component.TheVariants.{Number, Wildcard}
 use Rattle.range_terms.specs.WrittenTerms.{WrittenVersion}
 
--- a component, and one after a dot, if there is one
+-- the text of a component
 abbrev pub component_text : Component → Text
 component_text (Number n) = decimal n
 component_text (Wildcard c) = encode_utf8 c
 
+-- a dot and the text of a component, if there is one
 abbrev pub dot_text : Option Component → Text
 dot_text None = []
 dot_text (Some c) = code "." ∷ component_text c
 
--- a part after its mark, if there is one
+-- a pre-release or build metadata after its mark, if there is any
 abbrev pub part_text : Text → Text → Text
 part_text mark [] = []
 part_text mark (b ∷ t) = mark ++ (b ∷ t)
 
--- a version: its `v`, its components separated by dots, the pre-release and the build
+-- the text of a version: its `v`, its components separated by dots, its pre-release and its build
+-- metadata
 abbrev pub version_text : WrittenVersion → Text
 version_text v =
     (if v.has_v then codes "v" else [])

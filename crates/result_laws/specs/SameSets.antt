@@ -1,4 +1,4 @@
--- Sets of versions, and what a comparison of two returns, as values.
+-- When two sets or ranges are equal, and the result of a comparison of two sets as a value.
 use Rattle.std.specs.Prelude.{◌≡◌, Option, option_map}
 use Rattle.semver_parser.specs.Versions.{PlainVersion, VersionValue}
 use Rattle.semver_parser.specs.VersionViews.{version_value}
@@ -6,17 +6,19 @@ use Rattle.tool_ranges.specs.VersionRanges.{RangeValue}
 use Rattle.version_sets.specs.VersionSets.{SetValue, contains, Fits}
 use Rattle.version_sets.specs.declared.Comparison.{Comparison}
 
--- two sets are equal where they read digits alike and have the same versions
+-- two sets are equal if they read digits in the same way and contain the same versions, of those
+-- whose numbers fit 64 bits
 abbrev pub AreAlike : SetValue → SetValue → Type 0
 AreAlike a b = a.digits ≡ b.digits
     → ((v : PlainVersion) → Fits v → contains a v ≡ contains b v) → a ≡ b
 
--- two ranges are equal where they have the same meaning and the same versions
+-- two ranges are equal if they have the same meaning and contain the same versions, of those whose
+-- numbers fit 64 bits
 abbrev pub AreAlikeRanges : RangeValue → RangeValue → Type 0
 AreAlikeRanges a b = a.meaning ≡ b.meaning
     → ((v : PlainVersion) → Fits v → contains a.versions v ≡ contains b.versions v) → a ≡ b
 
--- the three versions of a comparison, where there are any
+-- the three versions of a comparison, each of which may be missing
 pub record ComparisonValue : Type 0 where
   pub lost : Option VersionValue
   pub gained : Option VersionValue
