@@ -108,8 +108,8 @@ impl Operator {
 /// ```
 #[derive(Clone, Copy, PartialEq, Eq, Hash, Debug)]
 pub enum Component {
-    /// A number. A number above 2^64 - 1, which is possible only after a wildcard, is given as 2^64
-    /// - 1.
+    /// A number. One above 2^64 - 1, which is possible only after a wildcard, is given as
+    /// 2^64 - 1.
     Number(u64),
     /// A wildcard as it is written: `x`, `X` or `*`.
     Wildcard(char),

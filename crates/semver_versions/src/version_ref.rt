@@ -24,14 +24,15 @@ use std::cmp::Ordering;
 use std::marker::Model;
 
 /// A borrowed version: the three numbers, and slices of the pre-release and of the build metadata
-/// with their offsets. `version::read_ref` returns it, and it can be converted to a [`Version`].
+/// with their offsets. It can be converted to a [`Version`].
 ///
 /// ```
-/// use semver_parser::version;
+/// use semver_parser::{Dialect, VersionRef};
 ///
-/// let borrowed = version::read_ref("1.2.3-rc.4+5aedf").unwrap();
-/// assert_eq!((borrowed.major(), borrowed.minor(), borrowed.patch()), (1, 2, 3));
-/// assert_eq!((borrowed.pre(), borrowed.build()), ("rc.4", "5aedf"));
+/// let version = VersionRef::parse("v1.2.3-rc.4+5aedf", Dialect::Npm)?;
+/// assert_eq!((version.major(), version.minor(), version.patch()), (1, 2, 3));
+/// assert_eq!((version.pre(), version.build()), ("rc.4", "5aedf"));
+/// # Ok::<(), semver_parser::Error>(())
 /// ```
 #[derive(Debug, Drop)]
 pub struct VersionRef<'t> {
@@ -70,10 +71,11 @@ impl<'t> VersionRef<'t> {
     /// Returns the borrowed version 0.0.0.
     ///
     /// ```
-    /// use semver_parser::version::{self, VersionRef};
+    /// use semver_parser::{Dialect, VersionRef};
     ///
-    /// let zero = version::read_ref("0.0.0").unwrap();
+    /// let zero = VersionRef::parse("0.0.0", Dialect::Npm)?;
     /// assert!(VersionRef::zero().compare(&zero).is_eq());
+    /// # Ok::<(), semver_parser::Error>(())
     /// ```
     #[must_use]
     pub fn zero() -> VersionRef<'t>
@@ -104,9 +106,10 @@ impl<'t> VersionRef<'t> {
     /// Returns the first number.
     ///
     /// ```
-    /// use semver_parser::version;
+    /// use semver_parser::{Dialect, VersionRef};
     ///
-    /// assert_eq!(version::read_ref("1.2.3-rc.4+5aedf").unwrap().major(), 1);
+    /// assert_eq!(VersionRef::parse("1.2.3-rc.4+5aedf", Dialect::Npm)?.major(), 1);
+    /// # Ok::<(), semver_parser::Error>(())
     /// ```
     #[must_use]
     #[inline(always)]
@@ -120,9 +123,10 @@ impl<'t> VersionRef<'t> {
     /// Returns the second number.
     ///
     /// ```
-    /// use semver_parser::version;
+    /// use semver_parser::{Dialect, VersionRef};
     ///
-    /// assert_eq!(version::read_ref("1.2.3-rc.4+5aedf").unwrap().minor(), 2);
+    /// assert_eq!(VersionRef::parse("1.2.3-rc.4+5aedf", Dialect::Npm)?.minor(), 2);
+    /// # Ok::<(), semver_parser::Error>(())
     /// ```
     #[must_use]
     #[inline(always)]
@@ -136,9 +140,10 @@ impl<'t> VersionRef<'t> {
     /// Returns the third number.
     ///
     /// ```
-    /// use semver_parser::version;
+    /// use semver_parser::{Dialect, VersionRef};
     ///
-    /// assert_eq!(version::read_ref("1.2.3-rc.4+5aedf").unwrap().patch(), 3);
+    /// assert_eq!(VersionRef::parse("1.2.3-rc.4+5aedf", Dialect::Npm)?.patch(), 3);
+    /// # Ok::<(), semver_parser::Error>(())
     /// ```
     #[must_use]
     #[inline(always)]
@@ -153,10 +158,11 @@ impl<'t> VersionRef<'t> {
     /// string is empty if there is no pre-release.
     ///
     /// ```
-    /// use semver_parser::version;
+    /// use semver_parser::{Dialect, VersionRef};
     ///
-    /// assert_eq!(version::read_ref("1.2.3-rc.4+5aedf").unwrap().pre(), "rc.4");
-    /// assert_eq!(version::read_ref("1.2.3+5aedf").unwrap().pre(), "");
+    /// assert_eq!(VersionRef::parse("1.2.3-rc.4+5aedf", Dialect::Npm)?.pre(), "rc.4");
+    /// assert_eq!(VersionRef::parse("1.2.3+5aedf", Dialect::Npm)?.pre(), "");
+    /// # Ok::<(), semver_parser::Error>(())
     /// ```
     #[must_use]
     #[tactic(auto, using(semver_texts::proofs::PartRuns::parts_pass))]
@@ -181,10 +187,11 @@ impl<'t> VersionRef<'t> {
     /// The string is empty if there is no build metadata.
     ///
     /// ```
-    /// use semver_parser::version;
+    /// use semver_parser::{Dialect, VersionRef};
     ///
-    /// assert_eq!(version::read_ref("1.2.3-rc.4+5aedf").unwrap().build(), "5aedf");
-    /// assert_eq!(version::read_ref("1.2.3-rc.4").unwrap().build(), "");
+    /// assert_eq!(VersionRef::parse("1.2.3-rc.4+5aedf", Dialect::Npm)?.build(), "5aedf");
+    /// assert_eq!(VersionRef::parse("1.2.3-rc.4", Dialect::Npm)?.build(), "");
+    /// # Ok::<(), semver_parser::Error>(())
     /// ```
     #[must_use]
     #[tactic(auto, using(semver_texts::proofs::PartRuns::parts_pass))]
@@ -198,10 +205,11 @@ impl<'t> VersionRef<'t> {
     /// Returns whether the version has a pre-release.
     ///
     /// ```
-    /// use semver_parser::version;
+    /// use semver_parser::{Dialect, VersionRef};
     ///
-    /// assert!(version::read_ref("1.2.3-rc.4+5aedf").unwrap().is_pre_release());
-    /// assert!(!version::read_ref("1.2.3+5aedf").unwrap().is_pre_release());
+    /// assert!(VersionRef::parse("1.2.3-rc.4+5aedf", Dialect::Npm)?.is_pre_release());
+    /// assert!(!VersionRef::parse("1.2.3+5aedf", Dialect::Npm)?.is_pre_release());
+    /// # Ok::<(), semver_parser::Error>(())
     /// ```
     #[must_use]
     #[inline(always)]
@@ -220,10 +228,11 @@ impl<'t> VersionRef<'t> {
     /// if there is no pre-release.
     ///
     /// ```
-    /// use semver_parser::version;
+    /// use semver_parser::{Dialect, VersionRef};
     ///
-    /// assert_eq!(version::read_ref(" 1.2.3-rc.4").unwrap().pre_offset(), 7);
-    /// assert_eq!(version::read_ref(" 1.2.3").unwrap().pre_offset(), 0);
+    /// assert_eq!(VersionRef::parse(" v1.2.3-rc.4", Dialect::Npm)?.pre_offset(), 8);
+    /// assert_eq!(VersionRef::parse(" v1.2.3", Dialect::Npm)?.pre_offset(), 0);
+    /// # Ok::<(), semver_parser::Error>(())
     /// ```
     #[must_use]
     #[inline(always)]
@@ -238,10 +247,11 @@ impl<'t> VersionRef<'t> {
     /// 0 if there is no build metadata.
     ///
     /// ```
-    /// use semver_parser::version;
+    /// use semver_parser::{Dialect, VersionRef};
     ///
-    /// assert_eq!(version::read_ref("1.2.3-rc.4+5aedf").unwrap().build_offset(), 11);
-    /// assert_eq!(version::read_ref("1.2.3-rc.4").unwrap().build_offset(), 0);
+    /// assert_eq!(VersionRef::parse("1.2.3-rc.4+5aedf", Dialect::Npm)?.build_offset(), 11);
+    /// assert_eq!(VersionRef::parse("1.2.3-rc.4", Dialect::Npm)?.build_offset(), 0);
+    /// # Ok::<(), semver_parser::Error>(())
     /// ```
     #[must_use]
     #[inline(always)]
@@ -256,10 +266,11 @@ impl<'t> VersionRef<'t> {
     /// was read: as a string, which is what `semver-parser` does, or as a number.
     ///
     /// ```
-    /// use semver_parser::version::{self, Grammar};
+    /// use semver_parser::{Dialect, VersionRef};
     ///
-    /// let borrowed = version::read_ref_in(b"1.2.3", Grammar::Npm).unwrap();
-    /// assert_eq!(borrowed.digits(), Grammar::Npm.digits());
+    /// let version = VersionRef::parse("1.2.3", Dialect::Npm)?;
+    /// assert_eq!(version.digits(), Dialect::Npm.grammar().digits());
+    /// # Ok::<(), semver_parser::Error>(())
     /// ```
     #[must_use]
     #[inline(always)]
@@ -299,12 +310,13 @@ impl<'t> VersionRef<'t> {
     /// `Err` means out of memory.
     ///
     /// ```
-    /// use semver_parser::version::{self, Identifier};
+    /// use semver_parser::version::Identifier;
+    /// use semver_parser::{Dialect, VersionRef};
     ///
-    /// let borrowed = version::read_ref("1.2.3-rc.4+5aedf").unwrap();
+    /// let version = VersionRef::parse("1.2.3-rc.4+5aedf", Dialect::Npm)?;
     /// let wanted = [Identifier::AlphaNumeric("rc".to_string()), Identifier::Numeric(4)];
-    /// assert_eq!(borrowed.pre_identifiers()?, wanted);
-    /// # Ok::<(), semver_parser::AllocError>(())
+    /// assert_eq!(version.pre_identifiers().unwrap(), wanted);
+    /// # Ok::<(), semver_parser::Error>(())
     /// ```
     #[inline(always)]
     pub fn pre_identifiers(&self, alloc: Global) -> Result<Vec<Identifier>, AllocError>
@@ -328,11 +340,13 @@ impl<'t> VersionRef<'t> {
     /// [`VersionRef::pre_identifiers`].
     ///
     /// ```
-    /// use semver_parser::version::{self, Identifier};
+    /// use semver_parser::version::Identifier;
+    /// use semver_parser::{Dialect, VersionRef};
     ///
-    /// let borrowed = version::read_ref("1.2.3-rc.4+5aedf").unwrap();
-    /// assert_eq!(borrowed.build_identifiers()?, [Identifier::AlphaNumeric("5aedf".to_string())]);
-    /// # Ok::<(), semver_parser::AllocError>(())
+    /// let version = VersionRef::parse("1.2.3-rc.4+5aedf", Dialect::Npm)?;
+    /// let wanted = [Identifier::AlphaNumeric("5aedf".to_string())];
+    /// assert_eq!(version.build_identifiers().unwrap(), wanted);
+    /// # Ok::<(), semver_parser::Error>(())
     /// ```
     #[inline(always)]
     pub fn build_identifiers(&self, alloc: Global) -> Result<Vec<Identifier>, AllocError>
@@ -358,11 +372,11 @@ impl<'t> VersionRef<'t> {
     /// identifier that isn't a number. `Err` means out of memory.
     ///
     /// ```
-    /// use semver_parser::version;
+    /// use semver_parser::{version, Dialect, VersionRef};
     ///
-    /// let version = version::read_ref(" 1.2.3-rc.4+5aedf").unwrap().version()?;
-    /// assert_eq!(version, version::parse("1.2.3-rc.4+5aedf").unwrap());
-    /// # Ok::<(), semver_parser::AllocError>(())
+    /// let owned = VersionRef::parse("v1.2.3-rc.4+5aedf", Dialect::Npm)?.version().unwrap();
+    /// assert_eq!(owned, version::parse("1.2.3-rc.4+5aedf").unwrap());
+    /// # Ok::<(), semver_parser::Error>(())
     /// ```
     #[inline(always)]
     pub fn version(&self, alloc: Global) -> Result<Version, AllocError>
@@ -412,12 +426,13 @@ impl<'t> VersionRef<'t> {
     /// read as in the borrowed version's dialect. It does not allocate.
     ///
     /// ```
-    /// use semver_parser::version;
+    /// use semver_parser::version::Version;
+    /// use semver_parser::{Dialect, VersionRef};
     ///
-    /// let borrowed = version::read_ref("1.2.3-rc.4+5aedf").unwrap();
-    /// assert!(borrowed.cmp_precedence(&version::parse("1.2.3-rc.11")?).is_lt());
-    /// assert!(borrowed.cmp_precedence(&version::parse("1.2.3-rc.4")?).is_eq());
-    /// # Ok::<(), semver_parser::parser::Error>(())
+    /// let version = VersionRef::parse("1.2.3-rc.4+5aedf", Dialect::Npm)?;
+    /// let later: Version = "1.2.3-rc.11".parse()?;
+    /// assert!(version.cmp_precedence(&later).is_lt());
+    /// # Ok::<(), semver_parser::Error>(())
     /// ```
     #[must_use]
     #[inline(always)]
@@ -443,11 +458,12 @@ impl<'t> VersionRef<'t> {
     /// ignored. Numeric identifiers are read in the dialect of each. It does not allocate.
     ///
     /// ```
-    /// use semver_parser::version;
+    /// use semver_parser::{Dialect, VersionRef};
     ///
-    /// let borrowed = version::read_ref("1.2.3-rc.4+5aedf").unwrap();
-    /// assert!(borrowed.compare(&version::read_ref("1.2.3-rc.11").unwrap()).is_lt());
-    /// assert!(borrowed.compare(&version::read_ref("1.2.3-rc.4").unwrap()).is_eq());
+    /// let version = VersionRef::parse("1.2.3-rc.4+5aedf", Dialect::Npm)?;
+    /// assert!(version.compare(&VersionRef::parse("1.2.3-rc.11", Dialect::Npm)?).is_lt());
+    /// assert!(version.compare(&VersionRef::parse("v1.2.3-rc.4", Dialect::Npm)?).is_eq());
+    /// # Ok::<(), semver_parser::Error>(())
     /// ```
     #[must_use]
     #[inline(always)]

@@ -195,11 +195,11 @@ impl VersionRange {
     /// in the range's dialect. It does not allocate.
     ///
     /// ```
-    /// use semver_parser::{version, Dialect, VersionRange};
+    /// use semver_parser::{Dialect, VersionRange, VersionRef};
     ///
     /// let range = VersionRange::parse("^1.2", Dialect::Npm)?;
-    /// let borrowed = version::read_ref_in(b"v1.9.0", Dialect::Npm.grammar()).unwrap();
-    /// assert!(range.contains_ref(&borrowed));
+    /// let version = VersionRef::parse("v1.9.0", Dialect::Npm)?;
+    /// assert!(range.contains_ref(&version));
     /// # Ok::<(), semver_parser::Error>(())
     /// ```
     #[must_use]

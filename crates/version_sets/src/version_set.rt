@@ -251,12 +251,11 @@ impl VersionSet {
     /// allocate.
     ///
     /// ```
-    /// use semver_parser::{sets, version, Dialect};
+    /// use semver_parser::{sets, Dialect, VersionRef};
     ///
-    /// let dialect = Dialect::Npm;
-    /// let set = sets::parse("^1.2.0", dialect)?;
-    /// let borrowed = version::read_ref_in(b"v1.9.0", dialect.grammar()).unwrap();
-    /// assert!(set.contains_ref(&borrowed));
+    /// let set = sets::parse("^1.2.0", Dialect::Npm)?;
+    /// let version = VersionRef::parse("v1.9.0", Dialect::Npm)?;
+    /// assert!(set.contains_ref(&version));
     /// # Ok::<(), semver_parser::Error>(())
     /// ```
     #[must_use]
