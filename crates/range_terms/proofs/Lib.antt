@@ -11,4 +11,6 @@ pub mod Places
 pub mod RangePlaces
 pub mod ComparatorPlaces
 pub mod Replaceable
+pub mod RewrittenWords
+pub mod RewrittenTerms
 pub mod Whole

@@ -12,6 +12,7 @@ ghost use Rattle.tool_ranges.specs.Dialects.{RefusesAs, SpellsAs, TreeOf};
 ghost use Rattle.range_terms.specs.WrittenTerms.{component_of, major_of, minor_of, operator_of};
 ghost use Rattle.range_terms.specs.WrittenTerms.{patch_of, term_value, terms_in, version_value};
 ghost use Rattle.range_terms.specs.Replacing.{IsReplaceable};
+ghost use Rattle.range_terms.specs.RewrittenVersions.{IsRewritable};
 ghost use Rattle.range_terms.specs.Steps.{after_ranges, term_of, terms_left, upper_in};
 ghost use Rattle.range_terms.specs.Steps.{version_in, IsFound, IsVersionOf};
 
@@ -76,8 +77,10 @@ impl<'text> Terms<'text> {
     ///
     /// If the part of the string at the span of a version is replaced by another partial version of
     /// the dialect's grammar, the string is still in the grammar. In Cargo's dialect the
-    /// replacement must have a number. Check the new string anyway, since one of its numbers may be
-    /// too large.
+    /// replacement must have a number. So it can be the printed result of
+    /// [`PartialVersion::with_version`], for any version of the dialect; in npm's dialect, that
+    /// result must have at most 256 characters. Check the new string anyway, since one of its
+    /// numbers may be too large.
     ///
     /// # Errors
     ///
@@ -105,6 +108,10 @@ impl<'text> Terms<'text> {
         // range again.
         ensures replaceable { IfOk result
             (λ terms. AllByRecursion (IsReplaceable dialect range.now) terms) }
+        // It is also a range again if the printed result of `with_version` replaces the string at
+        // the span of its version.
+        ensures rewritable { IfOk result
+            (λ terms. AllByRecursion (IsRewritable dialect range.now) terms) }
     {
         let meaning = Meaning {
             dialect,

@@ -1,4 +1,4 @@
--- serves: semver_ranges::events::Events::next_in
+-- serves: range_terms::terms::Terms::try_parse, rewritable
 -- Words that are too long to npm: what their bytes say of their numbers and identifiers, and that none is within the smallest limit.
 use Rattle.std.proofs.Common.{◌≡◌, ℕ, ◌+◌, ◌-◌, ◌≤◌, Bool, true, false, ◌&&◌, ◌||◌, not, List, [], ◌∷◌, ◌++◌, codes, length, take}
 use Rattle.std.proofs.Common.{refl, sym, ap, ◌∙◌}
@@ -53,7 +53,7 @@ no_dot [] e = tt
 no_dot (b ∷ []) e = (grind (arith, nat_tests), tt)
 no_dot (b ∷ c ∷ t) e = no_dot_in_digits (b ∷ c ∷ t) (grind arith)
 
-some_component : (t : Text) → is_component t ≡ true → 0 < length t
+pub some_component : (t : Text) → is_component t ≡ true → 0 < length t
 some_component [] e = cc
 some_component (b ∷ t) e = omega arith
 

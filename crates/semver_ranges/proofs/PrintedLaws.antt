@@ -34,7 +34,7 @@ use Rattle.semver_texts.specs.PrintedText.{identifier_text, plain_text}
 own : IsNumeralModel (λ ds. all_ascii_digits ds ≡ true) (digits_value 10)
 own = numerals_by_value _ tells_all_ascii_digits
 
-decimal_digits : (n : ℕ) → fits_u64 n ≡ true → all_ascii_digits (decimal n) ≡ true
+pub decimal_digits : (n : ℕ) → fits_u64 n ≡ true → all_ascii_digits (decimal n) ≡ true
 decimal_digits n e = digits_decimal own n (ltb-true _ _ e)
 
 decimal_value : (n : ℕ) → fits_u64 n ≡ true → digits_value 10 (decimal n) ≡ n
@@ -45,13 +45,13 @@ no_zero_first : (t : Text) → all_ascii_digits t ≡ true → 48 < get_or t 0 0
 no_zero_first [] e h = absurd (omega arith)
 no_zero_first (c ∷ t) e h = grind (arith, nat_tests)
 
-decimal_number : (n : ℕ) → fits_u64 n ≡ true → is_number (decimal n) ≡ true
+pub decimal_number : (n : ℕ) → fits_u64 n ≡ true → is_number (decimal n) ≡ true
 decimal_number zero e = rw (decimal_digit 0 (omega arith))
 decimal_number (suc n) e =
     no_zero_first (decimal (suc n)) (decimal_digits (suc n) e) (first_decimal (suc n) (omega arith) (ltb-true _ _ e))
 
 -- digits are no wildcard
-digits_no_wildcard : (t : Text) → all_ascii_digits t ≡ true → is_wildcard t ≡ false
+pub digits_no_wildcard : (t : Text) → all_ascii_digits t ≡ true → is_wildcard t ≡ false
 digits_no_wildcard [] e = refl
 digits_no_wildcard (b ∷ []) e = grind (arith, nat_tests)
 digits_no_wildcard (b ∷ c ∷ t) e = refl

@@ -168,7 +168,7 @@ impl<'text> PartialVersion<'text> {
     /// Returns the numbers of another version in the form of this one: with as many components,
     /// with its wildcards, and with a `v` if it has one. The pre-release of the other version is
     /// kept if this one has three numbers, and its build metadata is left out. The span stays that
-    /// of this version, whose string the result may replace.
+    /// of this version. There the printed result may replace the string (see `Terms::try_parse`).
     ///
     /// ```
     /// use semver_parser::{terms, Dialect, VersionRef};

@@ -49,8 +49,10 @@ impl<'text> Terms<'text> {
     ///
     /// If the part of the string at the span of a version is replaced by another partial version of
     /// the dialect's grammar, the string is still in the grammar. In Cargo's dialect the
-    /// replacement must have a number. Check the new string anyway, since one of its numbers may be
-    /// too large.
+    /// replacement must have a number. So it can be the printed result of
+    /// [`PartialVersion::with_version`], for any version of the dialect; in npm's dialect, that
+    /// result must have at most 256 characters. Check the new string anyway, since one of its
+    /// numbers may be too large.
     ///
     /// # Errors
     ///
