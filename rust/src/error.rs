@@ -45,8 +45,8 @@ impl ErrorKind {
     }
 }
 
-/// The error of a string that is an invalid version, or not a range in a dialect: the string, where
-/// it is wrong, and why.
+/// The error for an invalid version or an invalid range. It has the string, and says where and why
+/// it is invalid in the dialect.
 ///
 /// `{}` prints one line, and `{:#}` also prints the string with a caret below the offset:
 ///

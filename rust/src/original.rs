@@ -75,7 +75,8 @@ impl From<RangeError> for String {
 
 impl version::Identifier {
     /// Returns the identifier as a string followed by `add_str`, always as `AlphaNumeric`.
-    /// [`version::Identifier::try_concat`] returns the identifier if an allocation fails.
+    /// If an allocation fails, it ends the process; [`version::Identifier::try_concat`] returns the
+    /// unchanged identifier as an error instead.
     ///
     /// ```
     /// use semver_parser::version::Identifier;

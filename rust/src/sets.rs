@@ -51,7 +51,8 @@ impl Clone for VersionSet {
 }
 
 impl Hash for VersionSet {
-    /// Hashes the boundaries. Equal sets have the same boundaries, and these have the same numbers.
+    /// Hashes the boundaries: those of releases, and the three numbers of each one of pre-releases.
+    /// Equal sets have the same boundaries.
     fn hash<H: Hasher>(&self, state: &mut H) {
         self.releases.hash(state);
         self.digits.hash(state);
@@ -62,7 +63,8 @@ impl Hash for VersionSet {
 }
 
 impl From<AllocError> for RangeError {
-    /// Returns [`RangeError::OutOfMemory`], so that `?` works for reading a range and for its sets.
+    /// Returns [`RangeError::OutOfMemory`]. So in a function that returns a [`RangeError`], `?`
+    /// also works for the functions of sets whose error is [`AllocError`].
     fn from(_: AllocError) -> RangeError {
         RangeError::OutOfMemory
     }

@@ -110,7 +110,8 @@ impl VersionRange {
 
 impl VersionRange {
     /// Returns the lowest version that the range contains, or `None` if there is none. By the
-    /// default rule for pre-releases, npm's `*` contains releases only, so this is 0.0.0 for it.
+    /// default rule for pre-releases, npm's `*` contains releases only, so its lowest version is
+    /// 0.0.0.
     ///
     /// ```
     /// use semver_parser::{Dialect, VersionRange};
