@@ -30,9 +30,9 @@ POSIX doesn't let such a child allocate memory.
 
 The package needs a shared library: `libsemver_parser.so.1`, `libsemver_parser.dylib` or
 `semver_parser.dll`. It is loaded when the first of the names below is imported. The environment
-variable SEMVER_PARSER_LIBRARY may have its path. Otherwise it is looked for next to these modules,
-and then where the system looks for libraries. If there is none, or the first one that can be loaded
-has another major version, an `ImportError` is raised.
+variable SEMVER_PARSER_LIBRARY may name its path. If it doesn't, the library is looked for next to
+these modules, and then where the system looks for libraries. If there is none, or the first one
+that can be loaded has another major version, an `ImportError` is raised.
 """
 
 from importlib import import_module

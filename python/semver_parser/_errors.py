@@ -101,7 +101,7 @@ class SemverError(ValueError):
         )
 
     def _explained(self) -> _Explanation:
-        """Returns the same. Raises `ValueError` if the error was made for a valid string."""
+        """Returns the explanation. Raises `ValueError` if the error was made for a valid string."""
         explanation = self._explanation()
         if explanation is None:
             raise ValueError(f"the string is valid: {self.string!r}")

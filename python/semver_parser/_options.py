@@ -28,7 +28,8 @@ class Dialect(enum.Enum):
 
     _number: int
 
-    # By identity, as values are compared. That of `enum` is slower, as it is written in Python.
+    # Hashes the identity, since members are compared by identity. The method of `enum` is slower,
+    # since it is written in Python.
     __hash__ = object.__hash__
 
 

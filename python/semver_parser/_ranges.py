@@ -268,12 +268,13 @@ class Range(Printed):
         """
         if isinstance(self._origin, str):
             return comparators_of(self._origin, self._dialect, True)
-        # By this dialect each printed range has the releases that it was printed of.
+        # Read in this dialect, a printed range has the same releases as the range that was printed.
         return comparators_of(self.printed_releases, Dialect.CRATE_NPM, True)
 
     @property
     def printed_releases(self) -> str:
         """The releases in the range, as a range in npm's syntax: `*` for all, `<0.0.0-0` for none.
+        Only the releases in it count.
 
         >>> Range("^1.2", dialect="cargo").printed_releases
         '>=1.2.0 <2.0.0'
@@ -282,8 +283,8 @@ class Range(Printed):
 
     @property
     def printed_pre_releases(self) -> str:
-        """The pre-releases in the range, as a range in npm's syntax. It stands only for the
-        pre-releases in it.
+        """The pre-releases in the range, as a range in npm's syntax: `*` for all, `<0.0.0-0` for
+        none. Only the pre-releases in it count.
 
         >>> Range("^1.2.3-rc", dialect="cargo").printed_pre_releases
         '>=1.2.3-rc <1.2.3'

@@ -36,20 +36,20 @@ def c_strings(strings: List[String]) -> "ctypes.Array[CString]":
 
 
 def index_of(string: String, offset: int) -> int:
-    """Returns the index in a string of the character at an offset in its bytes."""
+    """Returns the index of the character of a string that is at a byte offset."""
     if isinstance(string, bytes):
         return offset
     return len(encoded(string)[:offset].decode("utf-8", "surrogatepass"))
 
 
 def offset_of(string: String, index: int) -> int:
-    """Returns the offset in the bytes of a string of what is at an index in it."""
+    """Returns the byte offset of the character of a string that is at an index."""
     return len(encoded(string[:index]))
 
 
 def indices_in(string: String) -> Callable[[int], int]:
-    """Returns a function that returns the index in a string of the character at an offset in its
-    bytes. The string is scanned only once, not for each offset."""
+    """Returns a function that does the same as `index_of` for one string. It scans the string only
+    once, and not for each offset."""
     if isinstance(string, bytes) or string.isascii():
         return int
     begins = (byte & 0xC0 != 0x80 for byte in encoded(string))

@@ -72,7 +72,7 @@ def terms(range: String, *, dialect: AnyDialect) -> List[Term]:
 
     `replace_version` replaces the version of a term.
 
-    Raises `RangeError` if the string isn't a range of the dialect.
+    Raises `RangeError` if the string isn't a range in the dialect.
     """
     return terms_of(range, dialect_of(dialect))
 
@@ -99,17 +99,18 @@ def replace_version(
 ) -> str:
     """Returns a range in which a version of a term has the numbers of another version.
 
-    Its form is kept: how many components it has, its wildcards and its `v`. The pre-release of the
-    other version is written if three numbers are stated, and its build metadata isn't.
+    The form of the version in the range is kept: how many components it has, its wildcards and its
+    `v`. If it has three numbers, the pre-release of the other version is written, too; the build
+    metadata of the other version never is.
 
     >>> range = "~1.2 || ^2.x"
     >>> last = terms(range, dialect="npm")[-1]
     >>> replace_version(range, last.version, "3.1.4", dialect="npm")
     '~1.2 || ^3.x'
 
-    Raises `RangeError` if the string isn't a range of the dialect, `VersionError` if the version
-    isn't one, and `ValueError` if no version of the range begins where the written one does. The
-    result may be invalid if the version is at one of the dialect's limits.
+    Raises `RangeError` if the string isn't a range in the dialect, `VersionError` if the other
+    version is invalid, and `ValueError` if no version of the range begins where `written` does. The
+    result may be invalid if the other version is at one of the dialect's limits.
     """
     if not isinstance(written, PartialVersion):
         raise TypeError(f"not a PartialVersion of a term: {written!r}")
