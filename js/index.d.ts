@@ -18,7 +18,7 @@ export interface Options<D extends Dialect = 'npm'> {
   rejectLoose?: boolean | undefined
 }
 
-/** The same type, by its name in `@types/semver`. */
+/** The same type as `Options`, by its name in `@types/semver`. */
 export interface RangeOptions<D extends Dialect = 'npm'> extends Options<D> {}
 
 /** The options of `coerce`. */
@@ -49,7 +49,7 @@ export declare class SemVer<D extends Dialect = 'npm'> {
   readonly major: NumberOf<D>
   readonly minor: NumberOf<D>
   readonly patch: NumberOf<D>
-  /** The pre-release identifiers; those of digits are numbers below 2^53 - 1. */
+  /** The pre-release identifiers. One that is only digits is a number if it is below 2^53 - 1, and otherwise a string. */
   readonly prerelease: ReadonlyArray<string | number>
   /** The build identifiers. */
   readonly build: readonly string[]
@@ -183,7 +183,7 @@ export declare function valid(version: unknown, options?: OptionsOrLoose<Dialect
 /** Returns the version, or null if it is invalid. */
 export declare function parse<D extends Dialect = 'npm'>(version: string | SemVer<D>, options?: WithoutDialect, throwErrors?: boolean): SemVer<D> | null
 export declare function parse<D extends Dialect = 'npm'>(version: unknown, options?: OptionsOrLoose<D>, throwErrors?: boolean): SemVer<D> | null
-/** Returns the version of a string that may have `=`, `v` or white space before it; null if it has none. */
+/** Returns the version in a string that may have `=`, `v` or white space before it; null if there is no version. */
 export declare function clean(version: string, options?: OptionsOrLoose<Dialect>): string | null
 /** Returns the first version in a string, such as `2.3.4` in `v2.3.4.5`, or the last one with `rtl`; null if there is none. */
 export declare function coerce<D extends Dialect = 'npm'>(version: string | number | SemVer<D> | null | undefined, options?: CoerceOptions & { dialect?: undefined }): SemVer<D> | null
@@ -264,14 +264,14 @@ export interface Term<D extends Dialect = 'npm'> {
   upper: TermVersion<D> | null
 }
 
-/** Returns the terms of a range: how they are written, and where. Throws a `SemverError` if the range is invalid. */
+/** Returns the terms of a range as they are written, and where each is. Throws a `SemverError` if the range is invalid. */
 export declare function terms(range: string, options?: WithoutDialect): Term[]
 export declare function terms<D extends Dialect = 'npm'>(range: string, options: OptionsOrLoose<D>): Term<D>[]
 /**
- * Returns a range in which a version of a term has the numbers of another version. Its form is kept: how many
- * components it has, its wildcards and its `v`. The pre-release of the other version is written if
- * three numbers are stated, and its build metadata isn't. Throws a `SemverError` if the range or the
- * version is invalid, and a `TypeError` if no version of the range begins where the written one does.
+ * Returns a range in which a version of a term has the numbers of another version. The form of the version in the
+ * range is kept: how many components it has, its wildcards and its `v`. If it has three numbers, the pre-release of
+ * the other version is written, too; the build metadata of the other version never is. Throws a `SemverError` if the
+ * range or the other version is invalid, and a `TypeError` if no version of the range begins where `written` does.
  */
 export declare function replaceVersion(range: string, written: Pick<TermVersion<Dialect>, 'start' | 'hasV'>, version: AnyVersion, options?: OptionsOrLoose<Dialect>): string
 /** Returns the lowest version of all that satisfy a range; null if none does. */
@@ -289,7 +289,7 @@ export declare function gtr(version: AnyVersion, range: AnyRange, options?: Opti
 export declare function ltr(version: AnyVersion, range: AnyRange, options?: OptionsOrLoose<Dialect>): boolean
 /** Calls `gtr` for `>`, and `ltr` for `<`. */
 export declare function outside(version: AnyVersion, range: AnyRange, side: '<' | '>', options?: OptionsOrLoose<Dialect>): boolean
-/** Returns a range, in npm's form, that the same versions of a list satisfy, if it is shorter, or else the range itself. For an invalid range it is empty. */
+/** Looks for a range, in npm's form, that the same versions of a list satisfy. Returns it if it is shorter, and otherwise the range itself; for an invalid range it returns an empty string. */
 export declare function simplifyRange<R extends AnyRange>(versions: Iterable<string>, range: R, options?: OptionsOrLoose<Dialect>): string | R
 
 /** Compares two versions by precedence: -1, 0 or 1. Throws a `SemverError` if a version is invalid. */
@@ -298,7 +298,7 @@ export declare function compare(version: AnyVersion, other: AnyVersion, options?
 export declare function rcompare(version: AnyVersion, other: AnyVersion, options?: OptionsOrLoose<Dialect>): -1 | 0 | 1
 /** Does the same as `compare`, since strings are always read strictly. */
 export declare function compareLoose(version: AnyVersion, other: AnyVersion): -1 | 0 | 1
-/** Compares by precedence, and equal versions by build metadata. */
+/** Compares two versions by precedence, and those of equal precedence by build metadata. */
 export declare function compareBuild(version: AnyVersion, other: AnyVersion, options?: OptionsOrLoose<Dialect>): -1 | 0 | 1
 /** Compares two identifiers: -1, 0 or 1. */
 export declare function compareIdentifiers(identifier: Identifier, other: Identifier): -1 | 0 | 1
