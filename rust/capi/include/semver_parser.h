@@ -24,8 +24,8 @@
  * are unchanged, and `error`, which may be null, has the details; after OK, `error` is unchanged,
  * too. INVALID_ARGUMENT comes first, then the errors of the arguments from left to right.
  * OUT_OF_MEMORY is returned only by a function that allocates: one that makes or prints something,
- * combines ranges, or fills `error` for an invalid string, in which case it replaces that string's
- * error. The others don't allocate.
+ * combines ranges, or fills `error` for an invalid string. In the last case the status is then
+ * OUT_OF_MEMORY instead of the status of the invalid string. The others don't allocate.
  *
  * THE CALLER MUST pass valid pointers, not null unless that is allowed, and not change what they
  * point to during a call. Threads may call concurrently, and read one range or list at once. Don't
@@ -33,8 +33,9 @@
  * doesn't allow there.
  *
  * COMPATIBILITY. A minor version may add functions, statuses, reasons, dialects and rules, and give
- * a meaning to reserved fields. Treat a number that you don't know as an unknown error.
- * semver_parser_string, semver_parser_version and semver_parser_comparator never change.
+ * a meaning to reserved fields. Treat a number that you don't know as an unknown error. These types
+ * never change: semver_parser_string, semver_parser_version, semver_parser_comparator, and
+ * semver_parser_term with the types of its fields.
  */
 #ifndef SEMVER_PARSER_H
 #define SEMVER_PARSER_H
@@ -155,8 +156,8 @@ enum {
     SEMVER_PARSER_DIFFERENT_PRE_RELEASES = 7
 };
 
-/* Why a string is an invalid version or range. From CARGO_COMMAS to CRATE_V, another dialect allows
- * what is invalid. */
+/* Why a string is an invalid version or range. For the reasons from CARGO_COMMAS to CRATE_V, what
+ * is invalid in this dialect is valid in another one. */
 typedef int32_t semver_parser_reason;
 enum {
     /* No string is invalid: the status is OK, or that of an error that isn't about a string. */
@@ -372,10 +373,12 @@ semver_parser_status semver_parser_range_lowest_version(
     const semver_parser_range *range, char **version);
 
 /* Makes a string of the releases in a range, or of the pre-releases in it: `>=1.2.0 <2.0.0`, `*`
- * for all, `<0.0.0-0` for none. Its syntax is npm's, whatever the dialect. It can be read in
- * SEMVER_PARSER_DIALECT_CRATE_NPM: the string of the releases with PRE_RELEASES_EXCLUDED, and that
- * of the pre-releases with PRE_RELEASES_INCLUDED, where only the pre-releases count. But `*`, which
- * means all pre-releases, begins with 0.0.0 there. semver_parser_free frees it. */
+ * for all, `<0.0.0-0` for none. Its syntax is npm's, whatever the dialect. To read the string
+ * again, use SEMVER_PARSER_DIALECT_CRATE_NPM. Read the string of the releases with
+ * PRE_RELEASES_EXCLUDED, and that of the pre-releases with PRE_RELEASES_INCLUDED; of the latter
+ * only the pre-releases count. There is one exception: `*` means all pre-releases, but it is read
+ * as a range that begins with 0.0.0, and so without the pre-releases of 0.0.0. semver_parser_free
+ * frees the string. */
 SEMVER_PARSER_CHECKED(1, 3)
 semver_parser_status semver_parser_range_to_string(
     const semver_parser_range *range, bool pre_releases, char **string);
@@ -398,8 +401,9 @@ enum {
     SEMVER_PARSER_OP_EQUAL = 4
 };
 
-/* A comparator. A version has to satisfy all comparators with the same `range`; ranges count from
- * 0. `pre` is valid as long as the list is. */
+/* A comparator. `range` says which of the ranges between `||` it belongs to, and counts from 0. A
+ * version has to satisfy all comparators with the same `range`. `pre` is valid as long as the list
+ * is. */
 typedef struct {
     size_t range;
     semver_parser_op op;
@@ -410,9 +414,9 @@ typedef struct {
 } semver_parser_comparator;
 
 /* Rewrites a range to plain comparators: `^1.2` gives `>=` 1.2.0 and `<` 2.0.0-0. In the crate's
- * dialects the second is `<` 2.0.0, unless `exact`. They determine which releases satisfy the
- * range; for pre-releases use semver_parser_range. semver_parser_comparators_free frees them.
- * INVALID_RANGE, NUMBER_TOO_LARGE. */
+ * dialects the second is `<` 2.0.0, unless `exact` is true. The comparators determine which
+ * releases satisfy the range; for pre-releases use semver_parser_range.
+ * semver_parser_comparators_free frees them. INVALID_RANGE, NUMBER_TOO_LARGE. */
 SEMVER_PARSER_CHECKED(4)
 semver_parser_status semver_parser_comparators_of_range(
     semver_parser_string range, semver_parser_dialect dialect, bool exact,
@@ -439,7 +443,8 @@ semver_parser_status semver_parser_comparators_to_string(
 
 /* ---- terms: the parts of a range as they are written */
 
-/* The operator of a term. Those of comparators have the numbers of semver_parser_op. */
+/* The operator of a term. An operator that comparators have, too, has the same number as in
+ * semver_parser_op. */
 typedef int32_t semver_parser_operator;
 enum {
     /* `<` */
@@ -505,29 +510,29 @@ typedef struct {
 } semver_parser_term;
 
 /* Reads the terms of a range in order: `^1.2 || 3.x` has two. `count` is set to their number. At
- * most `capacity` of them are written to `terms`, which may be null if `capacity` is 0. If the
- * bytes of a version are replaced by another partial version of the dialect's grammar, the string
- * is still in the grammar; in Cargo's dialect the replacement must have a number. INVALID_RANGE,
- * NUMBER_TOO_LARGE. */
+ * most `capacity` of them are written to `terms`, which may be null if `capacity` is 0. You may
+ * replace the bytes of a version with another partial version that the dialect's grammar allows; in
+ * Cargo's dialect it must have a number. The grammar then still allows the string, but one of its
+ * numbers may be too large. INVALID_RANGE, NUMBER_TOO_LARGE. */
 SEMVER_PARSER_CHECKED(5)
 semver_parser_status semver_parser_terms_of_range(
     semver_parser_string range, semver_parser_dialect dialect, semver_parser_term *terms,
     size_t capacity, size_t *count, semver_parser_error *error);
 
-/* Makes the string of a range in which a version has the numbers of another one. The version that
- * changes is one of a term, and begins at `start`; if none begins there, the status is
- * INVALID_ARGUMENT. Its form is kept: how many components it has, its wildcards and its `v`. The
- * pre-release of the other version is written if three numbers are stated, and its build metadata
- * isn't. With 3.1.4 at offset 8, `^1.x || v2` becomes `^1.x || v3`. Check the result with
- * semver_parser_check_range, since a raised bound may be too large. semver_parser_free frees it.
- * INVALID_RANGE, NUMBER_TOO_LARGE, INVALID_VERSION. */
+/* Makes the string of a range in which a version of a term has the numbers of another version. The
+ * version in the range is the one that begins at `start`; if none begins there, the status is
+ * INVALID_ARGUMENT. Its form is kept: how many components it has, its wildcards and its `v`. If it
+ * has three numbers, the pre-release of the other version is written, too; the build metadata of
+ * the other version never is. With 3.1.4 at offset 8, `^1.x || v2` becomes `^1.x || v3`. Check the
+ * result with semver_parser_check_range, since a raised bound may be too large. semver_parser_free
+ * frees it. INVALID_RANGE, NUMBER_TOO_LARGE, INVALID_VERSION. */
 SEMVER_PARSER_CHECKED(5)
 semver_parser_status semver_parser_replace_version(
     semver_parser_string range, size_t start, semver_parser_string version,
     semver_parser_dialect dialect, char **replaced, semver_parser_error *error);
 
-/* Returns how an operator is written, or null if there is no such number. BARE is written as an
- * empty string. It may be the operator of a term or of a comparator. */
+/* Returns how an operator of a term or of a comparator is written, or null if there is no such
+ * number. BARE is written as an empty string. */
 const char *semver_parser_operator_sign(semver_parser_operator op);
 
 #ifdef __cplusplus
