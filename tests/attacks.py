@@ -549,10 +549,10 @@ semver-ranges(7)'''),
         ],
         careless=[
     ('release_filter_main/mod.rs',
-     'standard error describes. semver-ranges(7) says what ranges mean.";\n',
+     'standard error describes. semver-ranges(7) explains ranges.";\n',
      '''standard error describes.
 
-semver-ranges(7) says what ranges mean.";
+semver-ranges(7) explains ranges.";
 '''),
         ],
         at=('crates/release_filter_main/src/main.rt', 'const HELP'),

@@ -22,7 +22,7 @@ ERRORS = {
     "DIFFERENT_PRE_RELEASES":
         "The second range has the same dialect, and another rule for pre-releases.",
     "INVALID_VERSION": "A string is an invalid version in the dialect.",
-    "INVALID_RANGE": "The string is not a range of the dialect.",
+    "INVALID_RANGE": "The string is not a range in the dialect.",
     "NUMBER_TOO_LARGE":
         "The string is a range, but a number or a raised bound is above the limit of the dialect.",
     "OUT_OF_MEMORY": "An allocation failed.",

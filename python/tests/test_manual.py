@@ -17,6 +17,7 @@ def table(head: str) -> List[List[str]]:
     text = MANUAL.read_text()
     for escaped, plain in ((r"\(ha", "^"), (r"\(ti", "~"), (r"\-", "-")):
         text = text.replace(escaped, plain)
+    text = re.sub(r"\\f[BPR]", "", text)
     found = re.search(rf"^{re.escape(head)}\t[^\n]*\n(.*?)^\.TE", text, re.M | re.S)
     assert found, head
     return [line.split("\t") for line in found[1].splitlines()]

@@ -34,8 +34,8 @@ usage: release-filter [OPTION]... RANGE [FILE]...";
 
 /// What the program does.
 const HELP: &str = "
-Copies to standard output those lines of the files, unchanged, that are a
-version which RANGE means. Without a file, and for -, it reads standard input.
+Writes the lines of the files whose version is in RANGE, unchanged, to standard
+output. Without a file, or for the file -, it reads standard input.
 
     --dialect NAME         the dialect of RANGE and of the versions:
                              cargo        Cargo's; the default
@@ -43,18 +43,18 @@ version which RANGE means. Without a file, and for -, it reads standard input.
                              crate-cargo  that of semver-parser in Cargo mode
                              crate-npm    that of semver-parser in npm mode
     --as NAME, --npm       short for --dialect NAME and --dialect npm
-    --include-prerelease   copy each pre-release within the bounds of RANGE,
-      --pre                too, and not only those that the tool matches
-    --releases-only        copy releases only
+    --include-prerelease   keep every pre-release within the bounds of RANGE,
+      --pre                and not only those that the tool matches by default
+    --releases-only        keep releases only
       --releases
-    --only KIND            copy only one kind of these versions: KIND is releases
-                           or pre-releases
-    --invert               copy the versions that RANGE does not contain instead
+    --only KIND            keep only one kind of the versions that would be kept
+                           without it: KIND is releases or pre-releases
+    --invert               keep the versions that RANGE does not contain
     --highest, --lowest    print only the line with the highest or the lowest
       --greatest, --least  version (the first, if several are equal)
     --sort                 print the lines from the lowest version to the
-                           highest, equal versions in their order; a last
-                           line without a line feed gets one
+                           highest; equal versions stay in the order of the
+                           input, and a last line without a line feed gets one
     --reverse              print the lines of --sort in reverse
     --prefix TEXT          match lines that begin with TEXT and then have a
                            version; if given more than once, with any of them
@@ -62,8 +62,8 @@ version which RANGE means. Without a file, and for -, it reads standard input.
     --count                print only how many lines match
     --strict               fail at the first line that is not empty and has no
                            version, and name it
-    --json                 read an array of strings in JSON, each of them a line,
-                           and print an array; also a string for an array of it
+    --json                 read an array of strings in JSON, each of which is a
+                           line, or a single string, and print an array
     --null                 lines end with a zero byte instead of a line feed,
                            in the input and in the output
     --line-buffered        accepted, and changes nothing: each line is written
@@ -73,7 +73,7 @@ version which RANGE means. Without a file, and for -, it reads standard input.
     --version              print the version of this program, and read no input
 
 The status is 0 if a line was found, 1 if none was, and 2 after an error, which
-standard error describes. semver-ranges(7) says what ranges mean.";
+standard error describes. semver-ranges(7) explains ranges.";
 
 /// The version of this program, which is that of the file VERSION.
 const VERSION: &str = "release-filter 1.0.0";

@@ -16,10 +16,10 @@ Lists each version in a lock file that does not satisfy what is required, and
 each required package that is missing. Versions and ranges are read as the tool
 that wrote the file reads them.
 
-PATH is a lock file, a directory, or a manifest such as package.json. Of a
-directory all lock files are checked that git does not ignore, and of a manifest
-its lock file. Without a PATH the current directory is checked. - is standard
-input. The content of a file shows which tool wrote it:
+PATH is a lock file, a directory, or a manifest such as package.json. In a
+directory, every lock file that git does not ignore is checked; for a manifest,
+its lock file. Without a PATH the current directory is checked. The PATH - is
+standard input. The content of a file shows which tool wrote it:
 
     package-lock.json, npm-shrinkwrap.json    npm, lockfileVersion 1, 2 and 3
     yarn.lock                                 yarn 1 and later
@@ -27,13 +27,13 @@ input. The content of a file shows which tool wrote it:
     bun.lock                                  Bun, lockfileVersion 0 and 1
     deno.lock                                 Deno, versions 4 and 5
     Cargo.lock                                with Cargo.toml, needs Python 3.11
-    what cargo metadata prints                format version 1
+    output of cargo metadata                  format version 1
 
     --format FORMAT      text:   a sentence for each finding (the default)
                          tsv:    fields separated by tabs: what is required, the
                                  version found, who requires which name, and the
-                                 word of the kind unless it is the usual one
-                         json:   one object with all that is known
+                                 word of the kind unless it is unsatisfied
+                         json:   one object with everything that is known
                          github: annotations of GitHub Actions
                          sarif:  SARIF 2.1.0, for GitHub's code scanning
     --json               short for --format json
@@ -55,8 +55,8 @@ input. The content of a file shows which tool wrote it:
 
 On standard error, lines for each file say how much was checked, and which
 command repairs what is listed.
-The status is 0 if nothing is wrong, 1 if something is listed, and 2 after an
-error, which standard error reports."""
+The status is 0 if nothing is listed, except by --duplicates, 1 if something
+else is, and 2 after an error, which standard error reports."""
 
 
 def check(options: Options) -> Outcome:

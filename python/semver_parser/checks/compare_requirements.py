@@ -22,17 +22,18 @@ are the versions that it loses, gains and shares, printed as by compare-ranges.
 Ranges are read as npm or Cargo reads them. Cargo.toml needs Python 3.11, and
 pnpm-workspace.yaml needs PyYAML.
 
-- is standard input.
+As OLD or NEW, - is standard input.
 
-    --git        compare a file or a directory in a revision with the same one
-                 in the other revision, or in the work tree
+    --git        compare PATH, a file or a directory, in the first revision with
+                 PATH in the second one, or in the work tree if only one is given
     --json       print the changes as a list of objects
     --version    print the version
     -h, --help   print this
     --           end the options
 
-The status is 0 if all requirements contain the same versions as before, 1 if
-something differs, and 2 after an error, which standard error reports."""
+The status is 0 if all requirements contain the same versions as before and none
+moved, 1 if something differs, and 2 after an error, which standard error
+reports."""
 
 
 def compare(options: Options) -> Outcome:

@@ -31,41 +31,43 @@ usage: compare-ranges [OPTION]... OLD NEW
 
 /// What the program does.
 const HELP: &str = "
-Prints which versions are lost and gained if the range NEW takes the place of
-the range OLD, and which both share; of one RANGE, which versions it means to
-Cargo and to npm, or to the dialect that is named. A line is printed for each
-of these that has a version:
+Prints which versions are lost and gained if the range NEW replaces the range
+OLD, and which versions are in both. With one RANGE, prints which versions it
+contains in Cargo's and in npm's dialect, or in the dialect that is named:
 
-    lost: RANGES     releases that OLD means and NEW doesn't
-    gained: RANGES   releases that NEW means and OLD doesn't
-    shared: RANGES   releases that both mean
-    cargo: RANGES    releases that RANGE means to Cargo, or why it is no range
-    npm: RANGES      releases that RANGE means to npm, or why it is no range
-    means: RANGES    releases that RANGE means to the dialect that is named
+    lost: RANGES     releases in OLD that are not in NEW
+    gained: RANGES   releases in NEW that are not in OLD
+    shared: RANGES   releases in both
+    cargo: RANGES    releases in RANGE in Cargo's dialect, or why it is invalid
+    npm: RANGES      releases in RANGE in npm's dialect, or why it is invalid
+    means: RANGES    releases in RANGE in the dialect that is named
 
-The pre-releases are on the next line: 'lost pre-releases: RANGES'. RANGES is a
-range text in npm's syntax, as '=1.2.0 || >=1.9.0 <2.0.0', or '*' for all.
+The pre-releases are on the next line: 'lost pre-releases: RANGES'. A line that
+would have no version is left out. With one RANGE, 'no version' is printed if it
+contains none. RANGES is a range in npm's syntax, such as
+'=1.2.0 || >=1.9.0 <2.0.0', or '*' for all versions.
 
     --dialect NAME         read the ranges as:
-                             cargo        Cargo; the default of two ranges
+                             cargo        Cargo (the default for two ranges)
                              npm          npm
                              crate-cargo  semver-parser in Cargo mode
                              crate-npm    semver-parser in npm mode
     --as NAME, --npm       short for --dialect NAME and --dialect npm
-    --include-prerelease   count each pre-release within the bounds of a range,
-      --pre                too, and not only those that the tool matches
+    --include-prerelease   count every pre-release within the bounds of a range,
+      --pre                and not only those that the tool matches by default
     --releases-only        count releases only
       --releases
-    --lowest, --least      print the lowest version of each instead of ranges
+    --lowest, --least      print only the lowest version by precedence instead
+                           of ranges
     --json                 print one object of JSON
-    --fail-on CHANGE       the status is 1 only if versions are lost, gained, or
-                           either: CHANGE is lost, gained or any, the default
+    --fail-on CHANGE       exit with 1 only if versions are lost (CHANGE is
+                           lost), gained (gained), or either (any, the default)
     --                     end the options
     -h, --help             print this help
     --version              print the version of this program
 
-The status is 0 if both ranges mean the same versions, 1 if they differ, 0 for
-one range, and 2 after an error. semver-ranges(7) says what ranges mean.";
+The status is 0 for one range, or if both ranges contain the same versions, 1 if
+they differ, and 2 after an error. semver-ranges(7) explains ranges.";
 
 /// The version of this program, which is that of the file VERSION.
 const VERSION: &str = "compare-ranges 1.0.0";
