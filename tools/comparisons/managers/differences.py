@@ -62,12 +62,17 @@ def found_in(path: str, is_strict: bool = False) -> Found:
     return Found(edges, others)
 
 
-def listed_in(path: Path) -> List[Finding]:
-    """What the checker lists of a lock file by default, or that it refuses it."""
+def findings_in(path: Path) -> List[Finding]:
+    """What the checker lists of a lock file with --strict, or that it rejects the file."""
     report = report_on(str(path), None, Wanted(Scope()))
     if report.refusal is not None:
         return [Rejected(str(report.refusal))]
-    return [it for it in report.findings if not it.excuse]
+    return report.findings
+
+
+def listed_in(path: Path) -> List[Finding]:
+    """What the checker lists of a lock file by default, or that it rejects the file."""
+    return [it for it in findings_in(path) if not it.excuse]
 
 
 def is_refused(path: Path) -> bool:

@@ -10,7 +10,7 @@ import subprocess
 from pathlib import Path
 from typing import Any, Dict, Optional
 
-from differences import Differences, Finding, listed_in
+from differences import PROJECT, Differences, Finding, Missing, Unsatisfied, findings_in
 from projects import environment, write_project
 from registry import Registry
 from semver_parser.checks.findings import TwoVersions
@@ -55,14 +55,17 @@ def shown_of(world: World, lock: str) -> Dict[str, Any]:
 
 
 def choice_of(what: str, finding: Finding) -> Optional[str]:
-    """Why a finding is listed, though yarn takes the project, by a row of the README: it is of an
-    alias, or of an archive of another version after that damage."""
+    """Returns why a finding is listed, although yarn accepts the project, by a row of the README:
+    it is about an alias, about an archive of another version after that damage, or about an entry
+    that a workspace or a package requires, and that yarn ignores."""
     record = finding.record
     wanted = record.range or ""
     if wanted.startswith("npm:"):
         return "yarn doesn't compare an alias"
     if finding.kind == TwoVersions.kind and what == ANOTHER_ARCHIVE:
         return "yarn doesn't compare an archive of another version"
+    if finding.kind == Unsatisfied.kind and record.requirer != PROJECT:
+        return "yarn ignores an entry that only a workspace or a package requires"
     return None
 
 
@@ -75,11 +78,14 @@ def compare(
     (folder / LOCK).write_text(lock)
     taken = yarn.takes(folder)
     found.count(f"{what}: yarn {'takes' if taken else 'refuses'} it")
-    listed = listed_in(folder / LOCK)
+    findings = findings_in(folder / LOCK)
+    listed = [it for it in findings if not it.excuse]
     choices = {choice_of(what, it) for it in listed}
     if taken and listed and None not in choices:
         for choice in sorted(it for it in choices if it is not None):
             found.choose(choice, shown_of(world, lock))
+    elif not taken and not listed and any(it.kind == Missing.kind for it in findings):
+        found.choose("the registry doesn't have what is missing", shown_of(world, lock))
     elif taken == bool(listed):
         who = "refused here, and yarn takes it" if taken else "yarn alone refuses it"
         found.add(f"{what}: {who}", shown_of(world, lock))

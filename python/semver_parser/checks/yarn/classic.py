@@ -56,6 +56,9 @@ from .resolutions import Resolution, Resolutions, resolutions_for
 
 TRIVIAL = ("", "*")
 
+# Why something that is missing is listed only with --strict.
+FROM_REGISTRY = "the registry is asked"
+
 # What to change if a directory is gone.
 GONE = "put the directory there, or remove what requires it"
 
@@ -99,11 +102,11 @@ class Reader:
     def own_found(self, it: Requirement) -> Requirement:
         """Returns a requirement with what is found for it without resolutions. If nothing is found,
         it is listed only with `--strict` in two cases: there is no package.json, so resolutions
-        aren't known; or the project doesn't require it, so yarn asks the registry."""
+        aren't known; or none of the project's tables requires it, so yarn asks the registry."""
         if not self.project.manifests:
             excuse = "no package.json"
         else:
-            excuse = "" if it.requirer.name == PROJECT else "the registry is asked"
+            excuse = "" if it.requirer.name == PROJECT else FROM_REGISTRY
         found = self.lock.found(it.name, it.specifier)
         return it._replace(found=found, must_exist=True, excuse=excuse)
 
@@ -165,12 +168,13 @@ class Reader:
                     yield it._replace(specifier=spec)
 
     def of_resolutions(self) -> Iterator[Requirement]:
-        """Yields what the project requires by resolutions. If one is a tag, yarn warns and ignores
-        it."""
+        """Yields what the project requires by resolutions, with what is found for it. If one is a
+        tag, yarn warns and ignores it. If the entry of one is missing, yarn asks the registry."""
         for name, groups in self.resolutions.items():
             for spec in dict.fromkeys(it.spec for group in groups.values() for it in group):
                 if is_taken(spec):
-                    yield Requirement(Requirer(PROJECT), name, spec)
+                    found = self.own_found(Requirement(Requirer(PROJECT), name, spec))
+                    yield found._replace(excuse=FROM_REGISTRY)
 
     def of_keys(self) -> Iterator[Requirement]:
         """Yields the keys of packages that no package requires."""
@@ -226,7 +230,7 @@ class Reader:
         """Returns the contents of the lock file. What the project requires comes first."""
         stated = list(self.stated() if self.project.manifests else self.of_keys())
         found = [it for it in map(self.found, stated) if it is not None]
-        outside = [*found, *map(self.own_found, self.of_resolutions())]
+        outside = [*found, *self.of_resolutions()]
         reached = self.reached(outside) if self.project.manifests else self.lock.packages
         lock = LockFile([], self.lock.own(), lambda: self.edges(outside, reached))
         lock.package_count, lock.stated = len(lock.packages), lambda: compared_in(self.project.manifests.items())
