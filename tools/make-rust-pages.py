@@ -46,9 +46,10 @@ PASSAGES = {
     ],
     "GRAMMAR": [
         (" The definitions are the files `ToolVersions`, `CargoGrammar`, `NpmGrammar`, `Prefixes`, `Reasons`,"
-         " `RangeReasons` and `TooLarge` in `crates/*/specs`. In each grammar, a string has at most one version or"
-         " one tree (`laws::one_version_in`, `one_tree`).",
-         " It is proved that in each grammar a string has at most one version or one tree."),
+         " `RangeReasons` and `TooLarge` in `crates/*/specs`. No grammar is ambiguous: a string is at most one version"
+         " (`laws::one_version_in`), and has at most one syntax tree as a range (`one_tree`).",
+         " It is proved that no grammar is ambiguous: a string is at most one version, and has at most one syntax tree"
+         " as a range."),
         ("SemVer 2.0.0 (semver.org, sections 2, 9 and 10)", f"{SEMVER} (sections 2, 9 and 10)"),
         ("`version::read_ref_in` reads", "[`version::read_ref_in`](crate::version::read_ref_in) reads"),
         ("Two laws of `semver_texts` relate the dialects.", "Two laws, which are proved, relate the dialects."),
@@ -57,8 +58,9 @@ PASSAGES = {
         ("The function `tool_ranges::refusals::refused` returns three things for a string: its error, a reason",
          "An [`Error`](crate::Error) of a range has three parts: its kind, a reason"),
         ("([the list](../crates/invalid_strings/specs/ReasonTable.antt))", "([`Reason`](crate::Reason))"),
-        (" The definition finds the term by counting. It counts the terms before it that state a number, and skips as"
-         " many words of the string that begin with a number. That this finds the right term is tested, not proved.", ""),
+        (" The definition finds that term by counting. It counts the terms before that one that state a number, and"
+         " skips as many words of the string that begin with a number, or in npm's dialect with a `v` and a number."
+         " That this finds the right term is tested, not proved.", ""),
         ("These are all the differences in reading that `tools/compare.sh` found ([PROVED](PROVED.md#what-it-was-compared-with)).",
          "Comparisons of many strings found no other differences in reading than these."),
     ],
@@ -66,14 +68,15 @@ PASSAGES = {
         ("This page describes the Rust crate `semver-parser` 0.10.3, of which `crates/semver_parser` is the port.",
          "This page describes the original Rust crate, [`semver-parser`](https://docs.rs/semver-parser/0.10.3) 0.10.3,"
          " of which this one is the port."),
-        ("compared with Debian's 0.10.0-1 of it, by `tools/compare.sh`.", "compared with Debian's 0.10.0-1 of it."),
-        ("In this grammar no string has two token lists, versions or trees (`laws::one_token_list`, `one_version`,"
-         " `one_tree`).",
-         "It is proved that in this grammar no string has two token lists, versions or trees."),
+        ("(0.10.0-1), by `tools/compare.sh`.", "(0.10.0-1)."),
+        ("The grammar isn't ambiguous: no string has two token lists, two versions or two syntax trees"
+         " (`laws::one_token_list`, `one_version`, `one_tree`).",
+         "It is proved that the grammar isn't ambiguous: no string has two token lists, two versions or two syntax"
+         " trees."),
         ("[The theorem](PROVED.md#the-theorem) (clause `meaning` of `RangeSet::parse`, law `laws::meanings_agree`)"
          " has one exception:",
          "It is proved that a version satisfies the comparators if and only if it satisfies the text, with one exception:"),
-        (" Such rows are clauses of `laws::row_facts`.", ""),
+        (" Rows such as these are proved, as clauses of `laws::row_facts`.", ""),
     ],
 }
 
