@@ -86,8 +86,8 @@ def crates_page():
               if used in uses and not any(used in below(other) for other in uses[name])]
     table = [f'| `{name}` | {what} | {", ".join(f"`{used}`" for used in used_here)} |' for name, what, used_here in lines]
     return '\n'.join([
-        '# Crates', '', 'Made of `crates.txt` by `tests/documents.py --crates`. An arrow goes from a crate to one that uses it; the picture leaves out',
-        'the tests, the laws and arrows that follow from others.', '', '```mermaid', 'flowchart BT', *arrows, '```', '',
+        '# Crates', '', 'This page lists the crates in Rattle. `tests/documents.py --crates` makes it from `crates.txt`. In the picture, an arrow goes',
+        'from a crate to one that uses it. Tests, laws, and arrows that follow from other arrows are left out.', '', '```mermaid', 'flowchart BT', *arrows, '```', '',
         '| crate | what it is | uses |', '|---|---|---|', *table, ''])
 
 
@@ -368,7 +368,7 @@ def block(after):
 
 def errors_of_the_example():
     program = read('crates/library_tests/src/example.rt').split('\n\n', 1)[1]
-    if program != block('visits the comparators of a range:'):
+    if program != block('the major of each comparator of a range:'):
         yield f"{EXAMPLES}: its example in Rattle isn't that of crates/library_tests"
 
 

@@ -38,33 +38,42 @@ Below these is `semver_texts`. Programs: `semver_parser_main`, `release_filter_m
 
 HEAD = '''# Index of the proofs
 
-[PROVED](PROVED.md) says what is proved, and on what that rests; this index, made of the sources by
-`tests/documents.py --proofs`, is for looking up. A promise is a clause of a public call, in `src/`. A clause cites definitions,
-by the names of their files in `specs/`, and a proof imports lemmas from files of `proofs/`.
+Use this index to look up what is proved about a call. [PROVED](PROVED.md) explains what is proved and what the proofs rest on.
+`tests/documents.py --proofs` makes the index from the sources.
 
-`semver_parser` passes on the calls of the layers below it under the Rust crate's paths. A clause with a star cites
-`specs/Steps`, which says what the code does step by step: it is a means of proof between the crates, and no call for users
-has one, except the views of `Lexer`, `VersionSet` and `Lines`. `requires` marks a premise; a call with a lone clause has
-the word "one".
+A promise is a clause of the contract of a public call, in `src/`. Clauses cite definitions, which the tables name by their
+files in `specs/`. Proofs import lemmas, which the tables name by their files in `proofs/`.
+
+In the tables:
+
+- A star after a clause says that it cites `specs/Steps`. The files there describe what the code does step by step. They are a
+  means of proof between the crates, so no call for users has such a clause, except the views of `Lexer`, `VersionSet` and
+  `Lines`.
+- `requires` marks a premise.
+- The word "one" stands for a premise or a clause without a name, which is the only one of the call.
+
+`semver_parser` passes on the calls of the crates that it uses, under the paths of the Rust crate.
 
 ''' + PROMISES + '''
 ## One result for each call
 
 The comment `// Determined by: ..` above a public call says what determines its result:
 
-- **equation**: a clause gives what the call returns and leaves as a function of what it was given, always, or if it
-  returns `Ok`, and then `Err` is out of memory or the writer's own error. For `Conjunction` and `Ranges` of
-  `version_sets`, which a set is made of, the clause gives which versions they contain, and not how they hold them.
-- **a law** by its name: a function that makes the call twice with the same arguments, and whose clause says that both
-  results have equal views, or that one is out of memory. Its proof sees the clauses of the call and the invariants of types
-  only. Some say less: if a text is refused as a version, memory may run out before the error is found
-  (`one_version_of_parser`, `one_version_parse`, `one_parse_by_tokens`). When memory runs out a clause of the call says, if
-  it has one (`out_of_memory`, `no_memory`).
-- **free**: what the clauses leave open ([all](PROVED.md#what-is-left-open)), and the mutant that they still reject, or the
-  file of tests that shows it.
+- **equation**: a clause is an equation. It gives the result of the call, and what the call leaves in its arguments, as a
+  function of what the call was given. For some calls it does so only if they return `Ok`. Their `Err` is then out of memory
+  or the writer's own error. For `Conjunction` and `Ranges` of `version_sets`, from which sets are made, the clause gives
+  which versions they contain, and not how they store them.
+- **the name of a law**: a law is a function that exists only for its clauses. This one makes the call twice with the same
+  arguments, and its clause says that both results have equal views, or that one of them is out of memory. Its proof uses
+  only the clauses of the call and the invariants of types. Three laws say less, because memory may run out before the error
+  of an invalid version is found: `one_version_of_parser`, `one_version_parse` and `one_parse_by_tokens`. Some calls have a
+  clause that says when memory may run out (`out_of_memory`, `no_memory`).
+- **free**: the clauses leave something open ([all of these](PROVED.md#what-is-left-open)). After the word is what they leave
+  open, and then a mutant that they still reject, or a file of tests that shows what the call returns.
 
-If memory ran out, what is left of `Parser::version` is an end part of the tokens (`out_of_memory`; of `Parser::identifier`
-the law fixes it). What a call of `Lines` appended, and its counts, are those of some first lines of what it was given (`stops`).
+If memory runs out in `Parser::version`, the tokens that are left are the last ones of those before the call, and it is left
+open how many (clause `out_of_memory`). For `Parser::identifier` the law determines how many. If a call of `Lines` returns
+an error, what it appended and its counts are those of some of the first lines that it was given (clause `stops`).
 '''
 
 
