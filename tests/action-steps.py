@@ -1,10 +1,11 @@
 #!/usr/bin/env python3
-"""Writes the steps of an action for a shell, as GitHub's runner does.
+"""Writes the steps of an action as shell scripts, with what GitHub's runner puts before each.
 
-    tests/action-steps.py ACTION DIRECTORY            a file for each step, for bash in turn
-    tests/action-steps.py --workflow ACTION WORKFLOW  checks that the inputs of a workflow are known
+    tests/action-steps.py ACTION DIRECTORY            writes one bash script for each step, numbered
+    tests/action-steps.py --workflow ACTION WORKFLOW  checks the inputs that a workflow uses
 
-The inputs are taken from the variables INPUT_NAME. It needs PyYAML."""
+Inputs are taken from the environment variables INPUT_NAME. Needs PyYAML.
+"""
 
 import os
 import re
@@ -24,12 +25,12 @@ def read(path):
 
 
 def filled(text, inputs):
-    """A value of the action, in which only inputs may be named."""
+    """Returns a value of the action with its inputs inserted. It may refer to nothing else."""
     return re.sub(r'\$\{\{ inputs\.(\w+) \}\}', lambda found: inputs[found[1]], str(text))
 
 
 def given(action):
-    """The inputs, as the environment or the action has them."""
+    """Returns the inputs: from the environment, or the defaults of the action."""
     return {name: os.environ.get(f'INPUT_{name.upper()}', it.get('default', ''))
             for name, it in action['inputs'].items()}
 
@@ -41,7 +42,7 @@ def write_steps(action, directory):
     assert action['runs']['using'] == 'composite'
     for number, step in enumerate(action['runs']['steps']):
         assert step['shell'] == 'bash', step
-        # A text of a step in which an input was put could be any command.
+        # If an input were inserted into the text of a step, it could run any command.
         assert '${{' not in step['run'], step
         env = {name: filled(value, inputs) for name, value in step.get('env', {}).items()}
         variables = ''.join(f'export {name}={shlex.quote(it)}\n' for name, it in env.items())
@@ -51,7 +52,7 @@ def write_steps(action, directory):
 
 
 def check_workflow(action, workflow):
-    """The one step of a workflow that uses the action gives it inputs that it has."""
+    """Checks that the only step of a workflow that uses the action passes inputs that it has."""
     [job] = workflow['jobs'].values()
     [used] = [step for step in job['steps'] if step.get('uses') == 'OWNER/REPO@REV']
     assert set(used.get('with', {})) <= set(action['inputs']), used

@@ -1,13 +1,14 @@
-"""Edits of Rattle sources that `rt check` would accept, and that an eraser would write wrongly if it
-were careless. tests/eraser-attacks.py sees that tools/erase.py stops at each. An edit is a path, what
-is there once, and what stands there instead; a file that is new has nothing before."""
+"""Edits of Rattle sources that `rt check` would accept, but that a careless eraser would translate
+wrongly. tests/eraser-attacks.py checks that tools/erase.py stops at each of them. An edit has a
+path, a text that occurs once in that file, and its replacement. For a new file, the old text is
+empty."""
 import collections
 
 # name      what the edits do
-# edits     of files of the repository, below crates/
-# careless  of files below rust/src/proved: what an eraser wrote for these edits
-# at        where tools/erase.py stops: a file, and what is in that line (the first one with it)
-# why       the reason that it gives
+# edits     edits of files in the repository, in crates/
+# careless  edits of files in rust/src/proved: what a careless eraser would write for these sources
+# at        where tools/erase.py stops: a file, and a part of that line (the first that has it)
+# why       the reason that it reports
 Attack = collections.namedtuple('Attack', 'name edits careless at why')
 
 ATTACKS = [

@@ -1,8 +1,8 @@
 #!/bin/sh
-# Tests each function of the header for C from C: short and long strings, each dialect, each rule
-# for pre-releases, ranges that are read once, errors and their sentences, each allocation refused,
-# the table of cases of crates/replayed_cases, and random calls in random order. It has make build
-# the library. ./test c does the same under valgrind and sanitizers.
+# Tests each C function: short and long strings, each dialect, each rule for pre-releases, ranges
+# that are parsed once, errors and their messages, each allocation failing, the table of cases in
+# crates/replayed_cases, and random calls in random order. Builds the library with make. ./test c
+# runs the same tests under valgrind and sanitizers.
 set -eu
 unset CDPATH
 cd "$(dirname "$0")/.."
@@ -22,7 +22,8 @@ cc -O1 -pthread -o "$work/uses" tests/c/uses.c $library
 for name in rules readings sets errors nulls refused uses; do "$work/$name"; done
 "$work/replay" crates/replayed_cases/stdin crates/replayed_cases/stdout
 
-# Random calls return the same after others as alone. Each function is among them.
+# A random call returns the same result after other calls as it does alone. Each function is among
+# them.
 cc -O1 -o "$work/order" tests/c/order.c tests/c/order_calls.c "$work/texts.o" $library
 "$work/order" 2000 1
 for name in $(sed -n 's/^ *\(semver_parser_[a-z_]*\);$/\1/p' rust/capi/semver_parser.map); do
@@ -32,7 +33,7 @@ for name in $(sed -n 's/^ *\(semver_parser_[a-z_]*\);$/\1/p' rust/capi/semver_pa
     }
 done
 
-# The layout of each type is the same if enumerations are as short as can be.
+# Each type has the same layout whether or not enumerations are as short as possible.
 for flag in -fno-short-enums -fshort-enums; do
     cc $flag -Wall -Wextra -Werror -o "$work/layout" tests/c/layout.c
     "$work/layout" > "$work/layout$flag"
@@ -41,13 +42,13 @@ for flag in -fno-short-enums -fshort-enums; do
 done
 diff "$work/layout-fno-short-enums" "$work/layout-fshort-enums"
 
-# The example in C of docs/COMING_FROM.md, which writes what is said of it there.
+# The example in C of docs/COMING_FROM.md prints what that page says.
 include=rust/capi/include
 tests/documents.py --example-in-c > "$work/example.c"
 cc -Wall -Wextra -Werror -I$include -o "$work/example" "$work/example.c" $library
 [ "$("$work/example")" = "$(tests/documents.py --output-in-c)" ]
 
-# The example of the header.
+# The example in the header.
 {
     echo '#include <semver_parser.h>'
     echo '#include <stdio.h>'
@@ -58,7 +59,7 @@ cc -Wall -Wextra -Werror -I$include -o "$work/example" "$work/example.c" $librar
 cc -Wall -Wextra -Werror -I$include -o "$work/header" "$work/header.c" $library
 "$work/header"
 
-# The examples of the manual.
+# The examples in the manuals.
 mkdir "$work/manual"
 tests/c-manuals.py --examples "$work/manual"
 for source in "$work"/manual/*.c; do

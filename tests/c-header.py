@@ -1,9 +1,15 @@
 #!/usr/bin/env python3
-"""The header for C and rust/capi agree, which no compiler sees: each function has the same name and parameters, of the same
-types and in the same order, and so have the fields of each struct; statuses, operators, reasons, dialects and rules have the
-same numbers, which the Python package has too; a status has its constant's name;
-rust/capi/semver_parser.map and the file of symbols in debian/ have each function once; and all have
-the version of the library. What differs is written, and the status is then 1."""
+"""Checks that the C header and rust/capi agree, since no compiler sees both.
+
+- Functions and structs have the same names. Their parameters and fields have the same names and
+  types, in the same order.
+- Statuses, operators, reasons, dialects and rules have the same numbers, in the Python package too.
+- The name of a status is the name of its constant.
+- rust/capi/semver_parser.map and the file of symbols in debian/ list each function once.
+- All have the version of the library.
+
+Prints what differs, and exits with 1 if anything does.
+"""
 import difflib
 import glob
 import os
@@ -12,7 +18,7 @@ import sys
 
 TOP = os.path.dirname(os.path.dirname(os.path.abspath(__file__)))
 NUMBERS = ('dialect', 'pre_releases', 'status', 'reason', 'op', 'operator', 'component_kind')
-# Types of the header by those of Rust; a number of an enumeration is as any other.
+# Types of the header by the types of Rust. A number of an enumeration is an int32_t.
 TYPES = {
     'i32': 'int32_t', 'u32': 'uint32_t', 'u64': 'uint64_t', 'usize': 'size_t', 'bool': 'bool', 'c_char': 'char', '()': 'void', 'u8': 'char',
     'Status': 'int32_t', 'StringView': 'semver_parser_string', 'Options': 'semver_parser_options', 'Error': 'semver_parser_error',
@@ -44,7 +50,7 @@ def rust():
 
 
 def in_c(kind):
-    """A type of Rust in C, with a star right after it for each pointer."""
+    """Returns the C form of a type of Rust, with a star directly after it for each pointer."""
     match = re.fullmatch(r'(\*const|\*mut) (.*)', kind)
     if match is None:
         return TYPES[kind]
@@ -59,7 +65,7 @@ def parameter(name, kind):
 
 
 def parameters(text):
-    """Those of a list; an array has its count after it."""
+    """Returns the parameters of a list. An array is followed by its count."""
     found = []
     for name, kind, count in re.findall(r'(?:pub )?(\w+): (\[[^\]]*\]|[^,\[]+?)(?:\[(\w+)\])? ?(?:,|$)', text.strip()):
         found.append(parameter(name, kind.replace('&', '*const ')))
@@ -123,7 +129,7 @@ def constants_in_rust():
 
 
 def statuses_by_name():
-    """What STATUS_NAMES has, each with the number that is its index."""
+    """Yields the names in STATUS_NAMES, each with its index as its number."""
     source = read('rust/capi/src/message.rs')
     names = re.search(r'STATUS_NAMES: [^=]* = \[(.*?)\];', source, re.S)[1]
     for number, name in enumerate(re.findall(r'"([a-z-]+)\\0"', names)):
@@ -131,7 +137,7 @@ def statuses_by_name():
 
 
 def statuses_in_c():
-    """The statuses of the header."""
+    """Returns the statuses in the header."""
     text = read('rust/capi/include/semver_parser.h')
     statuses = re.search(r'semver_parser_status;\nenum \{(.*?)\n\};', text, re.S)[1]
     found = re.findall(r'SEMVER_PARSER_(\w+) = (\d+)', statuses)

@@ -1,14 +1,19 @@
 #!/usr/bin/env python3
-"""The manual of the C library and its header agree. Each type of the header is in the NAME of one
-page docs/man/semver_parser_*.3, which has each section, takes the declarations and the constants of
-its types from the header, and has a program and what it prints. semver_parser.3 names each type and
-each function once. What tools/make-manuals.py makes has a page for each, and each page that another
-one names. What differs is written, and the status is then 1.
+"""Checks that the manuals of the C library and its header agree.
+
+- Each type of the header is in the NAME section of exactly one page docs/man/semver_parser_*.3.
+  That page has all sections, takes the declarations and constants of its types from the header, and
+  has a program with its output.
+- semver_parser.3 lists each type and each function once.
+- tools/make-manuals.py makes a page for each of them, and for each page that another one names.
+
+Prints what differs, and exits with 1 if anything does.
 
     tests/c-manuals.py                checks all this
-    tests/c-manuals.py --examples TO  writes each program as TO/PAGE.c, and what it prints as
+    tests/c-manuals.py --examples TO  writes each program to TO/PAGE.c, and its output to
                                       TO/PAGE.wanted
-    tests/c-manuals.py --must-fail    shows that an error of each kind is found"""
+    tests/c-manuals.py --must-fail    checks that an error of each kind is found
+"""
 import os
 import re
 import subprocess
@@ -28,14 +33,14 @@ def read(path):
 
 
 def by_hand():
-    """The pages that are written by hand, by their names."""
+    """Returns the pages that are written by hand, by name."""
     files = os.listdir(os.path.join(TOP, 'docs/man'))
     names = sorted(name[:-2] for name in files if name.startswith('semver_parser'))
     return {name: read(f'docs/man/{name}.3') for name in names}
 
 
 def types_of(header):
-    """The types of the header, each with whether it has constants."""
+    """Returns the types of the header, each with whether it has constants."""
     enumerations = re.findall(r'^typedef int32_t (\w+);\nenum \{', header, re.M)
     names = re.findall(r'^(?:\} |typedef .* )(semver_parser_\w+);$', header, re.M)
     return {name: name in enumerations for name in names}
@@ -46,31 +51,31 @@ def functions_of(header):
 
 
 def names_of(page):
-    """The names that the section NAME has."""
+    """Returns the names in the section NAME."""
     found = re.search(r'^\.SH NAME\n(.*?) \\-', page, re.M | re.S)
     return re.split(r',\s*', found[1]) if found else []
 
 
 def named_in(page):
-    """The pages of section 3 that a page names."""
+    """Returns the pages of section 3 that a page names."""
     return re.findall(r'(\w+)(?: \(3\)|" \(3\))', page)
 
 
 def plain(text):
-    """What lines of an example say."""
+    """Returns the lines of an example without escapes."""
     for escape, sign in ESCAPES:
         text = text.replace(escape, sign)
     return text
 
 
 def examples_of(page):
-    """The blocks of the section EXAMPLES: a program, and what it prints."""
+    """Returns the blocks of the section EXAMPLES: a program and its output."""
     section = page.split('.SH EXAMPLES\n', 1)[-1].split('\n.SH ', 1)[0]
     return [plain(block) for block in re.findall(r'^\.EX\n(.*?)^\.EE$', section, re.M | re.S)]
 
 
 def errors_of_page(name, page, types):
-    """What is wrong with the page of a type."""
+    """Yields what is wrong with the page of a type."""
     if names_of(page)[:1] != [name]:
         yield f'{name}.3 has another name'
     if [it for it in re.findall(r'^\.SH (.*)$', page, re.M) if it in SECTIONS] != SECTIONS:
@@ -87,7 +92,7 @@ def errors_of_page(name, page, types):
 
 
 def errors_of_made(header, pages):
-    """What is wrong with the pages that are made, over pages by hand."""
+    """Yields what is wrong with the pages that are generated from the pages by hand."""
     with tempfile.TemporaryDirectory() as work:
         paths = []
         for name, page in pages.items():
@@ -116,7 +121,7 @@ def errors_of_links(name, page, there):
 
 
 def errors_of_overview(header, page):
-    """Each type and each function is listed once, in the section DESCRIPTION."""
+    """Yields the types and functions that the section DESCRIPTION doesn't list exactly once."""
     listed = named_in(page.split('.SS Types', 1)[-1].split('.SH RETURN VALUE', 1)[0])
     for name in sorted({*listed, *types_of(header), *functions_of(header)}):
         if listed.count(name) != 1:
@@ -140,7 +145,7 @@ def errors(header, pages):
         yield from errors_of_made(header, pages)
 
 
-# An error of each kind: the page, or the header, what is changed, and by what.
+# One error of each kind: the page or `header`, the old text, and the new text.
 PLANTED = [
     ('header', '} semver_parser_version;', '} semver_parser_parts;'),
     ('header', 'semver_parser_check_range(', 'semver_parser_check_ranges('),
@@ -159,7 +164,7 @@ PLANTED = [
 
 
 def must_fail(header, pages):
-    """Plants each error alone."""
+    """Plants one error at a time."""
     missed = 0
     for where, before, after in PLANTED:
         texts = {'header': header, **pages}

@@ -1,10 +1,14 @@
 #!/bin/sh
-# Tests what cargo does with a clone by itself. Each command that builds or checks the whole workspace
-# passes and warns of nothing; rust-analyzer runs one of them. `cargo package` makes a package with the
-# licences, of the same files as `make crate` except for the data of its tests, without which they pass
-# too; tests/rust-crate.sh tests the other package. For a crate that
-# depends on the clone by `git = URL`, cargo writes no error and no warning. It needs cargo and git, and
-# runs clippy if that is there.
+# Tests what cargo does with a clone of this repository:
+#
+# - Each command that builds or checks the whole workspace passes without a warning. rust-analyzer
+#   runs one of these commands.
+# - `cargo package` makes a package with the licences. It has the same files as `make crate`, except
+#   for the data of its tests, and passes them without that data. tests/rust-crate.sh tests the
+#   package of `make crate`.
+# - For a crate that depends on the clone by `git = URL`, cargo prints no error and no warning.
+#
+# Needs cargo and git, and runs clippy if it is installed.
 set -eu
 unset CDPATH
 cd "$(dirname "$0")/.."
@@ -21,14 +25,14 @@ CARGO_TERM_COLOR=never
 export CARGO_TERM_COLOR
 unset CARGO_NET_OFFLINE $(git rev-parse --local-env-vars)
 
-# fails WHY: shows what was written last.
+# fails WHY: shows the last output, prints why, and exits with 1.
 fails() {
     cat "$work/log"
     echo "cargo in a clone: $1"
     exit 1
 }
 
-# silently COMMAND..: the command has to pass, and to write nothing to standard error.
+# silently COMMAND..: the command has to pass without writing to standard error.
 silently() {
     "$@" > "$work/output" 2> "$work/log" || fails "$*: failed"
     [ ! -s "$work/log" ] || fails "$*: it warns"
@@ -54,7 +58,7 @@ git init -q
 git add -A
 git -c user.name=a -c user.email=a@b commit -qm 'What is tested'
 
-# What is packed: the same files by both, except for what cargo notes of git.
+# Both packages have the same files, except for what cargo notes about git.
 silently cargo package --offline --quiet --target-dir "$work/target"
 OUT="$work/made" make -s -C "$top" crate > "$work/log" 2>&1 || fails 'make crate failed'
 mkdir "$work/by-cargo" "$work/by-make"
@@ -69,7 +73,7 @@ for name in LICENSE-APACHE LICENSE-MIT; do
     cmp "$name" "$work"/by-cargo/*/"$name" > "$work/log" 2>&1 || fails "the package has another $name"
 done
 
-# A crate that depends on the clone; cargo reads each Cargo.toml of it.
+# A crate that depends on the clone. cargo reads each Cargo.toml in the clone.
 mkdir -p "$work/user/src"
 cd "$work/user"
 cat > Cargo.toml << END

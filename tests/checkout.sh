@@ -1,6 +1,6 @@
-# What the tests of the scripts share. Reading this file makes a checkout that nobody edits,
-# `checkout`, in a directory with a blank in its name, and goes there; cargo builds anew what is built
-# there. `stub` has scripts run in place of commands.
+# Shared by the tests of scripts. Sourcing this file makes a copy of the checkout that nobody edits,
+# `checkout`, in a directory with a blank in its name, and changes to it. cargo builds everything
+# there anew. `stub` replaces commands with scripts.
 work=$(mktemp -d)
 trap 'rm -rf "$work"' EXIT
 trap 'exit 2' HUP INT TERM
@@ -17,63 +17,63 @@ copy_checkout() {
     cp -R docs/man docs/examples "$checkout/docs"
 }
 
-# stub COMMAND BODY: what runs as the command from now on.
+# stub COMMAND BODY: from now on, the command is a script with this body.
 stub() {
     printf '#!/bin/sh\n%s\n' "$2" > "$work/bin/$1"
     chmod +x "$work/bin/$1"
 }
 
-# fail WHAT: says what is wrong, and what was written last.
+# fail WHAT: prints what is wrong and the last output, and exits with 1.
 fail() {
     echo "$1"
     cat "$work/stdout" "$work/stderr" 2> /dev/null
     exit 1
 }
 
-# ends STATUS COMMAND..: the command has to end with the status. What it writes is kept, but for what
-# make says if a recipe fails.
+# ends STATUS COMMAND..: the command has to exit with this status. Its output is kept, except for
+# the lines that make prints about a failed recipe.
 ends() {
     wanted=$1 status=0
     shift
     "$@" > "$work/stdout" 2> "$work/stderr" || status=$?
     sed -i '/^make[][0-9]*: \*\*\* /d' "$work/stderr"
-    [ "$status" = "$wanted" ] || fail "$*: status $status in place of $wanted"
+    [ "$status" = "$wanted" ] || fail "$*: status $status instead of $wanted"
 }
 
-# has TEXT FILE: the file of what was written has to hold the text alone.
+# has TEXT FILE: the output in the file has to be exactly the text.
 has() {
     printf '%s\n' "$1" | diff -u - "$work/$2"
 }
 
-# refuses WHY COMMAND..: the command has to end with status 2 and one line that says why, and to
-# write nothing else.
+# refuses WHY COMMAND..: the command has to exit with 2, print this one line to standard error, and
+# print nothing else.
 refuses() {
     why=$1
     shift
     ends 2 "$@"
     has "$why" stderr
-    [ ! -s "$work/stdout" ] || fail "$*: it writes before it refuses"
+    [ ! -s "$work/stdout" ] || fail "$*: it writes something before the error"
 }
 
-# holds FOLDER: tells what the folder has, but for folders.
+# holds DIRECTORY: prints the files in the directory and below.
 holds() {
     (cd "$1" && find . ! -type d | sed 's:^\./::' | LC_ALL=C sort)
 }
 
-# try_library FLAGS..: a program is compiled with the library, linked by the flags, and answers.
+# try_library FLAGS..: compiles a program with these flags, which link the library, and runs it.
 try_library() {
     cc -Wall -Wextra -Werror -o "$work/caller" tests/c/installed.c "$@"
     ends 0 env -i LD_LIBRARY_PATH="${libraries-}" "$work/caller"
     has '>=1.2.3 <2.0.0' stdout
 }
 
-# told_prefix PREFIX FOLDER: the file for pkg-config in the folder has the prefix.
+# told_prefix PREFIX DIRECTORY: the file for pkg-config in the directory has to have this prefix.
 told_prefix() {
     sed -n 's/^prefix=//p' "$2/lib/pkgconfig/semver_parser.pc" > "$work/stdout"
     has "$1" stdout
 }
 
-# try_programs FOLDER: each program runs by itself.
+# try_programs DIRECTORY: each program runs without an environment.
 try_programs() {
     ends 0 env -i "$1/semver-parser" 1.2.3
     has 'version: 1.2.3
@@ -96,8 +96,8 @@ npm: >=1.2.0 <2.0.0' stdout
     ends 0 env -i "$1/compare-ranges" --npm '^1.2' '>=1.2.0 <2.0.0'
 }
 
-# stopped_while_compiling FOLDER COMMAND..: the command is stopped while the shared library is linked.
-# It ends by the signal, leaves no temporary file, and puts nothing into the directory.
+# stopped_while_compiling DIRECTORY COMMAND..: stops the command while the shared library is linked.
+# It has to end by the signal, leave no temporary file, and put nothing into the directory.
 stopped_while_compiling() {
     folder=$1
     shift
@@ -105,8 +105,8 @@ stopped_while_compiling() {
     mkdir "$work/temporary"
     printf '#!/bin/sh\necho $$ > "%s/half"\nexec sleep 60\n' "$work" > "$work/bin/slow-compiler"
     chmod +x "$work/bin/slow-compiler"
-    # In the locale C: in another one GNU make 4.3 may wait for ever, for a lock that it has, when it
-    # translates a message after the signal.
+    # With LC_ALL=C, since in another locale GNU make 4.3 may deadlock when it translates a message
+    # after the signal: it waits for a lock that it holds itself.
     LC_ALL=C TMPDIR=$work/temporary CC=slow-compiler "$@" > "$work/stdout" 2> "$work/stderr" &
     script=$! status=0
     until [ -s "$work/half" ]; do sleep 0.05; done
@@ -115,20 +115,20 @@ stopped_while_compiling() {
     [ "$(kill -l "$status")" = TERM ] && [ -z "$(ls -A "$work/temporary")" ] && [ ! -e "$folder" ] || fail "stopped with status $status, and something is left"
 }
 
-# functions_of_header: the functions that the header declares and doesn't define itself.
+# functions_of_header: prints the functions that the header declares but doesn't define.
 functions_of_header() {
     sed -n '/^static inline/!s/^[a-z].*\(semver_parser_[a-z0-9_]*\)(.*/\1/p' rust/capi/include/semver_parser.h |
         LC_ALL=C sort
 }
 
-# manuals FOLDER ENDING: the pages of the functions and types, one for each that the header has.
+# manuals DIRECTORY ENDING: prints the paths of the pages of all functions and types in the header.
 manuals() {
     sed -n 's/^[a-z].*\(semver_parser_[a-z0-9_]*\)(.*/\1/p
         s/^\(} \|typedef .* \)\(semver_parser_[a-z_]*\);$/\2/p' \
         rust/capi/include/semver_parser.h | LC_ALL=C sort | sed "s:.*:$1/&.$2:"
 }
 
-# same_calls NM-FLAGS..: the names that a library shows are those that the header declares.
+# same_calls NM-FLAGS..: a library has to export exactly the functions that the header declares.
 same_calls() {
     functions_of_header > "$work/calls"
     [ -s "$work/calls" ] || fail 'the header declares no call'

@@ -1,5 +1,5 @@
-"""Whether each lemma and definition of the files of lemmas is cited: by another one of its file, or by a file that names that
-file. What only it itself cites, or what is inside of it, is not."""
+"""Checks that each lemma and definition in the files of lemmas is cited: in its own file or in a
+file that imports it. Citations by the lemma itself, or by what is inside of it, don't count."""
 import os
 import re
 
@@ -10,7 +10,7 @@ NAMED = re.compile(r'\bRattle\.(\w+)\.proofs\.([A-Z]\w*)|\b(\w+)::proofs::([A-Z]
 
 
 def read_all(top, crates):
-    """The sources, definitions and lemmas of crates, by their paths."""
+    """Yields the sources, definitions and lemmas of crates, with their paths."""
     for crate in crates:
         for at, folders, names in os.walk(os.path.join(top, 'crates', crate)):
             folders[:] = [it for it in folders if it not in ('out', 'must-fail')]
@@ -21,8 +21,9 @@ def read_all(top, crates):
 
 
 def declared_and_cited(text):
-    """The names that a file of lemmas declares, and those that it cites, each with the indentation of its declaration: a line
-    cites nothing that it, or a line above it with less indentation, begins with."""
+    """Returns the names that a file of lemmas declares, with their indentation, and the names that
+    it cites, each with the declarations around it. A line doesn't count as citing the name that
+    begins it, or that begins a line above it with less indentation."""
     declared, lines, above = set(), [], []
     for line in text.split('\n'):
         head = HEAD.match(line)
@@ -42,7 +43,7 @@ def declared_and_cited(text):
 
 
 def errors(top, crates):
-    """Each name that nothing cites."""
+    """Yields each name that nothing cites."""
     texts = dict(read_all(top, crates))
     naming = {}
     for path, text in texts.items():

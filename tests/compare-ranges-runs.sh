@@ -1,24 +1,24 @@
 #!/bin/sh
-# Runs the program as a user does: tests/compare-ranges-runs.sh PROGRAM. What each run writes to
-# standard output and to standard error, and its status, have to be those of
-# compare-ranges-runs.expected, to the byte; else it prints what differs, and ends with status 1.
-# The versions there follow from docs/MEANING.md.
+# Runs the program as a user does: tests/compare-ranges-runs.sh PROGRAM. Standard output, standard
+# error and the status of each run have to be as in compare-ranges-runs.expected, byte for byte.
+# Otherwise this prints what differs, and exits with 1. The versions in that file follow from
+# docs/MEANING.md.
 set -eu
 program=$1
 expected=$(dirname "$0")/compare-ranges-runs.expected
 . "$(dirname "$0")/running.sh"
 
-# The last version that there is, and the last number of one.
+# The highest version, and the highest number in a version.
 last=18446744073709551615.18446744073709551615.18446744073709551615
 most=18446744073709551615
 long=$(printf '%0251d' 0 | tr 0 a)
 
-# The least version of each line alone.
+# Only the lowest version of each line of the output.
 least() {
     "$program" --least "$@"
 }
 
-# Both mean the same: status 0.
+# Both ranges contain the same versions: status 0.
 same_versions() {
     run 'one text' least '^1.2.3' '^1.2.3'
     run 'a caret and its bounds' least --as crate-cargo '^1.2' '>=1.2.0 <2.0.0'
@@ -36,7 +36,7 @@ same_versions() {
     run 'many ranges' least --as crate-cargo "$(seq -s '||' -f '=%.0f.0.0' 0 4999)" "$(seq -s '||' -f '=%.0f.0.0' 4999 -1 0)"
 }
 
-# They differ: status 1.
+# The versions differ: status 1.
 other_versions() {
     run 'a wider range' least '~1.2.0' '^1.2.0'
     run 'a narrower range' least '^1.2.0' '~1.2.0'
@@ -52,7 +52,7 @@ other_versions() {
     run 'many ranges, and one less' least --as crate-cargo "$(seq -s '||' -f '=%.0f.0.0' 0 4999)" "$(seq -s '||' -f '=%.0f.0.0' 4998 -1 0)"
 }
 
-# by_each_rule NAME OLD NEW: the three rules for pre-releases.
+# by_each_rule NAME OLD NEW: compares by each of the three rules for pre-releases.
 by_each_rule() {
     name=$1
     shift
@@ -72,8 +72,7 @@ pre_releases() {
     by_each_rule 'a number with a zero in front' '=1.2.3-01' '=1.2.3-1'
 }
 
-# by_each_reading NAME OLD NEW: what ranges mean in each dialect. Without an option it
-# is Cargo's.
+# by_each_reading NAME OLD NEW: compares in each dialect. Without an option the dialect is Cargo's.
 by_each_reading() {
     name=$1
     shift
@@ -113,7 +112,7 @@ readings() {
     done
 }
 
-# All of each line, by the tables of docs/MEANING.md.
+# The whole output, which follows from the tables in docs/MEANING.md.
 whole() {
     run 'a break in the midst' "$program" '^1.2.0' '>=1.2.1, <1.9'
     run 'a break in the midst, with pre-releases' "$program" --pre '^1.2.0' '>=1.2.1, <1.9'
@@ -151,7 +150,7 @@ one_range() {
     run 'the least twice' "$program" --least '^1' --least
 }
 
-# Options that don't fit together, and such as are given twice.
+# Options that don't fit together, and options that are given twice.
 unfit_options() {
     run 'an unknown dialect' "$program" --as deno '^1' '^2'
     run 'no reading' "$program" '^1' '^2' --as
@@ -165,7 +164,7 @@ unfit_options() {
     run 'the default rule by name, of one range' "$program" --pre-stated '^1'
 }
 
-# What stands where.
+# The order of options and ranges.
 options() {
     run 'options after the ranges' least '<2.0.0' '<2.0.0-0' --as crate-npm --pre
     run 'an option between the ranges' least '1.2.3' --npm '1.2.4'
@@ -173,8 +172,8 @@ options() {
     run 'the end of options between the ranges' least '^1.2' -- '^1.3'
 }
 
-# Where a text stops being a range, and what is said of it: at each kind of place the front goes on
-# in another way, as the list of rests in command_line has them.
+# The offset at which a string stops being a range, and the reason. For each kind of offset, the
+# valid prefix has another completion, from the table in invalid_strings.
 places() {
     run 'a star after another comparator' "$program" '1, *' '1'
     run 'a star before another comparator' "$program" '*, 1' '1'
@@ -205,7 +204,7 @@ places() {
     run 'an operator at the end' "$program" '1, >=' '1'
 }
 
-# Of one range without a dialect: what it is to Cargo, and to npm.
+# One range without a dialect: its versions in Cargo and in npm.
 both_tools() {
     run 'three numbers' "$program" '1.2.3'
     run 'a range of npm alone' "$program" '1 || 2'
@@ -263,7 +262,7 @@ errors() {
     run 'a full output, and nothing to write' onto_a_full_device --as crate-cargo '>2 <1' '<0'
 }
 
-# A pipe that its reader closed is no error.
+# A pipe whose reader has closed it isn't an error.
 closed_pipes() {
     run 'a pipe without a reader' into_a_pipe_without_a_reader '^1' '^1'
     run 'a pipe without a reader, and other versions' into_a_pipe_without_a_reader '^1' '^2'
@@ -274,7 +273,7 @@ the_first_line() {
     "$program" "$@" | head -n 1
 }
 
-# The arguments: usage, and what is no use.
+# The usage, and arguments that are wrong.
 arguments() {
     run 'help' "$program" --help
     run 'help by a letter, and more' "$program" -h '|' '|' '|'
@@ -307,8 +306,8 @@ arguments() {
     arguments
 } > "$work/runs"
 compare
-# The version is that of the whole project.
+# The version is the version of the whole project.
 [ "$("$program" --version)" = "compare-ranges $(cat "$(dirname "$0")/../VERSION")" ] || {
-    echo "$program --version tells another version than the file VERSION"
+    echo "$program --version prints another version than the file VERSION has"
     exit 1
 }

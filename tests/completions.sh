@@ -1,6 +1,6 @@
 #!/bin/sh
-# Completes options and their values in bash and in zsh, as a user does by the tab key. A shell that
-# isn't there is said, and skipped.
+# Completes options and their values in bash and in zsh, as a user does with the tab key. Prints
+# which of these shells is missing, and skips it.
 set -eu
 top=$(dirname -- "$(dirname -- "$(readlink -f -- "$0")")")
 cd "$top"
@@ -14,7 +14,7 @@ fail() {
     exit 1
 }
 
-# What is completed: the program, the words before, the word that is begun, and what may follow, in order.
+# The program, the words before, the beginning of a word, and its completions, in order.
 cat > "$work/cases" <<'END'
 compare-ranges||--fa|--fail-on
 compare-ranges|--fail-on|g|gained
@@ -40,7 +40,7 @@ in_bash() {
             COMP_WORDS=("$1" ${2:+"$2"} "$3") COMP_CWORD=$((${#COMP_WORDS[@]} - 1))
             "_${1//-/_}"
             echo "${COMPREPLY[*]}"' bash "$program" "$before" "$word")
-        [ "$found" = "$wanted" ] || fail "bash: $program $before $word: $found in place of $wanted"
+        [ "$found" = "$wanted" ] || fail "bash: $program $before $word: $found instead of $wanted"
     done < "$work/cases"
     equals=$(bash --norc -c '. tools/completions/release-filter.bash
         COMP_WORDS=(release-filter --dialect = np) COMP_CWORD=3 && _release_filter && echo "${COMPREPLY[*]}"')
@@ -48,8 +48,8 @@ in_bash() {
     echo bash
 }
 
-# A shell in a terminal of its own is sent the words, a tab, and a key that prints the line then. One
-# that hangs is ended after five minutes.
+# Sends the words, a tab, and a key that prints the line to a shell in a pseudo-terminal. A shell
+# that hangs is stopped after five minutes.
 in_zsh() {
     command -v zsh > /dev/null || { echo 'no zsh' && return; }
     while IFS='|' read -r program before word wanted; do
@@ -64,7 +64,7 @@ in_zsh() {
             zpty -r shell output "*<<*>>*"
             output=${output#*<<}
             print -r -- ${output%%>>*}' zsh "$program" "$before" "$word") || found='nothing in time'
-        case "$found " in *" $wanted"[\ =]*) ;; *) fail "zsh: $program $before $word: $found in place of $wanted" ;; esac
+        case "$found " in *" $wanted"[\ =]*) ;; *) fail "zsh: $program $before $word: $found instead of $wanted" ;; esac
     done < "$work/cases"
     echo zsh
 }

@@ -1,9 +1,12 @@
 #!/usr/bin/env python3
-"""Reads the pages that cargo makes of the Rust crate's documentation: each link within them leads to a page and a heading
-that are there; no page names a file that the package doesn't have; the first page links to the standards and to the original;
-and a method that is the original's comes before its form that starts with try_.
+"""Checks the pages that cargo generates from the Rust crate's documentation:
 
-tests/doc-links.py PAGES    reads those of a directory, such as target/doc/semver_parser.
+- Each link between them leads to a page and a heading that exist.
+- No page names a file that the package doesn't have.
+- The first page links to the standards and to the original crate.
+- A method of the original comes before its form that begins with try_.
+
+tests/doc-links.py PAGES    checks the pages in a directory, such as target/doc/semver_parser.
 """
 import html
 import pathlib

@@ -1,15 +1,22 @@
 #!/usr/bin/env python3
-"""Holds README.md and docs/ against the tree: each link leads somewhere; each call, clause and definition that the
-promises of docs/PROOFS.md name is there; each public call says by a comment what determines its result, and the law, edit or
-file that the comment names is there; the example in Rattle of docs/COMING_FROM.md is crates/library_tests/src/example.rt;
-docs/PROOFS.md is made of the sources, docs/CRATES.md of crates.txt, docs/manual of docs/man, and rust/src/docs of docs/; each file of lemmas begins with the call that it
-serves, and each lemma is cited; the Rust crate has the licences; and docs/ERASURE.md counts the lines by hand. It judges no prose.
+"""Checks README.md and docs/ against the tree. It doesn't check prose.
 
-tests/documents.py --must-fail  shows that it fails where one of these is changed.
-tests/documents.py --proofs     prints docs/PROOFS.md.
-tests/documents.py --crates     prints docs/CRATES.md.
-tests/documents.py --serves     writes the first line of each file of lemmas.
-tests/documents.py --example-in-c  prints the example in C of docs/COMING_FROM.md, and --output-in-c what it says that this prints.
+- Each link leads to something.
+- Each call, clause and definition that the promises in docs/PROOFS.md name exists.
+- Each public call has a comment that says what determines its result, and the law, edit or file
+  that the comment names exists.
+- The example in Rattle in docs/COMING_FROM.md is crates/library_tests/src/example.rt.
+- What is generated is up to date: docs/PROOFS.md from the sources, docs/CRATES.md from crates.txt,
+  docs/manual from docs/man, and rust/src/docs from docs/.
+- Each file of lemmas begins with the call that it serves, and each lemma is cited.
+- The Rust crate has the licences, and docs/ERASURE.md counts the lines by hand.
+
+tests/documents.py --must-fail       checks that it fails if one of these is changed.
+tests/documents.py --proofs          prints docs/PROOFS.md.
+tests/documents.py --crates          prints docs/CRATES.md.
+tests/documents.py --serves          writes the first line of each file of lemmas.
+tests/documents.py --example-in-c    prints the example in C of docs/COMING_FROM.md.
+tests/documents.py --output-in-c     prints the output of that example, as the page has it.
 """
 import os
 import re
@@ -26,27 +33,27 @@ import serves  # noqa: E402
 
 TOP = os.path.dirname(os.path.dirname(os.path.abspath(__file__)))
 
-# What is no part of a promise: these crates are programs and tests.
+# These crates are programs and tests, so they have no promises.
 UNPROMISED = {'semver_parser_main', 'release_filter_main', 'compare_ranges_main', 'library_tests', 'replayed_cases'}
 
-# Of these crates only some sources are.
+# Only these sources of these crates have promises.
 PROMISED_SOURCES = {'command_line': ['crates/command_line/src/options.rt']}
 
 # The page with the examples in C and Rattle.
 EXAMPLES = 'docs/COMING_FROM.md'
 
-# How many calls may leave their result open, and how many mutants there may be.
+# How many calls may have a result that isn't determined, and how many mutants there may be.
 MOST_FREE = 9
 MOST_EDITS = 45
 
-# The pages of the Rust crate's documentation, which are made of others.
+# The pages of the Rust crate's documentation, which are generated from pages in docs/.
 RUST_PAGES = tuple(f'rust/src/docs/{name}.md' for name in ('ranges', 'meaning', 'grammar', 'original_crate'))
 
-# The pages of the manuals, which are made of these.
+# The pages in docs/manual, which are generated from docs/man.
 MANUAL_PAGES = tuple(
     f'docs/manual/{name}.md' for name in sorted(os.listdir(os.path.join(TOP, 'docs/man'))) if name != 'semver-ranges.7')
 
-# The pages that are made of others.
+# All pages that are generated.
 MADE = ('docs/PROOFS.md', 'docs/CRATES.md', *RUST_PAGES, *MANUAL_PAGES)
 
 
@@ -61,7 +68,8 @@ def crates():
 
 
 def crate_lines():
-    """Of each crate its name, what it is, and the crates that it uses, in the order of crates.txt."""
+    """Yields the name of each crate, what it is, and the crates that it uses, in the order of
+    crates.txt."""
     what = ''
     for line in read('crates.txt').splitlines():
         if line.startswith('#'):
@@ -73,8 +81,8 @@ def crate_lines():
 
 
 def crates_page():
-    """docs/CRATES.md: the crates of what is shipped, each with an arrow from what it uses and no other one uses for it,
-    and a table of all."""
+    """Returns docs/CRATES.md: a diagram of the crates that are shipped, without the arrows that
+    follow from others, and a table of all crates."""
     lines = list(crate_lines())
     uses = {name: set(used) for name, _, used in lines}
 
@@ -105,19 +113,19 @@ def files(crate, folder, ending):
 
 
 def promised(crate):
-    """The sources of a crate whose calls are promises."""
+    """Returns the sources of a crate whose public calls are promises."""
     return PROMISED_SOURCES.get(crate) or files(crate, 'src', '.rt')
 
 
 def documents():
-    """The pages of the repository."""
+    """Yields the pages of the repository."""
     for at, folders, names in os.walk(TOP):
         folders[:] = sorted(folder for folder in folders if folder not in ('.git', 'out', 'target', 'build'))
         yield from (os.path.relpath(os.path.join(at, name), TOP) for name in sorted(names) if name.endswith('.md'))
 
 
 def anchors(text):
-    """The anchors that a page's headings have."""
+    """Returns the anchors of the headings of a page."""
     found = set()
     for heading in re.findall(r'^#+ (.*)$', text, re.M):
         words = re.sub(r'[^\w\- ]', '', heading.replace('`', '')).strip().lower()
@@ -139,7 +147,7 @@ def errors_of_links():
 
 
 def errors_of_files():
-    """A file that a page names from the top of the repository is there; those of other repositories are named elsewise."""
+    """Yields files of this repository that a page names and that don't exist."""
     folders = '|'.join(entry for entry in os.listdir(TOP) if os.path.isdir(os.path.join(TOP, entry)) and entry[0] != '.')
     named = re.compile(rf'(?<![\w./*-])(?:{folders})/[\w./-]*\.(?:rt|antt|rs|py|sh|md|h|toml|cjs|mjs|js|txt|svg)(?![\w*])')
     for page in documents():
@@ -149,12 +157,13 @@ def errors_of_files():
 
 
 def clauses(text):
-    """The names of the clauses of a source."""
+    """Returns the names of the clauses of a source."""
     return set(re.findall(r'\b(?:ensures|requires|invariant) ([a-z_]+) \{', text))
 
 
 def is_public(crate, path, line):
-    """Whether a call that a line of a source begins is one for other crates: a method, or a function of a public module."""
+    """Returns whether other crates can use the call that begins on a line: a method, or a function
+    of a public module."""
     top = read(f'crates/{crate}/src/lib.rt')
     module = os.path.relpath(path, f'crates/{crate}/src')[:-3].split('/')
     name = re.search(r'fn (\w+)', line).group(1)
@@ -166,7 +175,8 @@ def is_public(crate, path, line):
 
 
 def rows(text):
-    """The cells of each row of a page's tables, each with the cells of its head."""
+    """Yields each row of a page's tables: the cells of the table's head, and the cells of the
+    row."""
     head = None
     for line in text.splitlines():
         if not line.startswith('|'):
@@ -180,8 +190,8 @@ def rows(text):
 
 
 def errors_of_promises():
-    """The table of promises: each clause is in the file that its call links to, each crate is the file's, and each crate is
-    named."""
+    """Checks the table of promises: each clause is in the file that its call links to, that file
+    belongs to the crate, and each crate has a promise."""
     page = 'docs/PROOFS.md'
     listed = re.split(r'^## ', read(page).split('\n## The promises\n', 1)[-1], maxsplit=1, flags=re.M)[0]
     for head, cells in rows(listed):
@@ -192,7 +202,7 @@ def errors_of_promises():
         for target in re.findall(r'\]\(([^)]+)\)', call):
             path = os.path.normpath(os.path.join('docs', target))
             if f'crates/{crate.strip("`")}/' not in path:
-                yield f'{page}: {path} is no file of {crate}'
+                yield f'{page}: {path} is not a file of {crate}'
             if not os.path.exists(os.path.join(TOP, path)):
                 continue
             there = clauses(read(path))
@@ -201,14 +211,14 @@ def errors_of_promises():
                     yield f'{page}: {path} has no clause {clause}'
         for name, path in re.findall(r'\[`(\w+)`\]\(([^)]+)\)', definition):
             if os.path.basename(path) != f'{name}.antt':
-                yield f'{page}: {path} is no file of {name}'
+                yield f'{page}: {path} is not a file of {name}'
     for crate in crates():
         if f'`{crate}`' not in listed:
             yield f'{page}: the promises name {crate} nowhere'
 
 
 def proofs_page():
-    """docs/PROOFS.md."""
+    """Returns docs/PROOFS.md."""
     told = {name: what for name, what, _ in crate_lines()}
     shown = [crate for crate in crates() if crate not in UNPROMISED]
     return proofs_index.page(TOP, shown, told, promised, is_public, is_exported, TRAITS, DETERMINED)
@@ -220,7 +230,7 @@ def errors_of_proofs():
 
 
 def what_lemmas_serve(do):
-    """What a function of `serves` makes of the files of lemmas."""
+    """Calls a function of `serves` with what it needs to know about the files of lemmas."""
     shown = [crate for crate in crates() if crate not in UNPROMISED]
     return do(TOP, shown, lambda crate: files(crate, 'src', '.rt'), is_public, is_exported)
 
@@ -233,13 +243,13 @@ def errors_of_citations():
     yield from cited.errors(TOP, crates())
 
 
-# The comment above a public call, or above an impl of a trait whose calls return something.
+# The comment above a public call, or above an impl of a trait that returns something.
 DETERMINED = re.compile(r'// Determined by: (equation|law ([\w:]+)|free, (.+): ([\w/.-]+))\.')
 TRAITS = r'impl(?:<[^>]*>)? ((?:fmt::)?Display|Iterator|PartialEq|From<[\w:]+>) for (\w+)'
 
 
 def is_exported(crate, path, name):
-    """Whether a type of a source is one for other crates."""
+    """Returns whether other crates can use a type of a source."""
     source = read(path)
     module = os.path.basename(path)[:-3]
     top = read(f'crates/{crate}/src/lib.rt')
@@ -248,13 +258,15 @@ def is_exported(crate, path, name):
 
 
 def returns_something(lines):
-    """Whether the function that begins these lines has a result, or may write to an argument; a law does neither."""
+    """Returns whether the function that begins with these lines returns something, or may write to
+    an argument. A law does neither."""
     head = re.split(r'\n *(?:requires|ensures|\{)', '\n'.join(lines[:20]))[0]
     return '->' in head or '&mut' in head
 
 
 def calls():
-    """Each public call but the laws: its crate, source, name, and the comment above it."""
+    """Yields each public call that isn't a law: its crate, source and name, and the comment above
+    it."""
     for crate in crates():
         if crate in UNPROMISED:
             continue
@@ -282,7 +294,8 @@ def calls():
 
 
 def clause_of(lines, at):
-    """Whether a call that a line begins has a clause; of an impl, whether a call or a member of it is one."""
+    """Returns whether the call that begins on a line has a clause. For an impl: whether a call or
+    member of it has one."""
     if lines[at].startswith('impl'):
         end = next((k for k in range(at, len(lines)) if lines[k].startswith('}')), at)
         return re.search(r'\bensures\b|\bghost (?!use|laws)\w+ =', '\n'.join(lines[at:end])) is not None
@@ -290,7 +303,8 @@ def clause_of(lines, at):
 
 
 def errors_of_clauses():
-    """Each public call of a library has a clause, in every source, whatever its comment says; so have the laws."""
+    """Yields each public call of a library, and each law, without a clause, whatever the comment
+    says."""
     for crate in crates():
         if crate in UNPROMISED:
             continue
@@ -304,21 +318,22 @@ def errors_of_clauses():
 
 
 def function_at(path, name):
-    """The text of a public function of a source; empty if it isn't there."""
+    """Returns the text of a public function of a source, or an empty string if there is none."""
     text = read(path) if os.path.exists(os.path.join(TOP, path)) else ''
     found = re.search(rf'^pub fn {name}\b.*?^}}', text, re.M | re.S)
     return found.group(0) if found else ''
 
 
 def function_of(name):
-    """The text of a public function, by its path: its crate, module and name."""
+    """Returns the text of a public function that is named by crate, module and name."""
     crate, module, function = name.split('::')
     return function_at(f'crates/{crate}/src/{module}.rt', function)
 
 
 def laws_of(crate, path, answer):
-    """The laws that a comment names, by their paths: that of a free result may be named from its crate, or, of the crate
-    `result_laws`, by the module of the call."""
+    """Yields the paths of the laws that a comment names. A law without a path is in
+    `result_laws`, in the module that is named after the call's. A law with a module is in the
+    crate of the call."""
     for name in re.findall(r'\blaw ([\w:]+)', answer.group(0)):
         parts = name.split('::')
         if len(parts) == 1:
@@ -328,7 +343,8 @@ def laws_of(crate, path, answer):
 
 
 def errors_of_results():
-    """Each public call says what determines its result, and that is there."""
+    """Checks that each public call says what determines its result, and that the law or file
+    exists."""
     free = 0
     for crate, path, name, answer in calls():
         if answer is None:
@@ -354,7 +370,8 @@ def errors_of_results():
 
 
 def block(after):
-    """The indented block of the page of examples after a line that has these words."""
+    """Returns the indented block after the line that contains these words, from the page of
+    examples."""
     lines = read(EXAMPLES).split(after, 1)[1].splitlines()
     taken = []
     for line in lines[1:]:
@@ -373,7 +390,7 @@ def errors_of_the_example():
 
 
 def pages():
-    """The pages and manuals that are written by hand, each with its text."""
+    """Yields the pages and manuals that are written by hand, each with its text."""
     written = [page for page in documents() if page not in MADE]
     written += [os.path.join('docs/man', name) for name in sorted(os.listdir(os.path.join(TOP, 'docs/man')))]
     for page in written:
@@ -381,7 +398,8 @@ def pages():
 
 
 def errors_of_paths():
-    """What pages name by a path of Rust, as `VersionSet::lowest`, the sources have."""
+    """Checks that the sources have what pages name by a path of Rust, such as
+    `VersionSet::lowest`."""
     sources = [path for name in crates() for path in files(name, 'src', '.rt')]
     sources += [os.path.join('rust/src', name) for name in os.listdir(os.path.join(TOP, 'rust/src')) if name.endswith('.rs')]
     code = re.sub(r"""'\\?.'|"(?:[^"\\]|\\[^\0])*"|//.*""", '', '\n'.join(map(read, sources)))
@@ -398,28 +416,30 @@ def errors_of_paths():
 
 
 def errors_of_the_readme():
-    """The example in Rust of README.md is the first of rust/README.md, which cargo runs."""
+    """Checks that the example in Rust of README.md is the first one of rust/README.md, which cargo
+    runs."""
     [example], [first, *_] = (re.findall(r'^```rust\n(.*?)^```', read(it), re.M | re.S) for it in ('README.md', 'rust/README.md'))
     if example != first:
         yield 'README.md has another example in Rust than rust/README.md'
 
 
 def errors_of_ranges():
-    """The manual semver-ranges(7) is made of docs/RANGES.md."""
+    """Checks that the manual semver-ranges(7) is generated from docs/RANGES.md."""
     made = subprocess.run(
         [os.path.join(TOP, 'tools/make-ranges-manual.py')], input=read('docs/RANGES.md'), capture_output=True, text=True, check=True)
     if made.stdout != read('docs/man/semver-ranges.7'):
-        yield 'docs/man/semver-ranges.7 is another than tools/make-ranges-manual.py makes of docs/RANGES.md'
+        yield 'docs/man/semver-ranges.7 is not what tools/make-ranges-manual.py makes from docs/RANGES.md'
 
 
 def errors_of_made_pages():
-    """The pages of the Rust crate's documentation are made of those of docs/, and those of the manuals of docs/man."""
+    """Checks that the pages for the Rust crate are generated from docs/, and docs/manual from
+    docs/man."""
     yield from errors_of_made('tools/make-rust-pages.py', 'rust/src/docs', RUST_PAGES)
     yield from errors_of_made('tools/make-manual-pages.py', 'docs/manual', MANUAL_PAGES)
 
 
 def errors_of_made(tool, directory, made_pages):
-    """The pages of a directory are those that a tool writes into another one."""
+    """Checks that a directory has exactly the pages that a tool writes into another one."""
     with tempfile.TemporaryDirectory() as folder:
         made = subprocess.run([os.path.join(TOP, tool), folder], capture_output=True, text=True, check=False)
         if made.returncode:
@@ -429,11 +449,12 @@ def errors_of_made(tool, directory, made_pages):
             yield f'{directory} has other files than {tool} makes'
         for page in made_pages:
             if read(page) != read(os.path.join(folder, os.path.basename(page))):
-                yield f'{page} is another than {tool} makes'
+                yield f'{page} is not what {tool} makes'
 
 
 def errors_of_lines_by_hand():
-    """The table of docs/ERASURE.md has each file by hand of rust/src but the shim, with its lines of code."""
+    """Checks that the table of docs/ERASURE.md lists each file by hand of rust/src except the shim,
+    with its lines of code."""
     found = {}
     for name in sorted(os.listdir(os.path.join(TOP, 'rust/src'))):
         if name.endswith('.rs') and name != 'rattle_std.rs':
@@ -444,10 +465,11 @@ def errors_of_lines_by_hand():
 
 
 def errors_of_licences():
-    """The Rust crate has copies, since cargo takes no file from above it."""
+    """Checks that the Rust crate has copies of the licences, since cargo packs no file from above
+    it."""
     for name in ('LICENSE-APACHE', 'LICENSE-MIT'):
         if read(name) != read(f'rust/{name}'):
-            yield f'rust/{name} is another licence than {name}'
+            yield f'rust/{name} differs from {name}'
 
 
 def errors():
@@ -459,7 +481,7 @@ def errors():
         yield from check()
 
 
-# What has to be seen: a file, what is replaced in it, by what; or a file that is moved.
+# Edits that have to be noticed: a file, the old text and the new one, or a file that is moved.
 EDITS = [
     ('crates/tool_ranges/src/meaning.rt', 'ensures refusals {', 'ensures refused {'),
     ('crates/release_filter/src/lines.rt', 'ensures stops {', 'ensures stopped {'),
@@ -495,7 +517,7 @@ EDITS = [
 
 
 def shows_each_edit():
-    """Whether each edit, made in a copy, is seen."""
+    """Returns whether each edit, made in a copy, is noticed."""
     for path, old, new in EDITS:
         with tempfile.TemporaryDirectory() as room:
             copy = os.path.join(room, 'copy')

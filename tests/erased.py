@@ -1,9 +1,14 @@
 #!/usr/bin/env python3
-"""Compares rust/src/proved with crates/, token by token, by the rules of docs/ERASURE.md, and what
-it counted with the table of that page. Then it plants changes in a copy, and fails if one of them
-isn't refused. tests/erasure.py has the rules, tests/erasure_refusals.py what is refused before
-anything is compared, and tests/erasure_attacks.py changes to plant, beside those of
-tests/attacks.py at which tools/erase.py has to stop. Nothing here is shared with tools/erase.py.
+"""Compares rust/src/proved with crates/, token by token, by the rules of docs/ERASURE.md, and
+compares its counts with the table on that page. Then it plants changes in a copy, and fails if one
+of them isn't rejected.
+
+- tests/erasure.py has the rules.
+- tests/erasure_refusals.py has what is rejected before anything is compared.
+- tests/erasure_attacks.py has changes to plant; so does tests/attacks.py, at whose edits
+  tools/erase.py has to stop.
+
+It shares no code with tools/erase.py.
 
 tests/erased.py --counts  prints the table.
 """
@@ -32,7 +37,8 @@ NEVER = {'Drop', 'Global', 'Model', 'alloc', 'ensures', 'ghost', 'laws', 'requir
 
 
 def difference(source, text, name, written):
-    """The first difference between a generated file and the tokens of its source, or None."""
+    """Returns the first difference between a generated file and the tokens of its source, or
+    None."""
     where, there = f'crates/{source.crate}/src/{source.path}', f'rust/src/proved/{name}'
     found = tokens_of(there, written)
     due = [token.text for token in tokens_of(there, source.expected())]
@@ -53,12 +59,14 @@ def difference(source, text, name, written):
 
 
 def size(token):
-    """How many tokens a token is, if those of a clause or ghost item are counted."""
+    """Returns how many tokens a token counts for: a clause or ghost item counts for those in its
+    text."""
     return len(re.findall(r'\w+|[^\w\s]', token.text)) if token.kind in NEVER else 1
 
 
 def line_after(where, text, before):
-    """The line of a source where the last of these tokens of Rust end, as far as it has them."""
+    """Returns the line of a source that has the last of these tokens, as far as the source has
+    them."""
     tokens = tokens_of(where, text)
     texts = [token.text for token in tokens]
     sizes = ((size, i) for size in range(12, 0, -1) for i in range(size, len(texts)))
@@ -66,7 +74,7 @@ def line_after(where, text, before):
 
 
 def names_crates(world, text):
-    """Whether mod.rs has each crate once, a program only for tests, and nothing else."""
+    """Returns whether mod.rs has each crate once, a program only for tests, and nothing else."""
     try:
         tokens = tokens_of('rust/src/proved/mod.rs', text)
     except Refused:
@@ -79,8 +87,9 @@ def names_crates(world, text):
 
 
 def check(top, right):
-    """The differences, as pairs of a generated file and a message; and the counts. Files without
-    a difference are added to `right`, and those in it aren't compared again."""
+    """Returns the differences, as pairs of a generated file and a message, and the counts. Files
+    without a difference are added to `right`; files that are already in it aren't compared
+    again."""
     world, counts, made = World(top), collections.Counter(), {'mod.rs'}
     if world.refused:
         return [(refused.where, str(refused)) for refused in world.refused], counts
@@ -102,7 +111,7 @@ def check(top, right):
             counts.update(source.counts)
             wrong += [(name, message)] if message else []
             right |= set() if message else {(name, text, written)}
-    wrong += [(name, f'rust/src/proved/{name}: made of no source')
+    wrong += [(name, f'rust/src/proved/{name}: made from no source')
               for name in world.generated if name not in made]
     counts['crates'] = len(world.crates)
     return wrong, counts
@@ -116,7 +125,7 @@ def table(counts):
     return '\n'.join(['| rule | what | times |', '|---|---|---|', *rows])
 
 
-# The planted changes: a name, a pattern in generated code, and what it becomes.
+# The planted changes: a name, a pattern in generated code, and its replacement.
 PLANTED = (
     ('a statement dropped', r'\n +[a-z_.]+ [+|&]?= [^;{}]*;(?=\n)', ''),
     ('a call dropped', r'\n +[a-z_.]+\([^;{}]*\)\??;(?=\n)', ''),
@@ -133,7 +142,8 @@ PLANTED = (
 
 
 def places(folder, pattern):
-    """Where a pattern is found in code."""
+    """Yields the matches of a pattern in code, outside of comments, each with the path of its
+    file."""
     for path in below(folder, '.rs'):
         text = read(f'{folder}/{path}')
         for match in re.finditer(pattern, text) if path != 'mod.rs' else ():
@@ -142,7 +152,8 @@ def places(folder, pattern):
 
 
 def plants(top):
-    """Each planted change: its name, the file to be refused, and new texts of files."""
+    """Yields each planted change: its name, the file to be rejected, and the new contents of
+    files."""
     base = f'{top}/rust/src/proved'
     for what, pattern, instead in PLANTED:
         found = list(places(base, pattern))
@@ -153,7 +164,7 @@ def plants(top):
     yield 'a file added', 'planted.rs', {f'{base}/planted.rs': ''}
     yield 'a crate dropped', 'mod.rs', {
         f'{base}/mod.rs': re.sub(r'pub mod \w+;\n', '', read(f'{base}/mod.rs'), count=1)}
-    # A statement of a function that is put into a clause of it instead.
+    # Moves a statement of a function into a clause of that function.
     statement = re.compile(r'(\n +ensures (?:\w+ )?\{[^{}]*\})(\n *\{)(\n *let [^;{}]*;)(?=\n)')
     source, name, text, match = next(
         (f'{top}/crates/{crate}/src/{path}', f'{crate}/{path[:-3]}.rs', text, match)
@@ -168,7 +179,8 @@ def plants(top):
 
 
 def attacks(top):
-    """Each attack: its name, the file to be named, words of the message, and new texts of files."""
+    """Yields each attack: its name, the file and words of the expected message, and the new
+    contents of files."""
     for what, said, name, edits in ATTACKS:
         changed = {}
         for path, text in edits.items():
@@ -179,8 +191,8 @@ def attacks(top):
 
 
 def edits_for_the_eraser(top):
-    """The edits at which tools/erase.py has to stop, with what a careless one would write: each by
-    its name, and new texts of files."""
+    """Yields the edits at which tools/erase.py has to stop, together with what a careless eraser
+    would write: each name, and the new contents of files."""
     for attack in EDITS_FOR_THE_ERASER:
         changed = {}
         edits = [*attack.edits, *((f'rust/src/proved/{it[0]}', *it[1:]) for it in attack.careless)]
@@ -192,7 +204,8 @@ def edits_for_the_eraser(top):
 
 
 def refused(top, right, changed):
-    """What is refused if files have these texts, as files and messages; None is no file."""
+    """Returns what is rejected, as files and messages, if files have these contents. None removes a
+    file."""
     kept = {path: read(path) if os.path.exists(path) else None for path in changed}
     write(changed)
     wrong = check(top, right)[0]
@@ -211,7 +224,7 @@ def write(texts):
 
 
 def must_fail(top, right):
-    """How many changes are planted in a copy. Stops where one isn't refused."""
+    """Returns how many changes are planted in a copy. Exits if one of them isn't rejected."""
     count, missed = 0, []
     with tempfile.TemporaryDirectory() as copy:
         for part in ('crates', 'rust/src/proved'):

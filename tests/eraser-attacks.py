@@ -1,11 +1,13 @@
 #!/usr/bin/env python3
-"""Makes each edit of tests/attacks.py in a copy of the sources, and runs tools/erase.py there: it
-has to stop at the line and for the reason that are given with the edit, and to write nothing. Of a
-copy without an edit it has to write rust/src/proved. The edits of what a careless eraser wrote have
-to fit rust/src/proved as it is. At the edits of sources that tests/erasure_attacks.py has for the
-other program, tools/erase.py has to stop, too.
+"""Makes each edit of tests/attacks.py in a copy of the sources, and runs tools/erase.py there.
+tools/erase.py has to stop at the line and for the reason that the edit names, and to write nothing.
 
-tests/eraser-attacks.py [WORD..]  only attacks with one of these words in their names
+- Without an edit, it has to write rust/src/proved.
+- What a careless eraser wrote has to fit rust/src/proved as it is.
+- At the edits of sources in tests/erasure_attacks.py, which are for tests/erased.py, tools/erase.py
+  has to stop, too.
+
+tests/eraser-attacks.py [WORD..]  only attacks whose names contain one of these words
 """
 import concurrent.futures
 import filecmp
@@ -23,12 +25,12 @@ from erasure_attacks import ATTACKS as OF_THE_OTHER  # noqa: E402
 TOP = os.path.dirname(os.path.dirname(os.path.realpath(__file__)))
 ERASED = f'{TOP}/rust/src/proved'
 
-# Of this edit the source is right, and only the Rust isn't.
+# In this attack only the Rust is wrong; the source is right.
 OF_RUST_ALONE = {'a comment that only Rust has'}
 
 
 def copied(work):
-    """Copies the eraser and what it reads."""
+    """Copies the eraser and the files that it reads."""
     os.mkdir(f'{work}/tools')
     for path in glob.glob(f'{TOP}/tools/erase*.py') + [f'{TOP}/tools/rattle_source.py']:
         shutil.copy(path, f'{work}/tools')
@@ -45,7 +47,7 @@ def edited(top, edits):
             with open(f'{top}/{path}', encoding='utf-8', newline='') as file:
                 text = file.read()
         if text.count(old) != 1 and (old or text):
-            return f'{path} has not once: {old}'
+            return f'{path} does not have this exactly once: {old}'
         os.makedirs(os.path.dirname(f'{top}/{path}'), exist_ok=True)
         with open(f'{top}/{path}', 'w', encoding='utf-8', newline='') as file:
             file.write(text.replace(old, new) if old else new)
@@ -58,7 +60,7 @@ def erased(work):
 
 
 def wanted(work, attack):
-    """What tools/erase.py has to write of an attack, up to the words that it shows."""
+    """Returns the message that tools/erase.py has to print, up to the words that it quotes."""
     path, shown = attack.at
     with open(f'{work}/{path}', encoding='utf-8', newline='') as file:
         before = file.read().partition(shown)[0]
@@ -67,7 +69,8 @@ def wanted(work, attack):
 
 
 def attacked(attack):
-    """What is wrong: the eraser goes on, stops for another reason, or wrote something."""
+    """Returns what is wrong: the eraser doesn't stop, stops for another reason, or wrote
+    something."""
     with tempfile.TemporaryDirectory() as work:
         copied(work)
         wrong = edited(work, attack.edits)
@@ -83,12 +86,12 @@ def attacked(attack):
 
 
 def sources_of(edits):
-    """Of some edits those of sources."""
+    """Returns the edits of sources."""
     return {path: text for path, text in edits.items() if path.startswith('crates')}
 
 
 def attacked_as_the_other(edits):
-    """What is wrong: the eraser goes on, or wrote something."""
+    """Returns what is wrong: the eraser doesn't stop, or wrote something."""
     with tempfile.TemporaryDirectory() as work:
         copied(work)
         for path, text in sources_of(edits).items():
@@ -108,7 +111,7 @@ def attacked_as_the_other(edits):
 
 
 def differences(one, other):
-    """The names of files that differ, or that only one of two directories has."""
+    """Returns the names of files that differ, or that only one of two directories has."""
     compared = filecmp.dircmp(one, other)
     found = compared.left_only + compared.right_only + compared.diff_files
     for name in compared.common_dirs:
@@ -117,7 +120,7 @@ def differences(one, other):
 
 
 def without_edits():
-    """What is wrong where nothing was edited."""
+    """Returns what is wrong if nothing is edited."""
     with tempfile.TemporaryDirectory() as work:
         copied(work)
         done = erased(work)

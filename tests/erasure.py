@@ -1,6 +1,5 @@
-"""The rules of docs/ERASURE.md, for tests/erased.py: the tokens that a source in Rattle has in
-Rust. Nothing here is of tools/erase.py.
-"""
+"""The rules of docs/ERASURE.md for tests/erased.py: which tokens a source in Rattle has in Rust. It
+shares no code with tools/erase.py."""
 import collections
 import functools
 import os
@@ -14,10 +13,12 @@ NO_CALL = {'match ', 'return ', 'in ', 'let ', 'if ', 'while ', 'else '}
 
 @functools.lru_cache(maxsize=None)
 def coded(where, text):
-    """The tokens of a text in one line, a blank after each, so that patterns can find what is
-    between two brackets: each has the number of its pair, as in `{3 "7 }3 `. Literals, doc
-    comments, clauses and ghost items are the numbers of their texts, which are the second result.
-    An allocator that isn't between the brackets of a call gets a word that no pattern has.
+    """Returns the tokens of a text as one line with a blank after each, and the texts of some of
+    them.
+
+    Each bracket has the number of its pair, as in `{3 "7 }3 `, so that patterns can find what is
+    between two brackets. A literal, doc comment, clause or ghost item becomes the index of its
+    text. An allocator that isn't between the brackets of a call becomes a word that no pattern has.
     """
     code, texts, pairs, numbers = [], [], [], {
         'inner': '//!', 'doc': '///', 'literal': '"',
@@ -40,7 +41,7 @@ def coded(where, text):
 
 
 def parts(code):
-    """The parts of code that commas separate, outside of brackets."""
+    """Returns the parts of code between commas, outside of brackets."""
     found, depth = [''], 0
     for word in code.split(' ')[:-1]:
         depth += (word[0] in '([{') - (word[0] in ')]}')
@@ -50,7 +51,7 @@ def parts(code):
 
 
 def pair(name, brackets='{}'):
-    """The pattern of two brackets and what is between them; its group has their number."""
+    """Returns a pattern for two brackets and what is between them. Its group is their number."""
     return rf'\{brackets[0]}(?P<{name}>\d+) .*?\{brackets[1]}(?P={name}) '
 
 
@@ -63,7 +64,7 @@ STD = re.compile(r'\bstd :: (?:\{\d+ [^}]*\b)?(?:io|env|fs|process|rt) '
                  r'|\b(?:HostRuntime|AllocGlobal|Print|Eprint) ')
 USE = re.compile(r'\buse (?P<path>[^;{]*)(?:\{(?P<b>\d+) (?P<names>.*?)\}(?P=b) )?; ')
 WRITE, FORMATTER = '(?:fmt :: )?Write ', r'\((?P<f>\d+) (?:(?!\)(?P=f) ).)*?\bFormatter <'
-# Patterns in code, and what they become, each with the number of its rule.
+# Patterns in code and their replacements, each with the number of its rule.
 FIRST = (
     (1, rf'{ITEM}ghost\$\d+ ', ''),
     (3, rf'{ITEM}impl (?:<[^{{]*?> )?Model for [^{{]*\{{(?P<m>\d+) \}}(?P=m) ', ''),
@@ -90,7 +91,7 @@ LAST = (
 
 
 class Source:
-    """A file in Rattle, as it is made into Rust."""
+    """A file in Rattle, and how it becomes Rust."""
 
     def __init__(self, world, crate, path):
         self.world, self.crate, self.path = world, crate, path
@@ -107,14 +108,15 @@ class Source:
         self.counts[rule] += times
 
     def clauses(self, match):
-        """A function without its clauses, and not public if it has a `requires`."""
+        """Returns a function without its clauses, and not public if it has a `requires`."""
         found = [clause[1] for clause in re.finditer(CLAUSE, match['clauses'])]
         less = match['public'] == 'pub ' and 'requires' in found
         self.counts.update({2: len(found), 8: less})
         return ('pub(crate) ' if less else match['public']) + match['signature']
 
     def imports(self, match):
-        """An import without the names that Rust hasn't; nothing if none is left."""
+        """Returns an import without the names that Rust doesn't have, or nothing if none is
+        left."""
         names = parts(match['names']) if match['names'] is not None else ['']
         kept = []
         for name in names:
@@ -129,13 +131,14 @@ class Source:
         return f'{match["item"]}use {match["path"]}{made}; '
 
     def derives(self, match):
-        """The attribute without `Drop` and `Error`; nothing if none is left."""
+        """Returns the attribute without `Drop` and `Error`, or nothing if none is left."""
         kept = [name for name in parts(match[2]) if name not in ('Drop ', 'Error ')]
         self.counts[5] += 'Drop ' in match[2]
         return f'#[derive({", ".join(kept)})] ' if kept else ''
 
     def item(self, match):
-        """A type that derives something, with the implementations of `Clone` and `Error`."""
+        """Returns a type that derives something, with its implementations of `Clone` and
+        `Error`."""
         derived, name, clones, shows = match['derived'].split(), match['name'], '', ''
         is_cloned = 'Clone' in derived and 'Copy' not in derived
         if not is_cloned and 'Error' not in derived:
@@ -184,7 +187,7 @@ class Source:
         return f'{spelled(path, bracket, names)} => write!(f, "{len(self.texts) - 1} ), '
 
     def calls(self, rule, pattern, count, instead):
-        """Puts another name where a call has so many arguments beside an allocator."""
+        """Puts another name into calls that have `count` arguments besides an allocator."""
         def other(match):
             given = parts(match['given'])
             given = given if rule == 12 else without_allocator(given)
@@ -205,7 +208,7 @@ class Source:
                       for text in self.texts]
 
     def expected(self):
-        """The text of the generated file, but for its layout."""
+        """Returns the text of the generated file, up to its layout."""
         def sub(pattern, instead):
             self.code = re.sub(pattern, instead, self.code)
         for step in FIRST:
@@ -218,7 +221,7 @@ class Source:
         sub(r'# \[(\d+) derive \(\d+ ([^)]*)\)\d+ \]\1 ', self.derives)
         left = re.search(r'(?:ghost|requires|ensures)\$(\d+)', self.code)
         if left:
-            raise self.refused(self.texts[int(left[1])], 'that no function begins with')
+            raise self.refused(self.texts[int(left[1])], 'that is not at the head of a function')
         self.put(9, rf'@(\w+) ({ITEM}fn )\w+ ', r'\2\1 ')
         for (owner, old), (new, count) in self.world.renames.items():
             self.put(9, rf'\b{owner} :: {old}\b', f'{owner} :: {new}')
@@ -246,7 +249,8 @@ def without_allocator(given):
 
 
 class World:
-    """The sources of all crates that rust/src/proved has, and what rules ask of all of them."""
+    """The sources of all crates in rust/src/proved, and the facts about all of them that rules
+    need."""
 
     def __init__(self, top):
         self.names = re.findall(r'^(\w+)\b.*:', read(f'{top}/crates.txt'), re.M)
@@ -273,7 +277,8 @@ class World:
             self.renames.update(renames(code))
 
     def imported(self, crate, path):
-        """The files that a file imports from: of each import the last that its path names."""
+        """Yields the files that a file imports from: for each import the last file that its path
+        names."""
         folder = [] if path in ('lib.rt', 'main.rt') else path[:-3].split('/')
         for use in USE.finditer(self.codes[crate, path][0]):
             for name in parts(use['names']) if use['names'] else ['']:
@@ -288,7 +293,8 @@ class World:
 
 
 def renames(code):
-    """The other names of methods, by type and name, each with how many arguments follow `self`."""
+    """Returns the other names of methods, by type and name, each with the number of arguments after
+    `self`."""
     found = {}
     for match in re.finditer(rf'@(\w+) {ITEM}fn (?P<old>\w+) \((?P<p>\d+) (?P<given>.*?)\)(?P=p) ',
                              code):

@@ -1,8 +1,8 @@
-"""Edits of sources with which the Rust that a careless eraser would make does something else, and
-this Rust, for tests/erased.py, which has to refuse each. Some edits aren't of Rattle as it is.
+"""Edits of sources whose Rust, as a careless eraser would write it, does something else than the
+source. tests/erased.py has to reject each of them. Some edits aren't valid Rattle.
 
-Each has a name, words of the message that refuses it, the file that the message names, and for each
-file what is appended to it, or a text and what it becomes. Some of the files are new.
+Each has a name, words of the message, the file that the message names, and its changes: for each
+file a text to append, or a text and its replacement. Some of the files are new.
 """
 SOURCE, MADE = 'crates/semver_texts/src/decimals.rt', 'rust/src/proved/semver_texts/decimals.rs'
 LAWS = 'crates/semver_texts/src/laws.rt'
@@ -56,16 +56,16 @@ impl crate::rattle_std::Error for Planted {}
 
 
 def same(text):
-    """What is appended to a source and to what is made of it."""
+    """Returns edits that append one text to a source and to its Rust."""
     return {SOURCE: text, MADE: text}
 
 
 def call(statement):
-    """A call of a law that a source has, and what is made without it."""
+    """Returns edits that add a call of a law to a source, and the Rust without it."""
     return {SOURCE: CALL % statement, MADE: NO_CALL}
 
 
-# Clauses and ghost items that take in what follows.
+# Clauses and ghost items that swallow what follows.
 ANTT = (
     ('a line comment of antt in clauses', '`--`', SOURCE, {SOURCE: '''
 pub fn planted(number: u64) -> bool
@@ -315,7 +315,7 @@ pub use crate::planted::laws::planted_next as one_version_in;
      | {MADE: CALL % '#[cfg(test)] count += 1;'}),
 )
 
-# Sentences of errors.
+# Messages of errors.
 OF_ERRORS = (
     ('escaped braces of an error', '`#[error(\"{{1}}\")]`', ERRORS, {
         ERRORS: BRACES % (', Error', '#[error("{{1}}")]\n    '),
@@ -476,7 +476,7 @@ fn planted(values: &[Planted]) -> Planted {
 ''')),
 )
 
-# Calls that allocate, of which no rule knows.
+# Calls that allocate, and that no rule knows.
 OF_MEMORY = (
     ('a call that allocates', '`.reserve`', SOURCE, same('''
 fn planted(text: &mut String) {
@@ -549,7 +549,7 @@ fn planted(numbers: &[u64]) -> usize {
         for path in ('crates/version_sets/src/spans.rt', 'rust/src/proved/version_sets/spans.rs')}),
 )
 
-# Names that something else has.
+# Names that something else also has.
 OF_NAMES = (
     ('a module called as a crate', '`semver_texts`, declared', 'crates/version_sets/src/lib.rt', {
         'crates/version_sets/src/lib.rt':

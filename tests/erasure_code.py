@@ -1,6 +1,5 @@
-"""The tokens of a source in Rattle with its brackets, functions and imports, for what is refused of
-it in tests/erasure_refusals.py and tests/erasure_laws.py.
-"""
+"""The tokens of a source in Rattle, with its brackets, functions and imports.
+tests/erasure_refusals.py and the modules that it imports use it to reject sources."""
 import collections
 import re
 
@@ -10,8 +9,8 @@ Function = collections.namedtuple('Function', 'name at parameters opening closin
 
 
 class Code:
-    """The tokens of a source. Each bracket has the index of its pair, and each token that of the
-    bracket that it is in, or -1."""
+    """The tokens of a source. A bracket has the index of its pair, and each token has the index of
+    the bracket around it, or -1."""
 
     def __init__(self, where, text):
         self.where, self.name = where, re.sub('^crates/|src/', '', where)
@@ -44,11 +43,11 @@ class Code:
         return self.words[i] if 0 <= i < len(self.words) else ''
 
     def said(self, first, last):
-        """The text of tokens, with a blank between two."""
+        """Returns the text of tokens, separated by blanks."""
         return ' '.join(token.text for token in self.tokens[first:last])
 
     def end(self, i, stops):
-        """The index of the first of some signs from `i` on, outside of brackets."""
+        """Returns the index of the first of some signs from `i` on, outside of brackets."""
         while i < len(self.words) and self.words[i] not in stops:
             i = self.pair[i] + 1 if self.words[i] in ('(', '[', '{') else i + 1
         return i
@@ -59,19 +58,20 @@ class Code:
                         self.pair.get(opening, opening))
 
     def inside(self, i):
-        """The innermost function that a token is in, or None."""
+        """Returns the innermost function around a token, or None."""
         around = [found for found in self.functions if found.opening < i < found.closing]
         return around[-1] if around else None
 
     def head(self, i):
-        """The index of the first token after the last `;` or brace before a token."""
+        """Returns the index of the first token after the last `;` or brace before a token."""
         while self.at(i - 1) not in ('', ';', '{', '}'):
             i -= 1
         return i
 
 
 def of_and_for(head):
-    """The words of an `impl` before its `for`, and the first one after it, or '' without `for`."""
+    """Returns the words of an `impl` before its `for`, and the first word after it, or '' without
+    `for`."""
     at = next((i for i in range(len(head) - 1) if head[i] == 'for' and head[i + 1] != '<'), None)
     return (head, '') if at is None else (head[:at], head[at + 1])
 
@@ -89,7 +89,7 @@ def is_method(code, found):
 
 
 def head_of(code, found):
-    """The words before the brace that a function is in, as `impl`, a trait and a type."""
+    """Returns the words before the brace around a function: `impl`, a trait, a type."""
     return code.words[code.head(code.outer[found.at]):max(code.outer[found.at], 0)]
 
 
@@ -98,7 +98,7 @@ def refusal(code, i, what):
 
 
 def is_listed(entry, entries):
-    """Whether texts are among others, but for blanks."""
+    """Returns whether a tuple of texts is in a list, ignoring blanks."""
     return tuple(map(squeezed, entry)) in {tuple(map(squeezed, known)) for known in entries}
 
 

@@ -1,15 +1,17 @@
-"""Whether what rule 7 of docs/ERASURE.md removes does nothing, for tests/erasure_refusals.py."""
+"""Checks that what rule 7 of docs/ERASURE.md removes does nothing, for
+tests/erasure_refusals.py."""
 import re
 
 from erasure_code import in_use
 
-# Arguments that do nothing: names, fields, references to them, and literals.
+# Arguments whose evaluation does nothing: names, fields, references to them, and literals.
 ARGUMENT = r'(?:& )?(?!(?:return|break|continue)\b)[a-z_]\w*(?: \. \w+)*|\d\w*|"'
 ARGUMENTS = rf'(?:(?:{ARGUMENT})(?: , (?:{ARGUMENT}))*(?: ,)?)?'
 
 
 def modules(code):
-    """`mod NAME;` at the top alone, and `mod laws;` in a root."""
+    """Checks that `mod NAME;` is only at the top level, and `mod laws;` only in the root of a
+    crate."""
     root = code.where.endswith(('/src/lib.rt', '/src/main.rt'))
     for i in code.all('mod'):
         if code.at(i + 2) != ';' or code.outer[i] != -1:
@@ -24,8 +26,8 @@ def is_module_of_laws(path, names):
 
 
 def calls_of_laws(code, names):
-    """The index of each call of a law by a function, and whether it is a statement whose arguments
-    do nothing."""
+    """Yields the index of each call of a law in a function, and whether it is a statement whose
+    arguments do nothing."""
     is_here = any('laws' in code.words[use.start:use.stop] for use in code.uses) \
         or 'mod laws ;' in ' '.join(code.words)
     for i in code.all('laws'):
@@ -46,7 +48,7 @@ def laws_as_statements(code, names):
 
 
 def laws_alone(code):
-    """A file of laws has functions and imports; it lends no name to anything else."""
+    """Checks that a file of laws has only functions and imports, and exports only laws."""
     for i in code.all('mod', 'struct', 'enum', 'trait', 'impl', 'static', 'type', 'const'):
         yield i, f'`{code.at(i)}` in a file of laws'
     for use in code.uses:
@@ -56,7 +58,8 @@ def laws_alone(code):
 
 
 def does_nothing(laws, name, called=()):
-    """Whether each law of a name takes no `&mut`, returns nothing, and only calls such laws."""
+    """Returns whether each law of a name takes no `&mut`, returns nothing, and calls only such
+    laws."""
     found = [(code, law) for code in laws for law in code.functions if law.name == name]
     return name not in called and found != [] and all(
         not {'mut', '->', 'impl', 'dyn', 'fn', ';'} & set(code.words[law.at + 1:law.opening + 1])
@@ -65,7 +68,8 @@ def does_nothing(laws, name, called=()):
 
 
 def statements(code, law):
-    """Of each statement of a law the law that it calls, or `let`; None for any other."""
+    """Yields for each statement of a law: the law that it calls, `let`, or None for anything
+    else."""
     words = ' '.join(code.words[law.opening + 1:law.closing])
     while words:
         match = re.match(rf'(?:let _ = \( {ARGUMENTS} \) ;|(?:(?P<path>(?:\w+ :: )?laws) :: )?'
@@ -79,7 +83,7 @@ def statements(code, law):
 
 
 def calls_that_do(codes, names):
-    """Calls of laws that may do something."""
+    """Yields calls of laws that may do something."""
     laws = [code for code in codes if is_laws(code)]
     for code in codes:
         for i, _ in calls_of_laws(code, names) if not is_laws(code) else ():

@@ -1,6 +1,5 @@
-"""Names that something else may have in Rust, and what is called of std, for
-tests/erasure_refusals.py.
-"""
+"""Checks the names that something else may have in Rust, and the calls of std, for
+tests/erasure_refusals.py."""
 import functools
 import re
 
@@ -12,14 +11,14 @@ from erasure_laws import is_module_of_laws
 
 
 def other_types(code):
-    """A type with functions that a rule renames has one name."""
+    """Rejects a second name of a type whose functions a rule renames."""
     for i in code.all('type'):
         if code.at(i + 2) == '=' and code.at(i + 3) in OF_RULES:
             yield i, f'`{code.said(i, i + 4)}`, another name of a type that a rule knows'
 
 
 def generics(code, i):
-    """The parameters of what is declared, if there is a `<` at `i`."""
+    """Yields the indices of type parameters, if there is a `<` at `i`."""
     depth = 0
     while code.at(i) == '<' or depth > 0 and i < len(code.words):
         if code.at(i) in ('<', ',') and depth == (code.at(i) == ','):
@@ -29,7 +28,7 @@ def generics(code, i):
 
 
 def declarations(code):
-    """The names that types, modules, constants and parameters of types get."""
+    """Yields the indices of the names that types, modules, constants and type parameters get."""
     for i in code.all('mod', 'struct', 'enum', 'trait', 'type', 'const', 'fn', 'impl'):
         if code.at(i) not in ('fn', 'impl') and is_name(code.at(i + 1)):
             yield i + 1
@@ -37,7 +36,7 @@ def declarations(code):
 
 
 def declared(code, names):
-    """A name that a rule knows is given to nothing else."""
+    """Rejects declarations of names that a rule knows."""
     for i in declarations(code):
         name = code.at(i)
         if (name in KNOWN or name in names) and (code.at(i - 1), name) != ('mod', 'laws'):
@@ -45,7 +44,7 @@ def declared(code, names):
 
 
 def methods(code):
-    """A method has no name that a rule changes, and none that Rust finds elsewhere first."""
+    """Rejects methods whose name a rule changes, or for which Rust finds another method first."""
     for found in code.functions:
         if found.name.startswith('fallible_') or \
                 found.name in METHODS_ELSEWHERE and is_method(code, found):
@@ -53,7 +52,8 @@ def methods(code):
 
 
 def imports(code, names):
-    """Imports at the top alone, each name by name. Of laws only the module is imported."""
+    """Rejects imports that aren't at the top level, or not name by name. From laws, only the module
+    may be imported."""
     for use in code.uses:
         words = code.words[use.start + 1:use.stop]
         said = ' '.join(words)
@@ -68,7 +68,7 @@ def imports(code, names):
 
 
 def imported(words):
-    """The paths that an import names."""
+    """Yields the paths that an import names."""
     path, brace, names = ' '.join(words).replace(' :: ', '::').partition('{ ')
     for name in names.replace('}', '').split(',') if brace else ['']:
         yield re.sub(r' as _$|::self *$', '', path + name.strip()).strip()
@@ -76,8 +76,8 @@ def imported(words):
 
 @functools.lru_cache(maxsize=None)
 def renamed(code):
-    """Each comment `// In Rust: NAME.`: its index, and the function below it, or None if that isn't
-    one of `impl TYPE { .. }`."""
+    """Yields each comment `// In Rust: NAME.`: its index, and the function below it, or None if
+    that isn't in an `impl TYPE { .. }`."""
     functions, pairs = {found.at: found for found in code.functions}, []
     for i in [i for i, token in enumerate(code.tokens) if token.kind == 'name']:
         at, outer = i + 1, code.outer[i]
@@ -89,8 +89,9 @@ def renamed(code):
 
 
 def other_names(codes):
-    """`// In Rust: NAME.` is above a function of a type, which has no other of that name; and if it
-    is a method, nothing else has the name. Nothing calls the function by `Self`."""
+    """Checks that `// In Rust: NAME.` is above a function of a type that has no other one of that
+    name, and that for a method nothing else has the name. The function may not be called as
+    `Self::..`."""
     old = {found.name for code in codes for _, found in renamed(code) if found}
     for code in codes:
         for i in code.all('Self'):
@@ -112,7 +113,8 @@ def iterators(code):
 
 
 def methods_of_iterators(codes):
-    """An iterator's own methods have no names of those of `Iterator` that Rust finds before."""
+    """Rejects methods of an iterator that are named like those of `Iterator` that Rust finds
+    first."""
     kinds = set().union(*(iterators(code) for code in codes))
     for code in codes:
         for found in [found for found in code.functions if found.name in OF_TYPES]:
@@ -123,8 +125,8 @@ def methods_of_iterators(codes):
 
 
 def implementations(codes):
-    """The types of an `impl` of a trait here are of the sources, too: others have methods in Rust
-    that aren't here."""
+    """Rejects an `impl` of a trait of the sources for a type that isn't in the sources: such a type
+    has methods in Rust that this doesn't know."""
     own = {kind: {code.at(i + 1) for code in codes for i in code.all(*kind)}
            for kind in (('trait',), ('struct', 'enum'))}
     for code in codes:
@@ -139,7 +141,7 @@ def implementations(codes):
 
 @functools.lru_cache(maxsize=None)
 def unlisted(code):
-    """Calls, paths and imports that aren't listed: each index, and the name or names."""
+    """Yields calls, paths and imports that aren't listed: each index, and the name or names."""
     calls = [(i + 1, code.at(i + 1)) for i in code.all('.') if code.at(i + 2) in ('(', '::')
              and code.said(i + 1, i + 2 + 3 * (code.at(i + 2) == '::')) not in CALLS]
     paths = [(i, (code.at(i - 1), code.at(i + 1))) for i in code.all('::')
@@ -152,14 +154,14 @@ def unlisted(code):
 
 @functools.lru_cache(maxsize=None)
 def own_names(code):
-    """The names of the methods of a source, and of its types, modules and constants."""
+    """Returns the names of the methods of a source, and of its types, modules and constants."""
     return ({found.name for found in code.functions if is_method(code, found)},
             {code.at(i) for i in declarations(code)})
 
 
 def calls_of_std(codes, names):
-    """What is called or imported of std is listed, so that nothing allocates of which no rule
-    knows."""
+    """Rejects calls and imports of std that aren't listed, so that no rule misses a call that
+    allocates."""
     methods_here = set().union(*(own_names(code)[0] for code in codes))
     own = {*names, 'crate', 'self', 'super', 'Self'}.union(*(own_names(code)[1] for code in codes))
     for code in codes:

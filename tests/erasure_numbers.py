@@ -1,6 +1,5 @@
-"""What numbers do elsewhere where `usize` has 32 bits, and ranges in Rust, for
-tests/erasure_refusals.py.
-"""
+"""Rejects what numbers do differently if `usize` has 32 bits, and ranges that Rust evaluates
+differently, for tests/erasure_refusals.py."""
 import re
 
 from erasure_code import in_use, is_listed, is_name
@@ -8,7 +7,8 @@ from erasure_known import CASTS, UNSIGNED
 
 
 def shifts(code):
-    """A shift is by a number below 32, so that it does the same where `usize` has 32 bits."""
+    """Rejects shifts by anything but a number below 32, which does the same if `usize` has 32
+    bits."""
     for i in code.all('<', '>'):
         after = code.at(i + 2)
         before = code.words[code.head(i):i]
@@ -19,8 +19,8 @@ def shifts(code):
 
 
 def ranges(code):
-    """A range without an end goes to the highest number here, and on in Rust; and `..V` in a value
-    with all its fields isn't read here."""
+    """Rejects ranges without an end, which end at the highest number in Rattle but go on in Rust,
+    and `..V` in a struct literal if V isn't a plain name."""
     for i in code.all('..'):
         before, after = code.at(i - 1), code.at(i + 1)
         is_part = code.at(code.outer[i] - 1) == 'get' or after == ']' and \
@@ -34,8 +34,8 @@ def ranges(code):
 
 
 def casts(code):
-    """A cast is to a number that has as many bits everywhere, or to `usize` of one that has at most
-    32. Rattle proves that it keeps the value where `usize` has 64."""
+    """Rejects casts, except to a number with as many bits everywhere, and to `usize` from a number
+    with at most 32 bits. Rattle proves that a cast keeps the value if `usize` has 64 bits."""
     for i in code.all('as'):
         if in_use(code, i) or code.at(i + 1) in UNSIGNED:
             continue
@@ -46,8 +46,8 @@ def casts(code):
 
 
 def is_short(code, i, found):
-    """Whether what is cast has a type of at most 32 bits: it is a parameter, or a parameter, a sign
-    and a literal in brackets."""
+    """Returns whether what is cast has a type of at most 32 bits: it is a parameter, or a
+    parameter, an operator and a literal in parentheses."""
     first = code.pair[i - 1] if code.at(i - 1) == ')' else i - 1
     operand = re.fullmatch(r'(\w+)|\( (\w+) (?:[&+%/-]|> >) (?:\d\w*|") \)',
                            ' '.join(code.words[first:i]))
@@ -58,15 +58,15 @@ def is_short(code, i, found):
 
 
 def typed(code, found, name):
-    """The type of a parameter, if it is one word."""
+    """Returns the type of a parameter, if it is one word."""
     return next((code.at(i + 2) for i in found.parameters
                  if code.at(i) == name and code.outer[i] == found.parameters.start
                  and code.at(i + 1) == ':' and code.at(i + 3) in (',', ')')), None)
 
 
 def is_bound_again(code, found, name):
-    """Whether a function may give a parameter's name to something else: the name is a token of what
-    may be a pattern, or its type follows."""
+    """Returns whether a function may give a parameter's name to something else: the name is a token
+    of a possible pattern, or a type follows it."""
     for i in range(found.opening + 1, found.closing):
         first, last = {
             'let': (i, code.end(i, ('=', ';'))), 'for': (i, code.end(i, ('in',))),
@@ -82,14 +82,14 @@ def is_bound_again(code, found, name):
 
 
 def ends_value(code, i):
-    """Whether a value or pattern may end here, so that `|` isn't the beginning of a closure."""
+    """Returns whether a value or pattern may end here, so that `|` doesn't begin a closure."""
     return code.at(i) in ('"', ')', ']', '?') or re.fullmatch(r'\w+', code.at(i)) is not None \
         and code.at(i) not in ('return', 'move', 'in', 'if', 'while', 'match', 'else', 'break')
 
 
 def arm(code, i):
-    """Where the pattern of an arm begins: after a comma, the block of the arm before, or the brace
-    around both."""
+    """Returns the index at which the pattern of an arm begins: after a comma, the block of the arm
+    before, or the brace around both."""
     outer = code.outer[i]
     i -= 1
     while i > outer and code.at(i) != ',':

@@ -1,6 +1,5 @@
-"""What the sources in Rattle mustn't have, since the same tokens would mean something else in Rust,
-or since what a rule of docs/ERASURE.md removes would do something. For tests/erased.py.
-"""
+"""Rejects sources in Rattle whose tokens would mean something else in Rust, or from which a rule of
+docs/ERASURE.md would remove something that does something. For tests/erased.py."""
 import functools
 import re
 
@@ -43,16 +42,17 @@ def macros(code):
 
 
 def error_texts(code):
-    """Of `#[error(..)]` a placeholder is a field, and nothing is escaped."""
+    """Rejects `#[error(..)]` unless its placeholders are fields and nothing is escaped."""
     for i in code.all('error'):
         text = code.tokens[i + 2].text if code.at(i + 2) == '"' else ''
         if code.words[i - 2:i] == ['#', '['] and not re.fullmatch(
                 r'"([^{}\\]|\{(\d+|[a-z_]\w*)(:\?)?\})*"', text):
-            yield i, f'`#[error({text})]`, of which only `{{FIELD}}` and `{{FIELD:?}}` are known'
+            yield i, f'`#[error({text})]`, in which only `{{FIELD}}` and `{{FIELD:?}}` are known'
 
 
 def orders(code):
-    """Calls that need an order are those of `ORDERS`; of a sort a clause says that it is total."""
+    """Rejects calls that need an order, except those in `ORDERS`. For a sort, a clause has to say
+    that the order is total."""
     for i, token in enumerate(code.tokens):
         if token.kind == 'word' and token.text in ORDERED:
             text = code.said(i, code.pair.get(i + 1, i) + 1)
@@ -70,7 +70,7 @@ def says_total_order(code, found):
 
 @functools.lru_cache(maxsize=None)
 def checked(where, text, names):
-    """The tokens of a source, and what is refused of it."""
+    """Returns the tokens of a source, and what is rejected in it."""
     code = Code(where, text)
     if is_laws(code):
         checks = [laws_alone(code)]
@@ -83,7 +83,7 @@ def checked(where, text, names):
 
 
 def refusals(files, names):
-    """What is refused of all sources, each with file and line."""
+    """Returns what is rejected in all sources, each with file and line."""
     erased = NOT_ERASED | {crate for crate, _ in files}
     codes, found = [], [
         Refused('crates.txt', 1, f'`{name}`, a crate that isn\'t erased, or is called as another')

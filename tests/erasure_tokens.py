@@ -1,14 +1,13 @@
-"""The tokens of Rattle and of Rust, for tests/erasure.py. What isn't certainly one token in both
-languages is refused. Doc comments are tokens, other comments aren't. A clause is one token, and so
-is a ghost item: their texts are antt, in which `--` and `{-` begin comments.
-"""
+"""The tokens of Rattle and of Rust, for tests/erasure.py. Anything that isn't certainly the same
+token in both languages is rejected. Doc comments are tokens; other comments aren't. A clause or
+ghost item is one token. Its text is in antt, in which `--` and `{-` begin comments."""
 import collections
 import functools
 import re
 
 
 class Refused(Exception):
-    """What no rule knows, in which file and line."""
+    """Something that no rule knows, with its file and line."""
 
     def __init__(self, where, line, what):
         super().__init__(f'{where}:{line}: {what}')
@@ -30,10 +29,10 @@ TOKEN = re.compile(rf'''(?P<space>[ \n]+)
 CLAUSE = re.compile(r'(requires|ensures)\s+(?:[A-Za-z_]\w*\s+)?\{', re.A)
 GHOST = re.compile(r'ghost\s+(?:(?P<use>use\s)|[A-Za-z_]\w*\s*[=:]\s*\{)', re.A)
 GHOST_USE = re.compile(r'''ghost\s+use\s+[\w.]+(?:\.\{[^{}"';/\\]*\}|\s+as\s+\w+)?;''')
-# Of texts in antt: what opens and closes, what neither does, and what isn't taken.
+# For texts in antt: opening and closing braces, what is neither, and what is rejected.
 ANTT = re.compile(r'''(?P<brace>[{}])|(?<![\w\#])"[^"\\{}\n]*"|(?<=\w)'(?![{}"'\\])
     |'[a-z_]+\b(?!')|(?P<no>--|//|/\*|\{-|-\}|!\}|["'\\])|.''', re.X | re.S)
-# No token, wherever it is: other ends of lines, and characters that no reader sees.
+# Rejected everywhere: unusual ends of lines, and characters that no reader sees.
 HIDDEN = re.compile('[^\n\x20-\x7e\xa1-\uffff\U00010000-\U0010ffff]|[\xad\u061c\u200b-\u200f'
                     '\u2028-\u202e\u2060-\u206f\ufeff\ufff0-\uffff\ud800-\udfff]')
 
@@ -43,7 +42,7 @@ def line_of(text, at):
 
 
 def end_of_antt(where, text, at):
-    """Where the braces end that open before `at`."""
+    """Returns the index after the brace that closes the one before `at`."""
     depth = 1
     for match in ANTT.finditer(text, at):
         if match['no'] or text.startswith(('{-', '{!'), match.start()):
@@ -56,7 +55,7 @@ def end_of_antt(where, text, at):
 
 
 def end_of_ghost(where, text, at, match):
-    """Where a ghost item ends that begins at `at`."""
+    """Returns the index after a ghost item that begins at `at`."""
     if match['use']:
         item = GHOST_USE.match(text, at)
         if item and '--' not in item[0] and '{-' not in item[0]:
@@ -69,7 +68,7 @@ def end_of_ghost(where, text, at, match):
 
 
 def special(where, text, at):
-    """The kind of a clause or ghost item that begins at `at`, and where it ends; or None."""
+    """Returns the kind of a clause or ghost item that begins at `at`, and its end; or None."""
     clause, ghost = CLAUSE.match(text, at), GHOST.match(text, at)
     if clause:
         return clause[1], end_of_antt(where, text, clause.end())
@@ -79,10 +78,10 @@ def special(where, text, at):
 
 
 def kind_of(match, found):
-    """The kind of a token; None for what isn't certainly one."""
+    """Returns the kind of a token, or None for anything that isn't certainly one token."""
     kind = 'literal' if match['hashes'] is not None else match.lastgroup
     after = match.string[match.end():match.end() + 2]
-    # A prefix or suffix of a literal, a raw name, and a quote that may belong to another.
+    # A prefix or suffix of a literal, a raw name, or a quote that may belong to another token.
     if kind in ('literal', 'life', 'number', 'word') and re.match(r'[\w\'"]|#["\w]', after):
         return None
     if kind == 'literal' and re.search(r'\\\n *\n', match[0]):
@@ -94,7 +93,7 @@ def kind_of(match, found):
 
 @functools.lru_cache(maxsize=None)
 def tokens_of(where, text):
-    """The tokens of a text. `// In Rust: NAME.` is one, too."""
+    """Returns the tokens of a text. `// In Rust: NAME.` is a token, too."""
     hidden = HIDDEN.search(text)
     if hidden:
         raise Refused(where, line_of(text, hidden.start()), f'the character {hidden[0]!a}')

@@ -1,10 +1,10 @@
 #!/usr/bin/env python3
-"""Fails if a public item of the Rust crate has no example: each page of `cargo doc` is an item, and
-has a block of Rust in its own text, and so has each of its methods that isn't of a trait. That the
-blocks run, `cargo test --doc` shows.
+"""Checks that each public item of the Rust crate has an example: each page of `cargo doc` is an
+item and has a block of Rust in its own text, and so does each of its methods that isn't of a trait.
+`cargo test --doc` runs the blocks.
 
 tests/examples.py          makes the pages.
-tests/examples.py PAGES    reads those of a directory, such as target/doc/semver_parser.
+tests/examples.py PAGES    checks the pages in a directory, such as target/doc/semver_parser.
 """
 import pathlib
 import re
@@ -14,7 +14,7 @@ import tempfile
 
 TOP = pathlib.Path(__file__).resolve().parent.parent
 
-# These modules are hidden, and these methods are for other crates of the repository.
+# These modules are hidden, and these methods are for other crates of this repository.
 HIDDEN = {'layers', 'proved', 'rattle_std'}
 INTERNAL = {f'{name}::{method}' for name in ('VersionRef', 'version::VersionRef')
             for method in ('compared_pre', 'pre_bytes')}
@@ -28,7 +28,7 @@ def up_to_end(text):
 
 
 def items(pages):
-    """The name of each public item, and its text."""
+    """Yields the name of each public item, and its text."""
     for path in sorted(pages.rglob('*.*.html')):
         *modules, file = path.relative_to(pages).parts
         page = path.read_text()
@@ -53,4 +53,4 @@ lacking = [name for name, text in found.items() if EXAMPLE not in text]
 if lacking or not found:
     print('examples: there is none at', ', '.join(lacking) or pages)
     sys.exit(1)
-print(f'examples: {len(found)} public items, each with one that runs')
+print(f'examples: {len(found)} public items, each has one')

@@ -1,8 +1,10 @@
 #!/bin/sh
-# Tests that ./test says first what it runs and then how each part ended, runs each step also after
-# a failed one, names what was skipped and what failed at its end, and has status 1 if something
-# failed; and that without the kit it runs what needs none, and has status 2. A copy of it runs in a
-# directory that has stubs in place of all that it runs.
+# Tests ./test in a copy that has stubs instead of everything that it runs.
+#
+# - It first says what it runs, and then how each part ended. At the end it names what was skipped
+#   and what failed.
+# - After a failed step it goes on. It exits with 1 if something failed.
+# - Without the kit it runs what doesn't need the kit, and exits with 2.
 set -eu
 unset CDPATH
 cd "$(dirname "$0")/.."
@@ -17,8 +19,8 @@ fail() {
     exit 1
 }
 
-# stub FILE BODY: a script that writes its name, fails if the variable FAILING has it, and says that
-# it tries nothing if SKIPPING has it.
+# stub FILE BODY: makes a script that prints its name, fails if it is in the variable FAILING, and
+# says that it skips everything if it is in SKIPPING.
 stub() {
     mkdir -p "$(dirname "$1")"
     cat > "$1" << END
@@ -31,7 +33,7 @@ END
     chmod +x "$1"
 }
 
-# The steps that are scripts, and the commands.
+# Makes stubs of the scripts and commands that ./test runs.
 make_copy() {
     mkdir -p "$copy/tools" "$copy/crates/library_tests"
     cp test "$copy"
@@ -51,7 +53,7 @@ make_copy() {
         stub "$work/bin/$command" ''
         stub "$work/without-the-kit/$command" ''
     done
-    # What it builds has to be newer than the file that ./test makes before, and executable.
+    # What `rt ci` builds has to be executable, and newer than a file that ./test makes before.
     stub "$work/bin/rt" 'if [ $1 = ci ] && [ -z "$BUILDS_NOTHING" ]; then
     sleep 0.1
     for name in semver_parser_main release_filter_main compare_ranges_main; do
@@ -62,7 +64,7 @@ make_copy() {
 fi'
 }
 
-# ends STATUS ARGUMENT..: runs the copy, with the scripts of FAILING failing.
+# ends STATUS ARGUMENT..: runs the copy. The scripts in FAILING fail.
 ends() {
     wanted=$1 status=0
     shift
@@ -71,7 +73,8 @@ ends() {
     says_how_each_ended
 }
 
-# says_how_each_ended: what runs comes first, then a line for each part, and the parts are counted.
+# says_how_each_ended: checks that the announcement comes first, and that there is a line for each
+# part and a count of the parts.
 says_how_each_ended() {
     grep -n '^This runs, side by side:$' "$work/said" | grep -q '^[12]:' ||
         fail 'it does not say first what it runs'
@@ -83,20 +86,20 @@ says_how_each_ended() {
     done
 }
 
-# names_failed LINE..: the last lines have to be these, in some order.
+# names_failed LINE..: the output has to end with these lines, in any order.
 names_failed() {
     printf '    %s\n' "$@" | LC_ALL=C sort > "$work/wanted"
     sed '1,/^failed:$/d' "$work/said" | LC_ALL=C sort | cmp -s - "$work/wanted" ||
         fail "it should name as failed: $*"
 }
 
-# runs COUNT: so many steps ran.
+# runs COUNT: this many steps have to run.
 runs() {
     count=$(grep -c '^ran ' "$work/said") || :
-    [ "$count" = "$1" ] || fail "$count steps ran in place of $1"
+    [ "$count" = "$1" ] || fail "$count steps ran instead of $1"
 }
 
-# skips LINE..: these are named as skipped.
+# skips LINE..: these have to be listed as skipped.
 skips() {
     printf '    %s\n' "$@" | LC_ALL=C sort > "$work/wanted"
     sed -n '/^skipped:$/,/^[^ s]/s/^    /    /p' "$work/said" | LC_ALL=C sort |

@@ -1,8 +1,10 @@
 #!/bin/sh
-# Tests the Makefile and ./semver-parser: when they build, and when they refuse to; that a build which
-# fails or is stopped leaves nothing; what is installed, that it runs by itself, and that it is removed
-# again; and that a program gets its input and arguments, and its status goes back. It needs cargo, gcc
-# and python3.
+# Tests the Makefile and ./semver-parser. Needs cargo, gcc and python3.
+#
+# - When they build, and when they report an error instead.
+# - A build that fails or is stopped leaves nothing.
+# - What is installed works without anything else, and can be uninstalled.
+# - ./semver-parser passes on input, arguments and the status of the program.
 set -eu
 unset CDPATH
 cd "$(dirname "$0")/.."
@@ -10,13 +12,14 @@ cd "$(dirname "$0")/.."
 
 # ---- what is built
 
-# newer_than FILE: what was built after it. cargo always writes its lists of sources, NAME.d.
+# newer_than FILE: prints what was built after the file. cargo always writes its lists of sources,
+# NAME.d.
 newer_than() {
     find out/cargo/release out/lib -maxdepth 1 -type f ! -name '*.d' -newer "$1"
 }
 
-# All is built, and once only; the programs run; and from elsewhere, where `cd` looks in other
-# directories.
+# Everything is built, but only once. The programs also run from a directory where CDPATH would lead
+# `cd` elsewhere.
 as_built() {
     ends 0 make
     : > "$work/built"
@@ -53,8 +56,8 @@ share/man/man7/semver-ranges.7
 share/zsh/site-functions/_compare-ranges
 share/zsh/site-functions/_release-filter"
 
-# install_into FOLDER ARGUMENT..: installs, which has to put the files there, and the record of
-# them, and nothing else.
+# install_into DIRECTORY ARGUMENT..: installs. This has to install exactly the files above, and the
+# record that lists them.
 install_into() {
     folder=$1
     shift
@@ -64,7 +67,7 @@ install_into() {
     has "$(echo "$files" | sed "s:^:installed $folder/:")" stdout
     holds "$folder" | grep -vx share/semver-parser/installed > "$work/list"
     has "$files" list
-    [ -z "$(find "$folder" -type d ! -perm 755)" ] || fail "a folder of $folder isn't open to all"
+    [ -z "$(find "$folder" -type d ! -perm 755)" ] || fail "a directory of $folder isn't open to all"
 }
 
 installed() {
@@ -81,7 +84,7 @@ installed() {
     uninstalled "$prefix" make uninstall PREFIX="$prefix"
 }
 
-# uninstalled FOLDER COMMAND..: nothing is left of what was installed, but what was there before.
+# uninstalled DIRECTORY COMMAND..: uninstalls. Only what was there before may be left.
 uninstalled() {
     folder=$1
     shift
@@ -89,7 +92,7 @@ uninstalled() {
     [ ! -e "$folder" ] || fail "$folder: $(find "$folder") is left"
 }
 
-# Both libraries show the calls alone, and a program links with either.
+# Both libraries export only the functions, and a program can be linked with either.
 try_installed_library() {
     lib=$prefix/lib
     same_calls "$lib/libsemver_parser.a"
@@ -111,12 +114,12 @@ try_installed_library() {
     libraries=$lib
     eval "try_library $flags"
     libraries=''
-    [ "$(PKG_CONFIG_PATH=$lib/pkgconfig pkg-config --modversion semver_parser)" = "$(cat VERSION)" ] || fail 'pkg-config tells another version'
+    [ "$(PKG_CONFIG_PATH=$lib/pkgconfig pkg-config --modversion semver_parser)" = "$(cat VERSION)" ] || fail 'pkg-config prints another version'
     header=rust/capi/include/semver_parser.h
     grep -q "define SEMVER_PARSER_VERSION \"$(cat VERSION)\"" $header || fail 'the header has another version'
 }
 
-# are_to_set FILE: what to set for a prefix are these variables.
+# are_to_set FILE: the variables that have to be set for a prefix are these.
 are_to_set() {
     sed 's/=.*//' "$1" > "$work/stdout"
     has 'export PATH
@@ -124,8 +127,8 @@ export PKG_CONFIG_PATH
 export LD_LIBRARY_PATH' stdout
 }
 
-# After the commands that are printed last, and nothing else, a shell finds the programs, and the
-# example in C is compiled and run.
+# With only the commands that are printed last, a shell finds the programs, and the example in C can
+# be compiled and run.
 try_example() {
     are_to_set "$work/to-set"
     printf '%s\n' "$(cat "$work/to-set")" 'command -v release-filter' > "$work/example"
@@ -139,11 +142,11 @@ try_example() {
     ends 1 env -i PATH=/usr/bin:/bin sh "$work/example"
     has "$(cat docs/examples/lines.npm)" stdout
     (eval "$(cat "$work/to-set")" && ends 0 make install PREFIX="$work/plain")
-    ! grep -v '^installed ' "$work/stdout" || fail 'it says what to set though that is set'
+    ! grep -v '^installed ' "$work/stdout" || fail 'it says what to set, but that is set already'
     rm -rf "$work/plain"
 }
 
-# Each page is laid out without a warning, and names the version.
+# mandoc and groff lay out each page without a warning, and each has the version.
 try_pages() {
     grep -qF "$(cat VERSION)" "$prefix/share/man/man3/semver_parser.3" || fail 'a page has another version'
     ! grep @VERSION@ "$prefix"/share/man/man?/* || fail 'a page lacks the version'
@@ -156,28 +159,28 @@ try_pages() {
     mandoc -T lint -W warning "$prefix"/share/man/man?/* && mandoc -T lint "$prefix"/share/man/man3/* || fail 'mandoc finds an error in a page'
 }
 
-# A page says what its function returns, its errors and whether threads may call it; one that isn't there
-# by its own name is a link.
+# A page says what its function returns, its errors, and whether threads may call it at the same
+# time. A function that shares a page has a link to it.
 try_manuals() {
     page=$prefix/share/man/man3/semver_parser_satisfies.3
     for part in NAME SYNOPSIS DESCRIPTION 'RETURN VALUE' ERRORS ATTRIBUTES 'SEE ALSO'; do grep -qx "\.SH $part" "$page" || fail "a page lacks $part"; done
     grep -q 'semver_parser_satisfies().*MT\\-Safe' "$page" && grep -q 'SEMVER_PARSER_INVALID_VERSION' "$page" || fail 'a page lacks something'
-    [ "$(readlink "$prefix/share/man/man3/semver_parser_range_lowest_of.3")" = semver_parser_range_highest_of.3 ] || fail 'a page is no link'
+    [ "$(readlink "$prefix/share/man/man3/semver_parser_range_lowest_of.3")" = semver_parser_range_highest_of.3 ] || fail 'a page is not a link'
     of_type=$prefix/share/man/man3/semver_parser_status.3
-    [ "$(readlink "$of_type")" = semver_parser_error.3 ] || fail 'the page of a type is no link'
+    [ "$(readlink "$of_type")" = semver_parser_error.3 ] || fail 'the page of a type is not a link'
     grep -q 'SEMVER_PARSER_DIFFERENT_DIALECTS " (6)"' "$of_type" ||
         fail 'a page lacks the constants of its type'
 }
 
-# same_options PROGRAM: its page tells the options that its help names, and no others.
+# same_options PROGRAM: its page lists exactly the options that its help lists.
 same_options() {
     "$prefix/bin/$1" --help | grep -o -e '--[a-z][a-z-]*' | LC_ALL=C sort -u > "$work/list"
     sed -n '/^\.SH OPTIONS/,/^\.SH EXIT/s/\\-/-/gp' "$prefix/share/man/man1/$1.1" | grep -o -e '--[a-z][a-z-]*' | LC_ALL=C sort -u |
         diff -u "$work/list" -
 }
 
-# A folder below another, a folder by a relative name, and one where others have files, too. What is
-# older is replaced.
+# Installs into a directory below another one, by a relative path, and where there are other files.
+# Older files are replaced.
 installed_elsewhere() {
     staged="$work/staged"
     install_into "$staged/usr" make install DESTDIR="$staged" PREFIX=/usr
@@ -198,8 +201,8 @@ lib/later' ] && [ -d "$work/shared/share/man/man1" ] && [ ! -e "$work/shared/inc
     refuses "make: nothing is installed under $work/shared" make uninstall PREFIX="$work/shared"
 }
 
-# soname_is VERSION NUMBERS: of a project of this version the shared library has this soname, and a
-# link of that name.
+# soname_is VERSION NUMBERS: with this version of the project, the shared library has this soname,
+# and there is a link of that name.
 soname_is() {
     lib=$work/later/lib soname=libsemver_parser.so.$2
     echo "$1" > VERSION
@@ -209,7 +212,7 @@ soname_is() {
     uninstalled "$work/later" make uninstall PREFIX="$work/later"
 }
 
-# The soname has the first number of the version, and while that is 0 the second too.
+# The soname has the first number of the version and, while that is 0, also the second.
 sonames() {
     soname_is 0.12.3 0.12
     soname_is 1.0.0 1
@@ -241,28 +244,29 @@ installed_for_python() {
     mv not-here python
 }
 
-# ---- what is refused
+# ---- what is rejected
 
-# Folders that nothing can be installed into, and arguments that say nothing.
+# Directories that nothing can be installed into, and arguments that are invalid.
 refused_arguments() {
     : > "$work/file"
     mkdir -p "$work/taken/bin/semver-parser"
     refuses "make: not a directory: $work/file" make install PREFIX="$work/file"
     refuses "make: not a directory: $work/file" make install PREFIX="$work/file/below"
     refuses "make: cannot write $work/taken/bin/semver-parser: it is a directory" make install PREFIX="$work/taken"
-    [ -z "$(holds "$work/taken")" ] || fail 'something is put before the refusal'
+    [ -z "$(holds "$work/taken")" ] || fail 'something is installed before the error'
     refuses 'make: PREFIX is empty' make install PREFIX=
     ends 2 make unknown PREFIX="$work/one"
     rm -r out/lib
     refuses 'make: needs the command no-compiler (Debian: apt-get install gcc)' make install CC=no-compiler PREFIX="$work/one"
     stopped_while_compiling "$work/one" make install PREFIX="$work/one"
     make
-    [ ! -e "$work/one" ] || fail 'something is put before a refusal'
+    [ ! -e "$work/one" ] || fail 'something is installed before an error'
 }
 
 # ---- when ./semver-parser proves
 
-# leaves_nothing COMMAND..: runs a command, and gives its status, or 99 if it leaves a temporary file.
+# leaves_nothing COMMAND..: runs a command and returns its status, or 99 if it leaves a temporary
+# file.
 leaves_nothing() {
     mkdir -p "$work/temporary"
     left=0
@@ -271,7 +275,8 @@ leaves_nothing() {
     return "$left"
 }
 
-# stopped_by SIGNAL: a proof that takes ten minutes is stopped by it, and not waited for.
+# stopped_by SIGNAL: a proof that takes ten minutes is stopped by the signal, without waiting for
+# it.
 stopped_by() {
     rm -rf "$work/temporary" "$work/half"
     mkdir "$work/temporary"
@@ -288,16 +293,16 @@ stopped_by() {
     ! kill -0 "$(cat "$work/half")" 2> /dev/null || fail "stopped by $1: the proof goes on"
 }
 
-# proves COUNT: ./semver-parser has to run, and to have been proved so often.
+# proves COUNT: ./semver-parser has to run, and this many proofs have to have been made so far.
 proves() {
     ends 7 leaves_nothing "$small/semver-parser" 'a b'
     has '<a b>' stdout
-    [ "$(wc -l < "$work/proofs")" = "$1" ] || fail "$(wc -l < "$work/proofs") proofs in place of $1"
+    [ "$(wc -l < "$work/proofs")" = "$1" ] || fail "$(wc -l < "$work/proofs") proofs instead of $1"
     sleep 0.1
 }
 
-# ./semver-parser has the kit prove and build it, if anything is newer. In a repository in small the kit
-# makes a program that writes its argument, and ends with status 7.
+# ./semver-parser lets the kit prove and build it if any source is newer. In this small repository,
+# the kit makes a program that prints its argument and exits with 7.
 when_it_proves() {
     small="$work/in small"
     proved="$small/crates/semver_parser_main"
@@ -317,15 +322,15 @@ mkdir -p out && printf '#!/bin/sh\necho \"<\$1>\"\nexit 7\n' > out/semver_parser
     proves 3
 }
 
-# While the kit proves, standard error has the crates that the program is made of, each as it begins: a
-# line for each, and at a terminal one line that is rewritten.
+# While the kit proves, standard error names the crates of the program, each when its proof begins:
+# one line for each, and on a terminal one line that is rewritten.
 what_it_proves() {
     printf '# what\na: thiserror\nb: a\nsemver_parser_main: a\n' > "$small/crates.txt"
     mkdir -p "$small/crates/a"
     stub rt "shows() {
     for turn in \$(seq 300); do ! grep -q \"\$1\" '$work/stdout' '$work/stderr' || return 0; sleep 0.1; done
 }
-sleep 0.1 # Then it isn't of the same tick of the clock as the beginning.
+sleep 0.1 # So that its time differs from that of the beginning.
 mkdir -p ../a/out && : > ../a/out/begun && shows 'crate 1 of 2: a'
 echo 'so far: 2 of 3 functions checked'
 [ -z \"\$AT_TERMINAL\" ] || shows '2 of 3'
@@ -353,11 +358,11 @@ crate 2 of 2: semver_parser_main, 4 of 9 functions checked
 <a b>' lines
 }
 
-# A failed proof says why, and runs nothing; and so does a stopped one, which ends by the signal.
+# After a failed proof it says why, and runs nothing. If it is stopped, it ends by the signal.
 when_a_proof_fails() {
     touch "$small/crates.txt"
     stub rt 'echo "not proved"; exit 1'
-    # Also if it fails before what shows the progress has begun to wait.
+    # Even if it fails before the display of progress has begun to wait.
     for turn in $(seq 30); do ends 2 leaves_nothing timeout 60 "$small/semver-parser" 1.2.3; done
     grep -qx 'not proved' "$work/stderr" && [ ! -s "$work/stdout" ] || fail 'a program runs that is not proved'
     for signal in HUP INT TERM; do stopped_by $signal; done
@@ -366,15 +371,15 @@ when_a_proof_fails() {
     proves 1
 }
 
-# ---- where it may not build
+# ---- where nothing may be built
 
-# as_another COMMAND..: runs a command as a user who may not write to the checkout, which for
-# anybody but root is made so.
+# as_another COMMAND..: runs a command as a user who may not write to the checkout. Anyone except
+# root already runs it so.
 as_another() {
     if [ "$(id -u)" = 0 ]; then setpriv --reuid=65534 --regid=65534 --clear-groups "$@"; else "$@"; fi
 }
 
-# In a checkout that may not be written to what is built runs, and what isn't is refused.
+# In a checkout without write permission, what is built runs, and what isn't built is an error.
 where_nothing_may_be_written() {
     [ "$(id -u)" = 0 ] || chmod -R a-w "$small" "$checkout"
     stub cargo 'exit 1'
@@ -387,7 +392,7 @@ where_nothing_may_be_written() {
     [ "$(id -u)" = 0 ] || chmod -R u+w "$small" "$checkout"
 }
 
-# Root builds nothing in a checkout of another user, and runs and installs what is built there.
+# In a checkout of another user root builds nothing, but runs and installs what is built there.
 where_root_may_not_build() {
     [ "$(id -u)" = 0 ] || { echo 'installed programs: not as root, so what root may not do is not tried' && return; }
     chown 65534 "$small" "$checkout"
@@ -399,7 +404,7 @@ where_root_may_not_build() {
     refuses "make: the Rust crate isn't built, and $root" make install PREFIX="$work/one"
 }
 
-# Without the kit ./semver-parser is what cargo builds, and says so.
+# Without the kit, ./semver-parser runs what cargo builds, and says so.
 where_no_kit_is() {
     rm "$work/bin/rt"
     building="mkdir -p out/cargo/release && printf '#!/bin/sh\necho \"<\$1>\"\nexit 7\n' > out/cargo/release/semver-parser
@@ -415,7 +420,7 @@ chmod +x out/cargo/release/semver-parser"
     has 'semver-parser: there is no command rt, so nothing is proved, and cargo builds it' stderr
 }
 
-# Without cargo and without `rt` what isn't built is refused.
+# Without cargo and `rt`, what isn't built is an error.
 where_no_tool_is() {
     rm "$work/bin/cargo" "$work/bin/rustc"
     refuses "make: needs the command cargo, 1.79 or later (rustup, or from Debian 13 on: apt-get install cargo)" env PATH="$work/tools" make -s out/cargo/release/semver-parser

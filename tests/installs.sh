@@ -1,9 +1,9 @@
 #!/bin/sh
-# Tests that each command of README by which people take this works for somebody who has cargo,
-# Python and the system, and nothing else: no kit, nothing installed, no variable set, and no
-# network if the system allows that. `URL` in the commands is a clone of the files that git lists,
-# as they are now, and `REV` its commit. It needs cargo, git and python3, and tries what needs
-# pre-commit, PyYAML or ensurepip if these are there.
+# Tests each command with which README installs something, for a user who has cargo, Python and the
+# system, but no kit, nothing installed and no variable set, and no network if the system can hide
+# it. `URL` in the commands is a clone of the files that git lists, as they are now, and `REV` is
+# its commit. Needs cargo, git and python3. Skips what needs pre-commit, PyYAML or ensurepip if that
+# is missing.
 set -eu
 unset CDPATH
 cd "$(dirname "$0")/.."
@@ -20,25 +20,25 @@ unset $(git rev-parse --local-env-vars)
 clone="$work/a clone"
 mkdir "$clone" "$work/home" "$work/runner"
 
-# fails WHY: shows what was written last.
+# fails WHY: prints the last output and why, and exits with 1.
 fails() {
     cat "$work/log"
     echo "installs: $1"
     exit 1
 }
 
-# The compilers themselves, since what rustup or pyenv put in their place reads the user's settings.
+# The compilers themselves, since the wrappers of rustup and pyenv read the user's settings.
 python=$(python3 -c 'import os, sys; print(os.path.realpath(sys.executable))')
 path=$(rustc --print sysroot)/bin:${python%/*}:/usr/bin:/bin
 apart=''
 ! unshare -n true 2> /dev/null || apart='unshare -n'
 
-# alone COMMAND..: runs a command as that user.
+# alone COMMAND..: runs a command as such a user.
 alone() {
     $apart env -i PATH="$path" HOME="$work/home" LANG=C.UTF-8 "$@"
 }
 
-# ends STATUS COMMAND..: what such a command writes is kept in `output` and `log`.
+# ends STATUS COMMAND..: runs a command as such a user. Its output is kept in `output` and `log`.
 ends() {
     wanted=$1 status=0
     shift
@@ -46,20 +46,20 @@ ends() {
     has_ended "$*"
 }
 
-# has_ended WHAT: the status has to be the wanted one.
+# has_ended WHAT: the status has to be the expected one.
 has_ended() {
     [ "$status" = "$wanted" ] && return
     cat "$work/output"
     fails "$1: status $status instead of $wanted"
 }
 
-# lists FILE WANTED: the file has to hold the lines.
+# lists FILE WANTED: the file has to have the expected lines.
 lists() {
     diff -u "$work/$2" "$work/$1" > "$work/differences" ||
         { cat "$work/differences" && fails 'other lines are written'; }
 }
 
-# as_written COMMAND: the command of README, which has to be there, for this clone.
+# as_written COMMAND: prints a command of README, which has to have it, for this clone.
 as_written() {
     grep -qF "\`$1\`" "$top/README.md" || { : > "$work/log" && fails "README has no command $1"; }
     echo "$1" | sed "s|URL|file://$address|"
@@ -80,14 +80,14 @@ make_clone() {
     [ -s "$work/found" ] || { : > "$work/log" && fails 'README has no example of check-lock-file'; }
 }
 
-# block_after COMMAND: what README shows as the output of a command.
+# block_after COMMAND: prints what README shows as the output of a command.
 block_after() {
     awk -v command="    \$ $1" '$0 == command { here = 1; next }
         here && (!/^    / || /^    \$ /) { exit }
         here { print substr($0, 5) }' "$top/README.md"
 }
 
-# Python: the package with its library, and the checkers, by the URL and in the clone.
+# Python: installs the package with its library and the checkers, by the URL and in the clone.
 for_python() {
     command -v "$python" > /dev/null && alone "$python" -c 'import ensurepip' 2> /dev/null ||
         { echo 'installs: no ensurepip (Debian: python3-venv), so pip is not tried' && return; }
@@ -102,7 +102,7 @@ for_python() {
     done
 }
 
-# By its URL and its SHA-256, as README has it: pip takes the wheel, and none of another sum.
+# The wheel by its URL and SHA-256, as in README: pip installs it, and rejects any other sum.
 for_python_by_a_sum() {
     [ -e "$work/environment" ] || return 0
     mkdir "$work/wheels"
@@ -134,7 +134,7 @@ fn main() { println!("{}", satisfies("1.9.0", "^1.2", Npm).unwrap()) }' > "$work
     lists output wanted
 }
 
-# yaml_of_readme TEXT: the block of YAML in README that has the text.
+# yaml_of_readme TEXT: prints the block of YAML in README that contains the text.
 yaml_of_readme() {
     awk -v text="$1" '/^```/ {
             if (has) printf "%s", block
@@ -144,7 +144,8 @@ yaml_of_readme() {
         here { block = block $0 "\n"; if (index($0, text)) has = 1 }' "$top/README.md"
 }
 
-# hook ID STATUS ARGUMENT..: pre-commit runs the hook of README, under this name, with this status.
+# hook ID STATUS ARGUMENT..: pre-commit runs the hook of README under this name. It has to exit with
+# this status.
 hook() {
     id=$1 wanted_status=$2
     shift 2
@@ -154,8 +155,8 @@ hook() {
     (cd "$work/hooked" && ends "$wanted_status" pre-commit run "$@")
 }
 
-# pre-commit installs the hook by itself, and runs it if a lock file, a manifest or a setting
-# changed; the other hook also if one is deleted.
+# pre-commit installs the hook, and runs it if a lock file, a manifest or a setting changed. The
+# other hook also runs if one is deleted.
 for_pre_commit() {
     alone sh -c 'command -v pre-commit' > /dev/null ||
         { echo 'installs: no pre-commit (Debian: pre-commit), so it is not tried' && return; }
@@ -179,7 +180,7 @@ for_pre_commit() {
     hook check-lock-file-always 1
 }
 
-# The hook runs for each file that check-lock-file knows by its name, and for settings of the tools.
+# The hook runs for each file that check-lock-file knows by name, and for settings of the tools.
 for_each_name() {
     has_yaml 'which files the hook is for' && [ -e "$work/environment" ] || return 0
     ends 0 "$work/environment/bin/python" -c 'from semver_parser.checks import discovery
@@ -200,15 +201,15 @@ END
         fails 'the hook runs for other files'
 }
 
-# has_yaml: whether python3 has PyYAML, which the tests of settings in YAML need.
+# has_yaml WHAT: returns whether python3 has PyYAML, which the tests with YAML need.
 has_yaml() {
     "$python" -c 'import yaml' 2> /dev/null && return
     echo "installs: python3 has no PyYAML (Debian: python3-yaml), so $1 is not tried"
     return 1
 }
 
-# action ARGS FORMAT STATUS: runs the steps of action.yml, but for the first one if that has run, as
-# GitHub does: each by bash, with the inputs in its environment, until one fails.
+# action ARGS FORMAT STATUS: runs the steps of action.yml as GitHub does: each by bash, with the
+# inputs in its environment, until one fails. The first step runs only once.
 action() {
     INPUT_ARGS=$1 INPUT_FORMAT=$2 "$python" "$top/tests/action-steps.py" \
         "$clone/action.yml" "$work/steps"
@@ -223,7 +224,7 @@ action() {
     has_ended 'the action'
 }
 
-# GitHub: the action, without inputs and with those of README.
+# GitHub: the action, without inputs and with the inputs of README.
 for_github() {
     has_yaml 'the action' || return 0
     yaml_of_readme 'uses: OWNER/REPO@REV' > "$work/workflow"

@@ -1,7 +1,8 @@
 #!/bin/sh
-# Makes the JavaScript package, packs it, installs it in an empty project without a network, and
-# runs its tests there; its types where tsc is there; the rows of crates/replayed_cases; and random
-# calls, each of which has to return the same after others as alone.
+# Makes the JavaScript package, packs it, and installs it in an empty project without a network.
+# There it runs the tests of the package, of its types if tsc is installed, the rows of
+# crates/replayed_cases, and random calls, each of which has to return the same result after other
+# calls as it does alone.
 set -eu
 top=$(dirname -- "$(dirname -- "$(readlink -f -- "$0")")")
 fail() {
@@ -35,14 +36,14 @@ grep -q "\"version\": \"$(cat "$top/VERSION")\"" "$top/js/package.json" ||
 node "$top/tests/js-rows.js" unpacked/package/index.cjs
 node "$top/js/tests/order.mjs" "$PWD/unpacked/package/index.cjs" 1500 1
 
-# The cases, and the differences that the README lists, are what node-semver says that npm has, if
-# that is of the version that wrote them.
+# The cases, and the differences that the README lists, are what node-semver returns, if npm has the
+# version of node-semver that they were made with.
 NODE_PATH=$(npm root -g)/npm/node_modules
 export NODE_PATH
 theirs=$(node -p 'require("semver/package.json").version' 2> /dev/null || :)
 if [ "$theirs" = 7.6.2 ]; then
     node "$top/js/tests/make-cases.cjs" | cmp -s - "$top/js/tests/cases.json" ||
-        fail "cases.json isn't what node-semver $theirs says"
+        fail "cases.json isn't what node-semver $theirs returns"
     node "$top/js/tests/differences.mjs" "$top/js/README.md" "$NODE_PATH/semver" ||
         fail "the README has another result of node-semver $theirs"
 else
@@ -67,8 +68,8 @@ if command -v tsc > /dev/null; then
     cp "$top/js/tests/types.ts" types.cts
     check_types() { tsc --strict --noEmit --target es2022 "$@" > "$work/log" 2>&1; }
     check_types --module node16 --moduleResolution node16 types.mts types.cts ||
-        { cat "$work/log" && fail 'tsc --strict refuses its types'; }
-    # A project that is written for `@types/semver`, once with the package as `semver`.
+        { cat "$work/log" && fail 'tsc --strict rejects its types'; }
+    # A project that is written for `@types/semver`, once with the package installed as `semver`.
     mkdir as-semver && cp "$top/js/tests/types-of-semver.ts" as-semver
     (cd as-semver && echo '{ "private": true }' > package.json &&
         npm install --silent "semver@file:../../$packed" > "$work/log" 2>&1 &&
@@ -76,7 +77,7 @@ if command -v tsc > /dev/null; then
             check_types --esModuleInterop --module "${modules%:*}" \
                 --moduleResolution "${modules#*:}" types-of-semver.ts || exit
         done) ||
-        { cat "$work/log" && fail 'its types refuse a project that is written for @types/semver'; }
+        { cat "$work/log" && fail 'a project that is written for @types/semver does not compile'; }
     types='types checked'
 fi
 echo "JavaScript package: $passed tests, $(($(wc -l < cases.json) - 2)) cases, $types, passed"

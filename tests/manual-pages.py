@@ -1,6 +1,6 @@
 #!/usr/bin/env python3
-"""Compares the pages of docs/manual with what mandoc lays out of the manuals of docs/man: they have
-the same words in the same order. It needs mandoc."""
+"""Checks that the pages in docs/manual have the same words in the same order as the manuals in
+docs/man, as mandoc lays these out. Needs mandoc."""
 
 import glob
 import os
@@ -26,7 +26,7 @@ def make_manuals_of_types(directory):
 
 
 def words_of_manual(path):
-    """The words that mandoc shows of a manual, but for its first and last line."""
+    """Returns the words that mandoc shows of a manual, without its first and last line."""
     command = ['mandoc', '-T', 'utf8', '-O', 'width=1000', path]
     shown = subprocess.run(command, capture_output=True, text=True, check=True).stdout
     text = '\n'.join(re.sub('.\b', '', shown).strip().splitlines()[1:-1])
@@ -36,7 +36,7 @@ def words_of_manual(path):
 
 
 def words_of_page(path):
-    """The words of a page, but for its title and what says of which manual it is made."""
+    """Returns the words of a page, without its title and the sentence that names its manual."""
     text = read(path).split('\n\n', 2)[2]
     parts = re.split(r'^ *```(?:text)?\n(.*?)^ *```\n', text, flags=re.M | re.S)
     for at in range(0, len(parts), 2):
@@ -45,7 +45,7 @@ def words_of_page(path):
 
 
 def plain(text):
-    """The text of Markdown without its marks."""
+    """Returns the text of Markdown without markup."""
     text = re.sub(r'^( *)- ', r'\1', re.sub(r'^#+ ', '', text, flags=re.M), flags=re.M)
     pieces = re.split(r'(``.*?``|`.*?`)', text, flags=re.S)
     for at, piece in enumerate(pieces):
@@ -59,7 +59,8 @@ def plain(text):
 
 
 def differs(page, made):
-    """Whether a page has other words than its manual, of which it prints the first ones."""
+    """Returns whether a page has other words than its manual. If so, prints the first ones that
+    differ."""
     manual = os.path.join(made, page[:-3])
     manual = words_of_manual(manual if os.path.exists(manual) else os.path.join(TOP, 'docs/man', page[:-3]))
     shown = words_of_page(f'docs/manual/{page}')

@@ -1,8 +1,8 @@
 #!/bin/sh
-# Tests `make archive` and debian/: what the archive and the Debian packages have, that they come out
-# the same each time, and that what is unpacked elsewhere runs, and serves a C program and a Python
-# one. It needs cargo, and has dpkg install nothing. Where the packages that debian/control builds with,
-# beside cargo and rustc, aren't there, Debian packages aren't tried.
+# Tests `make archive` and debian/: what the archive and the Debian packages contain, that they are
+# reproducible, and that what is unpacked elsewhere runs, and can be used from C and Python. Needs
+# cargo; dpkg doesn't install anything. Skips the Debian packages unless everything is installed
+# that debian/control builds with, except cargo and rustc.
 set -eu
 unset CDPATH
 cd "$(dirname "$0")/.."
@@ -10,7 +10,7 @@ cd "$(dirname "$0")/.."
 
 modules=lib/python3/dist-packages/semver_parser
 
-# The archive, made in another folder: the same to the byte.
+# The archive, made again in another directory, is the same byte for byte.
 archive_made_twice() {
     packages="$work/all packages"
     ends 0 make archive OUT="$packages"
@@ -21,7 +21,7 @@ archive_made_twice() {
     [ "$(ls -A "$packages")" = "$archive" ] || fail 'more than the archive is made'
 }
 
-# The Debian packages, made in two folders: the same to the byte.
+# The Debian packages, made in two directories, are the same byte for byte.
 packages_made_twice() {
     for folder in "$packages" "$work/again"; do
         cp -R "$checkout" "$folder/source"
@@ -33,14 +33,14 @@ packages_made_twice() {
     for file in $all; do cmp "$packages/$file" "$work/again/$file"; done
 }
 
-# The archive has one folder, and its files belong to root. What it has is found where it is
+# The archive has one directory, and its files belong to root. What is in it works wherever it is
 # unpacked.
 archive_serves() {
     mkdir "$work/un packed"
     tar -C "$work/un packed" -xzf "$packages/$archive"
-    [ "$(ls "$work/un packed")" = "${archive%.tar.gz}" ] || fail "the archive has not the one folder"
+    [ "$(ls "$work/un packed")" = "${archive%.tar.gz}" ] || fail "the archive has more than its one directory"
     [ "$(tar --numeric-owner -tvzf "$packages/$archive" | awk '{ print $2 }' | sort -u)" = 0/0 ] ||
-        fail 'a file of the archive belongs to another than root'
+        fail 'a file of the archive does not belong to root'
     tar -tzf "$packages/$archive" | LC_ALL=C sort -c
     unpacked="$work/un packed/${archive%.tar.gz}"
     holds "$unpacked" | grep -v "^${modules%/*}/.*\.py$" > "$work/stdout"
@@ -81,8 +81,8 @@ share/zsh/site-functions/_release-filter" stdout
     try_python "$unpacked" ''
 }
 
-# are_as_installed FOLDER LIBRARIES: the modes, the calls of the libraries, and the programs, which
-# have no names for a debugger.
+# are_as_installed DIRECTORY LIBRARIES: checks the modes, the functions of the libraries, and the
+# programs, which are stripped.
 are_as_installed() {
     same_calls "$1/$2/libsemver_parser.a"
     same_calls -D "$1/$2/libsemver_parser.so"
@@ -90,18 +90,18 @@ are_as_installed() {
         [ -z "$(nm "$file" 2> /dev/null)" ] || fail "$file isn't stripped"
     done
     [ -z "$(find "$1" -type d ! -perm 755)$(find "$1" ! -type l ! -type d ! -path '*/bin/*' ! -perm 644)" ] ||
-        fail "a file or folder of $1 has another mode"
+        fail "a file or directory of $1 has another mode"
     has_modules "$1"
     try_programs "$1/bin"
 }
 
-# has_modules FOLDER: the packages for Python, file by file.
+# has_modules DIRECTORY: compares the modules of the Python package, file by file.
 has_modules() {
     for file in $(cd python && find semver_parser -name '*.py'); do cmp "python/$file" "$1/${modules%/*}/$file"; done
 }
 
-# try_by_pkg_config FOLDER ROOT: a C program is compiled by what pkg-config tells, with the shared
-# library and with the static one.
+# try_by_pkg_config DIRECTORY ROOT: a C program can be compiled with the flags that pkg-config
+# prints, with the shared library and with the static one.
 try_by_pkg_config() {
     command -v pkg-config > /dev/null || { echo 'packages: no pkg-config, so its file is not tried' && return; }
     flags=$(PKG_CONFIG_SYSROOT_DIR=$2 PKG_CONFIG_PATH=$1/pkgconfig pkg-config --cflags --libs semver_parser)
@@ -111,8 +111,8 @@ try_by_pkg_config() {
     eval "try_library -static $flags"
 }
 
-# try_python FOLDER LIBRARIES: the package reads a version, by the library beside it, or by the one
-# that the system finds in the folder.
+# try_python DIRECTORY LIBRARIES: the package reads a version, with the library next to it, or with
+# the one that the system finds in the directory.
 try_python() {
     [ -s python/semver_parser/_versions.py ] && command -v python3 > /dev/null ||
         { echo 'packages: no python3, so the package for Python is not tried' && return; }
@@ -124,14 +124,14 @@ try_python() {
     ends 0 env PYTHONDONTWRITEBYTECODE=1 LD_LIBRARY_PATH="$2" "$1/bin/compare-requirements" --help
 }
 
-# field PACKAGE NAME TEXT: what the control file says.
+# field PACKAGE NAME TEXT: the field of the control file has to have this text.
 field() {
     dpkg-deb -f "$packages/$1" "$2" > "$work/stdout"
     has "$3" stdout
 }
 
-# is_whole PACKAGE FILES..: a Debian package, unpacked and not installed: its files beside those of
-# its documents, their sums and owners, and its version. `root` gets the files.
+# is_whole PACKAGE FILES..: unpacks a Debian package without installing it, and checks its files,
+# apart from its documents, their sums and owners, and its version. `root` has the files then.
 is_whole() {
     package=$1 name=${1%%_*} root="$work/${1%%_*}"
     dpkg-deb -R "$packages/$package" "$root"
@@ -140,7 +140,7 @@ is_whole() {
     (cd "$root" && md5sum --quiet -c DEBIAN/md5sums)
     [ "$(wc -l < "$root/DEBIAN/md5sums")" = "$(find "$root/usr" -type f | wc -l)" ] || fail 'a file has no sum'
     [ "$(dpkg-deb -c "$packages/$package" | awk '{ print $2 }' | sort -u)" = root/root ] ||
-        fail 'a file of the package belongs to another than root'
+        fail 'a file of the package does not belong to root'
     find "$root" -name '*.gz' -exec gzip -t {} +
     grep -q 'deal in the' "$root/usr/share/doc/$name/copyright" || fail 'a licence is missing'
     gzip -dc "$root/usr/share/doc/$name/changelog.gz" | sed -n '$p' > "$work/stdout"
@@ -151,7 +151,7 @@ is_whole() {
     cp -R "$root/usr" "$work/whole"
 }
 
-# What each package has, asks for and tells.
+# What each package contains, depends on, and says about itself.
 packages_have() {
     mkdir "$work/whole"
     arch=usr/lib/$triplet
@@ -210,7 +210,7 @@ usr/share/zsh/vendor-completions/_compare-requirements'
     field "$checkers" Depends "python3 (>= 3.9), python3-semver-parser (= $version)"
 }
 
-# asks_for_libc PACKAGE FILE..: no newer C library than its files do.
+# asks_for_libc PACKAGE FILE..: requires no newer C library than its files do.
 asks_for_libc() {
     package=$1
     shift
@@ -219,7 +219,7 @@ asks_for_libc() {
     has "libc6 (>= $newest)" stdout
 }
 
-# All together, as if they were installed below another root.
+# All packages together, as if they were installed below another root.
 packages_serve() {
     whole="$work/whole/usr"
     sed -n 's/^prefix=//p; s/^libdir=//p' "$whole/lib/$triplet/pkgconfig/semver_parser.pc" > "$work/stdout"
@@ -230,15 +230,15 @@ packages_serve() {
     try_python "$whole" "$whole/lib/$triplet"
 }
 
-# Debian's own test of packages, where it is there: it has nothing to say that no comment explains. What
-# looks like a misspelt word in the code of a program is none.
+# lintian, if it is installed, has nothing to report that isn't explained in a comment. What looks
+# like a misspelt word in the code of a program isn't one.
 lint() {
     command -v lintian > /dev/null || { echo 'packages: no lintian, so it is not asked' && return; }
     ends 0 lintian --allow-root -EI --pedantic --suppress-tags spelling-error-in-binary --fail-on error,warning,info,pedantic "$packages"/*.changes
 }
 
-# Where the time isn't told, a tool is missing, there is no directory to write to, or make is stopped,
-# nothing is made.
+# Nothing is made if the time isn't known, a tool is missing, there is no directory to write to, or
+# make is stopped.
 refused() {
     unset SOURCE_DATE_EPOCH
     why='make: cannot tell the time of the last commit: set SOURCE_DATE_EPOCH to seconds since 1970'

@@ -1,7 +1,8 @@
 #!/usr/bin/env python3
-"""Runs the commands of the programs that pages and manuals show: each prints what is written below it.
+"""Runs the commands that pages and manuals show with the programs. Each has to print what is shown
+below it.
 
-tests/page-examples.py [DIRECTORY]  takes the programs from a directory, else from the repository.
+tests/page-examples.py [DIRECTORY]  uses the programs in a directory, by default the repository.
 tests/page-examples.py --list       prints the commands.
 """
 import os
@@ -14,12 +15,12 @@ from typing import Iterator, List, Tuple
 TOP = os.path.dirname(os.path.dirname(os.path.abspath(__file__)))
 PROGRAMS = ('semver-parser', 'release-filter', 'compare-ranges')
 
-# How many examples there are at least: else they are not found.
+# The minimum number of examples; with fewer, they weren't found.
 LEAST = 8
 
 
 def shown(lines: List[str]) -> Iterator[Tuple[str, str]]:
-    """The commands of a block, each with the lines after it."""
+    """Yields the commands in a block, each with the lines after it."""
     command, output = '', []
     for line in [*lines, '$ ']:
         if line.startswith('$ '):
@@ -31,7 +32,7 @@ def shown(lines: List[str]) -> Iterator[Tuple[str, str]]:
 
 
 def of_page(text: str) -> Iterator[Tuple[str, str]]:
-    """The commands in the indented and fenced blocks of a page."""
+    """Yields the commands in the indented and fenced blocks of a page."""
     for block in re.findall(r'(?:^    .*\n)+', text, re.M):
         yield from shown([line[4:] for line in block.splitlines()])
     for block in re.findall(r'^```text\n(.*?)^```', text, re.M | re.S):
@@ -39,7 +40,7 @@ def of_page(text: str) -> Iterator[Tuple[str, str]]:
 
 
 def of_manual(text: str) -> Iterator[Tuple[str, str]]:
-    """The commands in the examples of a manual."""
+    """Yields the commands in the examples of a manual."""
     for block in re.findall(r'^\.EX\n(.*?)^\.EE', text, re.M | re.S):
         for escaped, plain in ((r'\(ha', '^'), (r'\(ti', '~'), (r'\(aq', "'"), (r'\-', '-'), (r'\e', '\\')):
             block = block.replace(escaped, plain)
@@ -47,7 +48,7 @@ def of_manual(text: str) -> Iterator[Tuple[str, str]]:
 
 
 def examples() -> Iterator[Tuple[str, str, str]]:
-    """The pages with their commands of the programs, and what each prints."""
+    """Yields the commands of the programs, each with its page and its output."""
     manuals = [os.path.join('docs/man', name) for name in sorted(os.listdir(os.path.join(TOP, 'docs/man')))]
     pages = [os.path.join('docs', name) for name in sorted(os.listdir(os.path.join(TOP, 'docs'))) if name.endswith('.md')]
     for page in ('README.md', 'rust/README.md', *pages, *manuals):
@@ -76,10 +77,10 @@ def main() -> int:
         count += 1
         if ran.stdout != output or ran.stderr:
             failed = True
-            print(f'{page}: {command}\n{ran.stdout}{ran.stderr}in place of\n{output}', end='')
+            print(f'{page}: {command}\n{ran.stdout}{ran.stderr}instead of\n{output}', end='')
     if count < LEAST:
         failed = True
-        print(f'{count} examples, and there have to be {LEAST}')
+        print(f'{count} examples, but there have to be at least {LEAST}')
     print('page examples: failed' if failed else f'page examples: {count}, passed')
     return 1 if failed else 0
 

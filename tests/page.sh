@@ -1,6 +1,6 @@
 #!/bin/sh
-# Opens the page of js/web in Chromium, types into it, and reads what it shows; and loads the package's
-# file for browsers there. With a file's name it also takes a picture.
+# Opens the page of js/web in Chromium, types into it, and reads what it shows. It also loads the
+# package's file for browsers there. With a file name, it takes a picture.
 #
 #   tests/page.sh [PICTURE]
 set -eu

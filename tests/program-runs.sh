@@ -1,7 +1,7 @@
 #!/bin/sh
-# Runs the program as a user does: tests/program-runs.sh PROGRAM. What each run writes to standard
-# output and to standard error, and its status, have to be those of program-runs.expected, to the
-# byte; else it prints what differs, and ends with status 1.
+# Runs the program as a user does: tests/program-runs.sh PROGRAM. Standard output, standard error
+# and the status of each run have to be as in program-runs.expected, byte for byte. Otherwise this
+# prints what differs, and exits with 1.
 set -eu
 program=$1
 expected=$(dirname "$0")/program-runs.expected
@@ -33,7 +33,8 @@ no_value() {
     run 'a text that looks like an option' "$program" '--help'
 }
 
-# The main of rust/src/bin writes a line to standard error for these; the kit's build does not.
+# For these, the main function in rust/src/bin writes a line to standard error; the kit's build
+# doesn't.
 asked_for_help() {
     run 'built by cargo: --help' "$program" '--help'
     run 'built by cargo: --version' "$program" '--version'
@@ -41,7 +42,7 @@ asked_for_help() {
     run 'built by cargo: --help, and a full output' onto_a_full_device '--help'
 }
 
-# Arguments that are more than one text, or can't be read: status 2.
+# More than one argument, or an argument that isn't UTF-8: status 2.
 refused_arguments() {
     run 'two arguments' "$program" '1.2.3' '4.5.6'
     run 'no UTF-8' "$program" "$(printf '1.2.3\377')"

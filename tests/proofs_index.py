@@ -1,5 +1,5 @@
-"""docs/PROOFS.md, made of the sources: each public call with what determines its result, its clauses, the definitions that
-they cite, and the files of lemmas that its proof imports."""
+"""Generates docs/PROOFS.md from the sources: for each public call what determines its result, its
+clauses, the definitions that they cite, and the files of lemmas that its proof imports."""
 import itertools
 import os
 import re
@@ -78,7 +78,7 @@ an error, what it appended and its counts are those of some of the first lines t
 
 
 def imports(text, crate):
-    """The names that a source imports from definitions, each with its file."""
+    """Returns the names that a source imports from definitions, each with its file."""
     found = {}
     for path, names in re.findall(r'ghost use Rattle\.(\w+\.specs\.[\w.]+)\.\{([^}]*)\}', text):
         if path.startswith('std.') or '.declared' in path:
@@ -94,7 +94,7 @@ def imports(text, crate):
 
 
 def function(lines, at):
-    """The text of a function's head, with its clauses, from its line on."""
+    """Returns the head of a function with its clauses, from the line where it begins."""
     indent = len(lines[at]) - len(lines[at].lstrip())
     taken = []
     for line in lines[at:]:
@@ -107,12 +107,14 @@ def function(lines, at):
 
 
 def parts(head):
-    """The premises and clauses of a head: whether it is a premise, its name if it has one, and its text."""
+    """Returns the premises and clauses of a head: the keyword, the name if there is one, and the
+    text."""
     return re.findall(r'\b(requires|ensures) ([a-z_0-9]* ?)\{(.*?)(?=\b(?:requires|ensures) [a-z_0-9]* ?\{|\Z)', head, re.S)
 
 
 def clauses(head, known):
-    """The names of the premises and clauses of a head; a lone one has none. A star marks one that cites a means of proof."""
+    """Returns the names of the premises and clauses of a head. A clause without a name is `one`. A
+    star marks a clause that cites a means of proof."""
     shown = []
     for kind, name, text in parts(head):
         steps = any(known.get(word, '').startswith('Steps/') for word in re.findall(r'\w+', text))
@@ -122,13 +124,13 @@ def clauses(head, known):
 
 
 def cited(head, known):
-    """The files of the definitions that the clauses of a head cite."""
+    """Returns the files of the definitions that the clauses of a head cite."""
     words = re.findall(r'[A-Za-z_][\w]*', re.split(r'\b(?:ensures|requires)\b', head, maxsplit=1)[-1])
     return sorted({known[word] for word in words if word in known})
 
 
 def lemmas(top, crate, folder):
-    """The files of lemmas that the proof of a function imports."""
+    """Returns the files of lemmas that the proof of a function imports."""
     found = set()
     base = os.path.join(top, 'crates', crate, 'proofs')
     for name in ('Answers.antt', 'Invariants.antt', 'Proof.antt'):
@@ -140,7 +142,7 @@ def lemmas(top, crate, folder):
 
 
 def first_sentence(comment):
-    """The first sentence of a doc comment, on one line."""
+    """Returns the first sentence of a doc comment, on one line."""
     lines = [line.strip()[3:].strip() for line in comment]
     text = ' '.join(itertools.takewhile(bool, lines))
     text = re.split(r'(?<=[a-z`)\]])\. (?=[A-Z`])|: (?=`|that|those|of )', text + ' ', maxsplit=1)[0].strip().rstrip('.:')
@@ -148,7 +150,7 @@ def first_sentence(comment):
 
 
 def row(top, crate, path, lines, at, name, comment, answer):
-    """The row of a call."""
+    """Returns the row of a call."""
     head = function(lines, at)
     module = path.split('/src/')[1][:-3]
     parts = name.split('::')
@@ -164,7 +166,7 @@ def row(top, crate, path, lines, at, name, comment, answer):
 
 
 def page(top, crates, what, sources, public, exported, traits, answer_of):
-    """The page. The arguments are what tests/documents.py knows of the tree."""
+    """Returns the page. The arguments are what tests/documents.py knows about the tree."""
     blocks = [HEAD]
     for crate in crates:
         modules, used = [], set()
@@ -189,7 +191,7 @@ def page(top, crates, what, sources, public, exported, traits, answer_of):
 
 
 def rows_of(top, crate, path, lines, public, exported, traits, answer_of):
-    """The rows of the calls of a source, in its order."""
+    """Yields the rows of the calls of a source, in its order."""
     comment, answer, inside = [], None, ''
     for at, line in enumerate(lines):
         bare = line.strip()

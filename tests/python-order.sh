@@ -1,7 +1,7 @@
 #!/bin/sh
-# Tests that what a call of the Python package returns doesn't depend on the calls before it, or on
-# other threads: random calls, in random order. It has make build the library. ./test python tests
-# the package itself.
+# Tests that what a call of the Python package returns doesn't depend on earlier calls or on other
+# threads, by random calls in random order. Builds the library with make. ./test python tests the
+# package itself.
 set -eu
 unset CDPATH
 cd "$(dirname "$0")/.."

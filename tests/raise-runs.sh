@@ -1,14 +1,15 @@
 #!/bin/sh
-# Runs one of the examples that raise a requirement: tests/raise-runs.sh COMMAND.. What each has to
-# print is read off the range: a version is replaced in it, with what docs/RANGES.md keeps of it.
+# Runs one of the examples that raise a requirement: tests/raise-runs.sh COMMAND.. The expected
+# output is the range in which one version is replaced. docs/RANGES.md says which form the new
+# version keeps.
 set -eu
 work=$(mktemp -d)
 trap 'rm -rf "$work"' EXIT
 trap 'exit 2' HUP INT TERM
 runs=0
 
-# run STATUS OUTPUT COMMAND..: runs a command. With status 0 it has to print this line, and with
-# another status a line on standard error.
+# run STATUS OUTPUT COMMAND..: runs a command. With status 0 it has to print this line, and with any
+# other status a line on standard error.
 run() {
     wanted=$1 status=0
     [ "$1" = 0 ] || : > "$work/wanted"
@@ -31,7 +32,7 @@ run 0 '~1.2 || ^2.0' "$@" '~1.2 || ^2.0' 2.5.1
 run 0 '<2' "$@" '<2' 1.2.3
 run 0 '1.2.3' "$@" 1.2.3 1.9.0 cargo
 run 0 ' || ' "$@" ' || ' 1.2.3
-# Its last term has another version then.
+# The last term gets another version.
 run 0 '~1.2 || ^3.1' "$@" '~1.2 || ^2.0' 3.1.4
 run 0 '^2.5' "$@" ^1.2 2.5.1
 run 0 '2' "$@" 1 2.5.1
@@ -43,7 +44,7 @@ run 0 '~>1.4.7' "$@" '~>1.2.3-rc.1+b5' ' v1.4.7+b6 '
 run 0 '1.2.4-rc.2' "$@" 1.2.3-rc.1 1.2.4-rc.2
 run 0 '>=1, = 2.0.* ' "$@" '>=1, = 1.2.* ' 2.0.7 cargo
 run 0 '>1	~>1.9' "$@" '>1	~>1.2' 1.9.1 crate-cargo
-# It can't be raised.
+# The range can't be raised.
 run 1 '' "$@" '>=3' 2.0.0
 run 1 '' "$@" '<=2' 3.0.0
 run 1 '' "$@" '1 || 1 - 2.x' 3.0.0

@@ -1,13 +1,13 @@
 #!/bin/sh
-# Runs the program as a user does: tests/release-filter-runs.sh PROGRAM. What each run writes to
-# standard output and to standard error, and its status, have to be those of
-# release-filter-runs.expected, to the byte; else it prints what differs, and ends with status 1.
+# Runs the program as a user does: tests/release-filter-runs.sh PROGRAM. Standard output, standard
+# error and the status of each run have to be as in release-filter-runs.expected, byte for byte.
+# Otherwise this prints what differs, and exits with 1.
 set -eu
 program=$1
 expected=$(dirname "$0")/release-filter-runs.expected
 . "$(dirname "$0")/running.sh"
 
-# given TEXT ARGUMENT..: runs the program on a text as standard input. The text may have the escapes
+# given TEXT ARGUMENT..: runs the program with a text as standard input. The text may have escapes
 # of printf.
 given() {
     text=$1
@@ -15,7 +15,7 @@ given() {
     printf "$text" | "$program" "$@"
 }
 
-# Versions of which each range below means some.
+# Versions, some of which are in each range below.
 versions='1.2.2\n1.2.3-rc\n1.2.3\n1.2.4-rc\n1.9.0+build\n2.0.0-0\n2.0.0-rc\n2.0.0\n'
 
 # Some line is copied: status 0.
@@ -34,11 +34,10 @@ some_lines() {
     run 'an empty range text' given '0.0.0\n' --as crate-cargo ''
 }
 
-# Versions of which each reading below means others.
+# Versions that tell the dialects below apart.
 read='1.2.0-a\n1.2.0\n1.2.3-b\n1.2.3\n1.2.9\n1.3.0-a\n1.3.0\n1.9.0\n2.0.0-a\n2.0.0\n3.1.0\n'
 
-# by_each_reading NAME RANGE: what a range means in each dialect. Without an option it
-# is Cargo's.
+# by_each_reading NAME RANGE: filters in each dialect. Without an option the dialect is Cargo's.
 by_each_reading() {
     name=$1
     shift
@@ -72,7 +71,7 @@ readings() {
     run 'a bound that the crate does not raise' given "$read" --as crate-npm '>18446744073709551615'
 }
 
-# `--releases` where the readings differ: each takes the releases of its own dialect.
+# `--releases` if the dialects differ: each takes the releases of its own dialect.
 releases_by_reading() {
     for reading in cargo npm crate-cargo crate-npm; do
         for range in '1.2' '>1.2' '>=1.2.3, <2'; do
@@ -83,11 +82,11 @@ releases_by_reading() {
 
 mixed='1.2.0\n1.2.5\n1.3.0-a\n1.3.0\n1.9.0\n2.0.0\n'
 
-# Digits of any size beside texts.
+# Identifiers with numbers of any size, and with letters.
 digits='1.0.0-10a\n1.0.0--\n1.0.0-100000000000000000000\n1.0.0-20000000000000000000\n1.0.0-18446744073709551616\n'
 
-# Version texts are read by the dialect of the reading. What is wanted is what node-semver 7 answers
-# by `satisfies` to npm, and what SemVer 2.0.0 has to Cargo.
+# Versions are read in the dialect. What is expected for npm is what `satisfies` of node-semver 7
+# returns, and for Cargo what SemVer 2.0.0 says.
 dialects() {
     run 'hyphens in a row to npm' given '7.0.0--canary.1.ab.0\n' --npm '7.0.0--canary.1.ab.0'
     run 'a v, and white space, to npm' given 'v1.2.0\n 1.2.0 \nvv1.2.0\nv 1.2.0\n=1.2.0\n' --npm '^1.2'
@@ -108,10 +107,10 @@ dialects() {
     run 'white space to Cargo, and strict' given '1.2.0\n 1.3.0\n' --strict '^1'
 }
 
-# Versions of SemVer 2.0.0 that are none to the crate.
+# Versions of SemVer 2.0.0 that are invalid in the crate's dialects.
 hyphens='1.0.0-a--b\n1.0.0--\n1.0.0-alpha-\n1.0.0+--\n1.2.8+b--x\n'
 
-# The one line of the greatest version.
+# The one line with the highest version.
 greatest_line() {
     run 'the greatest' given "$versions" --greatest '^1.2.3'
     run 'the greatest, and pre-releases' given "$versions" --greatest --as crate-cargo --pre '<2.0.0'
@@ -126,7 +125,7 @@ the_greatest_of_a_million() {
     { seq -f '1.2.%.0f' 1000000; echo 2.0.0; } | "$program" "$@"
 }
 
-# The one line of the least version.
+# The one line with the lowest version.
 least_line() {
     run 'the least' given "$versions" --least '^1.2.3'
     run 'the least, and pre-releases' given "$versions" --least --as crate-cargo --pre '>1.2.3 <2.0.0'
@@ -137,7 +136,7 @@ least_line() {
     run 'the least of none' given "$versions" --least '^3'
 }
 
-# The lines from the least version to the greatest.
+# The lines from the lowest version to the highest.
 sorted_lines() {
     run 'sorted by numbers' given '1.10.0\n1.9.0\n2.0.0\n1.2.10\n1.2.9\n' --sort '^1'
     run 'sorted, as SemVer 2.0.0 has them' given "$ordered" --sort --as crate-cargo --pre '>=1.0.0-0'
@@ -163,13 +162,13 @@ sorted_lines() {
 # The example of SemVer 2.0.0, section 11, in another order.
 ordered='1.0.0\n1.0.0-rc.1\n1.0.0-beta.11\n1.0.0-alpha.beta\n1.0.0-beta.2\n1.0.0-alpha\n1.0.0-beta\n1.0.0-alpha.1\n'
 
-# The first three and the last are told, and how many there are.
+# Prints the first three lines and the last one, and how many there are.
 a_million_backwards() {
     seq -f '1.2.%.0f' 1000000 -1 1 | "$program" "$@" > "$work/sorted"
     sed -n '1,3p;$p;$=' "$work/sorted"
 }
 
-# Lines whose versions stand after a prefix.
+# Lines whose version is after a prefix.
 tags() {
     run 'tags' given 'v1.2.0\n1.3.0\nv1.9.0\nw1.4.0\nv2.0.0\n' --prefix v '^1.2'
     run 'the greatest tag' given 'v1.2.0\n1.10.0\nv1.9.0\nv2.0.0\n' --prefix v --greatest '^1.2'
@@ -188,7 +187,7 @@ tags() {
     run 'sorted with two prefixes' given 'v1.9.0\n1.4.0\nr-1.2.0' --prefix v --prefix '' --prefix r- --sort '^1'
 }
 
-# Lines without a version: told if no line is written, and an error if these are strict.
+# Lines without a version: reported if no line is written, and an error with --strict.
 invalid_lines() {
     run 'no version in any line' given 'v1.2.0\nv1.3.0\n' --as crate-npm '^1.2'
     run 'no version in one of two lines' given '2.0.0\n\nx\n' '^1'
@@ -211,7 +210,7 @@ invalid_lines() {
     run 'strict, in pieces' in_pieces '1.2.0\n1.' '3.0\nx\n' '1.4.0\n' -- --strict '^1'
 }
 
-# Each line is written before more is read.
+# Each line is written before more input is read.
 at_once() {
     run 'buffered by lines' given "$versions" --line-buffered '^1.2.3'
     run 'the first line at once, buffered by lines' the_first_line_at_once --line-buffered '^1'
@@ -221,8 +220,8 @@ at_once() {
     run 'each byte in a piece, all sorted' in_pieces 1 . 4 . 0 '\n' 1 . 2 . 3 -- --sort '^1'
 }
 
-# The second line comes once the first has been read. A program that holds it back is ended after
-# five minutes.
+# The second line comes after the first one has been read. A program that holds it back is stopped
+# after five minutes.
 the_first_line_at_once() {
     mkfifo "$work/taken"
     { echo 1.2.3; cat "$work/taken"; } | timeout 300 "$program" "$@" | {
@@ -243,7 +242,7 @@ no_line() {
     run 'what is no version' given '1.2\nv1.2.3\n1.2.3 1.2.4\n01.2.3\n1.2.3-\n' '^1'
 }
 
-# Ends of lines, and what stands round a version.
+# Ends of lines, and what is around a version.
 ends_of_lines() {
     run 'line feeds, and none at the end' given '1.2.3\n1.2.4' '^1'
     run 'carriage returns and line feeds' given '1.2.3\r\nx\r\n1.2.4\r\n' '^1'
@@ -252,8 +251,8 @@ ends_of_lines() {
     run 'empty lines' given '\n\r\n\n1.2.3\n\n' '^1'
 }
 
-# A byte order mark at the front of the input is skipped. What begins as one, and is none,
-# isn't: it may stand in a prefix.
+# A byte order mark at the beginning of the input is skipped. A beginning of one isn't: it may be
+# part of a prefix.
 marks() {
     run 'a byte order mark' given '\357\273\2771.2.3\n1.2.4\n' '^1'
     run 'a byte order mark, and the greatest' given '\357\273\2771.2.4\n1.2.3\n' --greatest '^1'
@@ -274,8 +273,8 @@ marks() {
     run 'fewer bytes than a mark' given '\n' '^1'
 }
 
-# in_pieces PIECE.. -- ARGUMENT..: runs the program on pieces of a standard input that come one
-# after the other.
+# in_pieces PIECE.. -- ARGUMENT..: runs the program on pieces of standard input that come one after
+# the other.
 in_pieces() {
     pieces=''
     while [ "$1" != -- ]; do
@@ -289,7 +288,7 @@ in_pieces() {
     done | "$program" "$@"
 }
 
-# Input that means no good.
+# Malicious input.
 hostile_input() {
     run 'bytes that are no UTF-8' given '\377\n1.2.3\377\n\2571.2.3\n1.2.4\n' '^1'
     run 'a null byte' given '1.2.3\000\n1.2.4\n' '^1'
@@ -306,13 +305,13 @@ a_long_line() {
     { head -c 10000000 /dev/zero | tr '\0' a; printf '\n1.2.3\n'; } | "$program" "$@"
 }
 
-# It is skipped: only its first bytes are held.
+# The long line is skipped: only its first bytes are kept.
 a_skipped_line() {
     { head -c 100000000 /dev/zero | tr '\0' a; printf '\n1.2.3\n'; } | (ulimit -v 10000 && "$program" "$@")
 }
 
-# The bytes of the long version are counted, with its line feed. A text of more than 1,048,576 bytes
-# has no version.
+# Prints how many bytes the long version has, with its line feed. A string of more than 1,048,576
+# bytes isn't a version.
 a_long_version() {
     bytes=$1
     shift
@@ -327,12 +326,12 @@ a_million_empty_lines() {
     { head -c 1000000 /dev/zero | tr '\0' '\n'; echo 1.2.3; } | "$program" "$@"
 }
 
-# The lines that are copied are counted. The last is another major version.
+# Prints how many lines are copied. The last one has another major version.
 a_million_versions() {
     { seq -f '1.2.%.0f' 1000000; echo 2.0.0; } | "$program" "$@" | wc -l
 }
 
-# What can't be filtered by, read or written: status 2, and one line on standard error.
+# Invalid ranges, and what can't be read or written: status 2, and one line on standard error.
 errors() {
     run 'not a range' given "$versions" '|'
     run 'not a range, with a quote and a line feed' given "$versions" "$(printf '"\n1')"
@@ -367,7 +366,7 @@ given_onto_a_full_device() {
     echo 1.2.3 | onto_a_full_device "$@"
 }
 
-# A reader that closed the pipe ends the program quietly.
+# If the reader has closed the pipe, the program ends without a message.
 closed_pipes() {
     echo 1.2.3 > "$work/version"
     run 'a pipe without a reader' onto_a_closed_pipe '^1'
@@ -384,7 +383,7 @@ one_line_of_many() {
     "$program" "$@" < "$work/versions" | head -n 1
 }
 
-# The arguments: usage, and what is no use.
+# The usage, and arguments that are wrong.
 arguments() {
     run 'help' "$program" --help
     run 'help by a letter, and more' "$program" -h '|' '|'
@@ -405,7 +404,7 @@ arguments() {
     run 'no UTF-8' "$program" "$(printf '^1\377')"
 }
 
-# Names of options in full, which say the same as the short ones.
+# Long names of options, which mean the same as the short ones.
 long_names() {
     run 'a dialect' given "$read" --dialect npm '>1.2'
     run 'a dialect in one argument' given "$read" --dialect=npm '>1.2'
@@ -421,8 +420,8 @@ long_names() {
     run 'an unknown dialect in full' "$program" --dialect=deno '^1'
 }
 
-# in_files COMMAND..: in a folder with three files: the last line of the first one has no end, and the
-# second one begins with a byte order mark.
+# in_files COMMAND..: runs a command in a directory with three files. The last line of the first one
+# has no line end, and the second one begins with a byte order mark.
 in_files() {
     mkdir -p "$work/files"
     printf '1.2.0\n1.3.0' > "$work/files/first"
@@ -454,7 +453,7 @@ files() {
     run 'a mark alone, and another file' in_files given '\357\273\277' --count '*' - first
 }
 
-# The versions that a range doesn't contain, and those of one kind.
+# The versions that a range doesn't contain, and versions of one kind.
 other_versions() {
     run 'all others' given "$read" --invert '~1.2'
     run 'all others to npm' given "$read" --npm --invert '>1.2.3-a <2'
@@ -514,7 +513,7 @@ as_json() {
     run 'json, twice' given '' --json --json '^1'
 }
 
-# Lines that a prefix would take, beside lines that are kept: said at a terminal only.
+# Lines that would match with a prefix, next to lines that are kept: reported on a terminal only.
 at_a_terminal() {
     run 'a prefix that is missing, at no terminal' given 'v1.9.0\n1.3.0\n' --highest '^1'
     run 'a prefix that is missing' in_a_terminal 'v1.9.0\n1.3.0\n' --highest '^1'
@@ -572,8 +571,8 @@ forms() {
     run 'without prefixes twice' "$program" --strip-prefix --strip-prefix '^1'
 }
 
-# in_lines INPUT ARGUMENT..: what the program writes of records, with a line feed for each zero byte
-# and a % for each line feed.
+# in_lines INPUT ARGUMENT..: prints what the program writes about records, with a line feed for each
+# zero byte and a % for each line feed.
 in_lines() {
     input=$1
     shift
@@ -581,7 +580,7 @@ in_lines() {
     tr '\000\n' '\n%' < "$work/records"
 }
 
-# Options that don't fit together, and such as are given twice.
+# Options that don't fit together, and options that are given twice.
 unfit_options() {
     run 'an unknown dialect' "$program" --as deno '^1'
     run 'an unknown dialect in one argument' "$program" --as=deno '^1'
@@ -646,8 +645,8 @@ unfit_options() {
     unfit_options
 } > "$work/runs"
 compare
-# The version is that of the whole project.
+# The version is the version of the whole project.
 [ "$("$program" --version)" = "release-filter $(cat "$(dirname "$0")/../VERSION")" ] || {
-    echo "$program --version tells another version than the file VERSION"
+    echo "$program --version prints another version than the file VERSION has"
     exit 1
 }

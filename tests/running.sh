@@ -1,10 +1,10 @@
-# What the scripts that run a program share. Each sets `program`, the program that it runs, and
-# `expected`, the file of what its runs have to write; then it reads this file.
+# Shared by the scripts that run a program. Before they source this file, they set `program`, the
+# program to run, and `expected`, the file with the expected output of its runs.
 work=$(mktemp -d)
 trap 'rm -rf "$work"' EXIT
 trap 'exit 2' HUP INT TERM
 
-# run NAME COMMAND..: runs the command, and tells what it wrote and its status.
+# run NAME COMMAND..: runs the command, and prints its output and its status.
 run() {
     echo "== $1"
     shift
@@ -24,7 +24,7 @@ onto_a_full_device() {
     "$program" "$@" > /dev/full
 }
 
-# The reader closes its end of the pipe, and only then lets the program begin.
+# The reader closes its end of the pipe before the program begins.
 into_a_pipe_without_a_reader() {
     mkfifo "$work/gate"
     {
@@ -40,9 +40,10 @@ into_a_pipe_without_a_reader() {
     return "$(cat "$work/status")"
 }
 
-# comparable FILE: what it tells of the runs of one build. OPENED=yes is for what cargo builds. This
-# leaves out those with a closed standard stream, instead of which Rust's runtime opens /dev/null, and
-# that of --help as the kit builds it; without OPENED, those that are of what cargo builds.
+# comparable FILE: prints the runs that apply to one build. With OPENED=yes, this is cargo's build,
+# and two kinds of runs are left out: those with a closed standard stream, since Rust's runtime
+# opens /dev/null for it, and the one of --help as in the kit's build. Without OPENED, it leaves out
+# the runs of cargo's build.
 comparable() {
     awk -v opened="${OPENED-}" '
         /^== / {
@@ -52,7 +53,7 @@ comparable() {
         !out' "$1"
 }
 
-# compare: what the runs told in the file `runs` has to be what is expected, to the byte.
+# compare: compares the file `runs` with what is expected, byte for byte.
 compare() {
     comparable "$expected" > "$work/expected"
     comparable "$work/runs" > "$work/told"

@@ -1,10 +1,14 @@
 #!/bin/sh
-# Tests the Rust crate of rust/, which cargo builds: rust/src/proved is what tools/erase.py writes, to
-# the byte, and is of crates/ token by token; tools/erase.py stops at what it doesn't know, and at
-# what it would write wrongly; docs/ERASURE.md has each call of std; cargo's tests pass, with and
-# without the feature std; the programs write what the kit's build does; the documentation has no
-# warning, nor clippy, where it is there; each public item has an example; and what is packed passes
-# by itself.
+# Tests the Rust crate in rust/ with cargo:
+#
+# - rust/src/proved is what tools/erase.py writes, byte for byte, and has the tokens of crates/.
+# - tools/erase.py stops at what it doesn't know, and at what it would write wrongly.
+# - docs/ERASURE.md has each call of std.
+# - cargo's tests pass, with and without the feature std.
+# - The programs write what the kit's build writes.
+# - The documentation has no warning, and neither has clippy, if it is installed.
+# - Each public item has an example.
+# - What is packed passes its tests on its own.
 set -eu
 unset CDPATH
 cd "$(dirname "$0")/.."
@@ -14,7 +18,7 @@ trap 'exit 2' HUP INT TERM
 CARGO_NET_OFFLINE=true CARGO_TERM_COLOR=never
 export CARGO_NET_OFFLINE CARGO_TERM_COLOR
 
-# quietly WHAT COMMAND..: what the command writes is shown if it fails.
+# quietly WHAT COMMAND..: runs a command, and shows its output only if it fails.
 quietly() {
     what=$1
     shift
@@ -34,8 +38,8 @@ made_anew() {
     }
 }
 
-# stops_at LINE WHY: in a copy of the sources a line is put after the imports of a file, and
-# tools/erase.py has to name the file, that line and why.
+# stops_at LINE WHY: in a copy of the sources, puts a line after the imports of a file.
+# tools/erase.py has to name the file, that line and the reason.
 stops_at() {
     rm -rf "$work/copy" && mkdir -p "$work/copy/tools"
     cp tools/erase*.py tools/rattle_source.py "$work/copy/tools" && cp crates.txt "$work/copy"
@@ -50,7 +54,7 @@ stops_at() {
     wanted="tools/erase.py: $file:$((number + 1)): $2"
     [ "$status" = 1 ] && [ "$(cat "$work/log")" = "$wanted" ] && [ ! -e "$work/none" ] || {
         cat "$work/log"
-        echo "tools/erase.py is wanted to say: $wanted"
+        echo "tools/erase.py should have printed: $wanted"
         exit 1
     }
 }
@@ -115,7 +119,7 @@ cargo_tests() {
     }
 }
 
-# Each function by hand whose result it is a mistake to drop has #[must_use].
+# Each function by hand has #[must_use] if clippy says that its result shouldn't be dropped.
 says_what_must_be_used() {
     cargo clippy --quiet -- -W clippy::must_use_candidate > "$work/log" 2>&1
     ! grep -e '--> \(rust/\)\?src/[a-z_]*\.rs' "$work/log" | grep -v 'src/rattle_std\.rs' || {
@@ -124,7 +128,7 @@ says_what_must_be_used() {
     }
 }
 
-# What is packed builds and passes its tests where nothing else is.
+# What is packed builds and passes its tests in a directory that has nothing else.
 packed_by_itself() {
     OUT="$work" quietly 'make crate' make -s crate
     mkdir "$work/alone" && tar -C "$work/alone" -xzf "$work"/*.crate

@@ -1,6 +1,6 @@
 #!/bin/sh
-# Compiles and runs the example of rust/README.md that uses serde, and compares what it prints with
-# the lines below it. It needs cargo, and Debian's packages librust-serde-derive-dev and
+# Compiles and runs the example in rust/README.md that uses serde, and compares its output with the
+# lines below it. Needs cargo, and Debian's packages librust-serde-derive-dev and
 # librust-serde-json-dev.
 set -eu
 unset CDPATH
@@ -16,7 +16,7 @@ trap 'rm -rf "$work"' EXIT
 trap 'exit 2' HUP INT TERM
 mkdir "$work/src" "$work/.cargo"
 
-# block N: the lines of the Nth block of the section on serde.
+# block N: prints the lines of the Nth block in the section on serde.
 block() {
     awk -v n="$1" '/^## / { here = /serde/ } here && /^```/ { fences++; next }
         here && fences == 2 * n - 1' rust/README.md

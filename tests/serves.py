@@ -1,5 +1,6 @@
-"""The line `-- serves: CALL, CLAUSE` at the head of each file of lemmas: the nearest public call whose proof rests on the
-file, by imports and by calls between functions, and the clause whose answers name what is imported for it."""
+"""The line `-- serves: CALL, CLAUSE` at the head of each file of lemmas. CALL is the nearest public
+call whose proof rests on the file, by imports and by calls between functions. CLAUSE is the clause
+whose answers use what is imported from the file."""
 import os
 import re
 
@@ -15,7 +16,7 @@ def read(path):
 
 
 def lemma_files(top, crates):
-    """Of each file of lemmas its crate, its name and its text."""
+    """Yields the crate, name and text of each file of lemmas."""
     for crate in crates:
         folder = os.path.join(top, 'crates', crate, 'proofs')
         for name in sorted(os.listdir(folder)) if os.path.isdir(folder) else []:
@@ -24,7 +25,7 @@ def lemma_files(top, crates):
 
 
 def imported(text):
-    """The files of lemmas that a text imports, each with the names."""
+    """Returns the files of lemmas that a text imports, each with the imported names."""
     found = {}
     for crate, path, names in GROUP.findall(text):
         if path[0].isupper():
@@ -33,8 +34,9 @@ def imported(text):
 
 
 def functions(top, crate, sources):
-    """Of each function of a crate its module, its name with its type's, the lines of its head and body, its source, and its
-    first line if it is public; and its type if it is of a trait: in the order of the sources."""
+    """Yields the functions of a crate in the order of the sources: the module, the name with its
+    type, the lines of its head and body, the source, its first line if it is public, and its type
+    if it is of a trait."""
     for path in sources(crate):
         module, inside, type_of_trait = path.split('/src/')[1][:-3], '', ''
         lines = read(os.path.join(top, path)).split('\n')
@@ -54,7 +56,8 @@ def functions(top, crate, sources):
 
 
 def graph(top, crates, sources, public, exported):
-    """The public calls, and of each node what rests on it: files of lemmas, and functions by crate, module and name."""
+    """Returns the public calls; for each node what rests on it, where a node is a file of lemmas or
+    a function by crate, module and name; and the answers of each function."""
     above, calls, texts = {}, [], {}
     for crate, name, text in lemma_files(top, crates):
         for other in imported(text):
@@ -82,7 +85,7 @@ def graph(top, crates, sources, public, exported):
 
 
 def clause_of(answers, lemma):
-    """The clauses whose answers name what is imported from a file of lemmas."""
+    """Returns the clauses whose answers use what is imported from a file of lemmas."""
     names = imported(answers).get(lemma, set())
     found = []
     for answer in re.split(r'\n(?=pub )', answers):
@@ -93,7 +96,7 @@ def clause_of(answers, lemma):
 
 
 def served(top, crates, sources, public, exported):
-    """Of each file of lemmas the line that is to be at its head."""
+    """Yields for each file of lemmas the line that belongs at its head."""
     calls, above, texts = graph(top, crates, sources, public, exported)
     rank = {node: at for at, node in enumerate(calls)}
     for crate, name, _ in lemma_files(top, crates):
@@ -123,7 +126,7 @@ def path_of(top, crate, name):
 
 
 def errors(top, crates, sources, public, exported):
-    """What the heads of the files of lemmas should say, and don't."""
+    """Yields the files of lemmas whose head is wrong."""
     wanted = {(crate, name): line for crate, name, line in served(top, crates, sources, public, exported)}
     for crate, name, text in lemma_files(top, crates):
         line = wanted.get((crate, name))
@@ -134,7 +137,7 @@ def errors(top, crates, sources, public, exported):
 
 
 def write(top, crates, sources, public, exported):
-    """Puts the lines where they belong."""
+    """Writes the lines at the heads of the files."""
     for crate, name, line in list(served(top, crates, sources, public, exported)):
         path = path_of(top, crate, name)
         text = read(path)

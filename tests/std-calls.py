@@ -1,8 +1,8 @@
 #!/usr/bin/env python3
-"""Compares the calls of std in rust/src/proved with the table of docs/ERASURE.md, which says what
-Rust requires of each, in both directions: each call has a row, and each row a call. The table also
-has each name that tools/erase.py passes on as one of std. Then it drops a row, adds one, and adds
-calls, and fails if one of these isn't noticed."""
+"""Compares the calls of std in rust/src/proved with the table in docs/ERASURE.md, which says what
+Rust requires of each. Each call has a row, and each row has a call. The table also has each name
+that tools/erase.py passes on as one of std. Then it drops a row, adds one, and adds calls, and
+fails if one of these changes isn't noticed."""
 import glob
 import os
 import re
@@ -16,7 +16,7 @@ from erase_stops import (MACROS, PREFIX, SAME_CALLS, SAME_FUNCTIONS, SAME_MACROS
                          SAME_VALUES)
 
 BEGIN, END = '<!-- std -->\n', '\n<!-- end of std -->'
-# Words before a parenthesis that call nothing, and attributes.
+# Attributes, and words before a parenthesis that aren't calls.
 NO_CALLS = set('allow as cfg derive else fn for if in inline let match move pub return while'
                .split())
 
@@ -27,20 +27,20 @@ def read(path):
 
 
 def bare(text):
-    """Rust without comments, texts and characters."""
+    """Returns Rust code without comments, strings and characters."""
     parts = r'//[^\n]*|b?"(?:\\.|[^"\\])*"|b?\'(?:\\[^u]|\\u\{\w+\}|[^\'\\])\''
     return re.sub(parts, lambda found: '' if found[0].startswith('//') else '0', text, flags=re.S)
 
 
 def rows(page):
-    """The names in the first column of the table, as calls are written below."""
+    """Returns the names in the first column of the table, as calls are written below."""
     table = page[page.index(BEGIN) + len(BEGIN):page.index(END)].split('\n')[2:]
     return [name for row in table for name in re.findall(r'`([^`]+)`', row.split(' | ')[0])]
 
 
 def calls(texts, named):
-    """The calls, macros and functions that are passed on: those that no file defines, and of the
-    others those whose names are also of std."""
+    """Returns the calls, macros and functions that are passed on: those that no file defines, and
+    among the others those whose names std also has."""
     own = {name for text in texts for name in re.findall(r'\bfn (\w+)', text)}
     found, generic = set(), r'(?:::<[^;(){}]*>)?'
     for text in texts:
@@ -55,12 +55,12 @@ def calls(texts, named):
 
 
 def bound(text):
-    """The names of parameters and variables, which may be closures."""
+    """Returns the names of parameters and variables, which may be closures."""
     return {name for pair in re.findall(r'\b(\w+): |\blet (\w+) =', text) for name in pair}
 
 
 def passed_on():
-    """What tools/erase.py passes on as a call of std, or as one of rattle_std."""
+    """Returns what tools/erase.py passes on as a call of std, or of rattle_std."""
     macros = {f'{name}!' for name in SAME_MACROS} | {f'{PREFIX}{name}!' for name in MACROS}
     renamed = {PREFIX + name for name, _ in METHODS | METHODS_IN}
     renamed |= {f'{owner}::{PREFIX}{name}' for owner, name in FUNCTIONS}
@@ -68,7 +68,7 @@ def passed_on():
 
 
 def differences(page, texts):
-    """What the table, the calls and the lists have that one of the others hasn't."""
+    """Yields what one of the table, the calls and the lists has and another one doesn't."""
     named = rows(page)
     known, called = passed_on(), calls(texts, set(named) | passed_on())
     yield from (f'{name} has two rows' for name in sorted(named) if named.count(name) > 1)
@@ -81,7 +81,8 @@ def differences(page, texts):
 
 
 def unnoticed(page, texts):
-    """Of a row that is dropped, one that is added, and a call that is added: what isn't noticed."""
+    """Yields which of these isn't noticed: a row that is dropped, one that is added, and calls that
+    are added."""
     name, begin = rows(page)[0], page.index(BEGIN)
     dropped = page[:begin] + page[begin:].replace(f'`{name}`', '', 1)
     changes = [(dropped, texts, f'{name} is called and has no row'),

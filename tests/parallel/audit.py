@@ -1,7 +1,7 @@
 #!/usr/bin/env python3
-"""Runs the commands of the audit in docs/PROVED.md as they are written, one after the other, in a clone of the last
-commit, and prints each step with its commands and what they printed. Each has to print what is written below it. It is
-beside the gate, and needs what proves."""
+"""Runs the commands of the audit in docs/PROVED.md, one after the other, in a clone of the last
+commit, and prints each step with its commands and their output. Each has to print what the page
+shows below it. It isn't part of the gate, and needs the kit."""
 import os
 import re
 import shutil
@@ -13,7 +13,8 @@ TOP = os.path.dirname(os.path.dirname(os.path.dirname(os.path.abspath(__file__))
 
 
 def steps(page):
-    """The steps of the audit: of each its number, its sentence in bold, and its commands with what they print."""
+    """Yields the steps of the audit: the number, the sentence in bold, and the commands with their
+    output."""
     audit = re.search(r'^## An audit.*?(?=^## )', page, re.M | re.S)[0]
     for number, title, text in re.findall(r'^(\d)\. \*\*(.*?)\*\*(.*?)(?=^\d\. |\Z)', audit, re.M | re.S):
         commands = []
@@ -24,7 +25,7 @@ def steps(page):
 
 
 def is_printed(command, output, work):
-    """Whether a command prints what is written below it; it prints both if not."""
+    """Returns whether a command prints what is shown below it. If not, prints both."""
     print(f'   $ {command}', flush=True)
     ran = subprocess.run(['sh', '-c', command], cwd=work, capture_output=True, text=True, check=False)
     print(''.join(f'   {line}\n' for line in ran.stdout.splitlines()), end='', flush=True)

@@ -1,9 +1,9 @@
 #!/bin/sh
-# Tests the C library from C and from C++: the tables of cases, ranges that are read once, errors,
-# null with a length, each allocation refused in turn, two threads, and random calls in random order,
-# under valgrind and under the sanitizers of gcc, as clang compiles them, and as C++; and that the
-# header compiles without warning by each standard. It stands beside the gate, and needs gcc, g++,
-# clang and valgrind (Debian: apt-get install gcc g++ clang valgrind) beside cargo, which builds the
+# Tests the C library from C and from C++, under valgrind and under gcc's sanitizers, compiled by
+# clang and as C++: the tables of cases, ranges that are parsed once, errors, null with a length,
+# each allocation failing, two threads, and random calls in random order. Also checks that the
+# header compiles without a warning with each standard. It isn't part of the gate. Needs gcc, g++,
+# clang and valgrind (Debian: apt-get install gcc g++ clang valgrind), and cargo, which builds the
 # library if it isn't built.
 set -eu
 cd "$(dirname "$0")/../.."
@@ -21,7 +21,7 @@ again $library
 
 tests='rules readings sets errors replay refused nulls uses order'
 
-# linked_with NAME: what a test is linked with. $work, which mktemp makes, has no blanks.
+# linked_with NAME: prints what a test is linked with. $work, which mktemp makes, has no blanks.
 linked_with() {
     objects=$work/objects
     case $1 in
@@ -32,7 +32,7 @@ linked_with() {
     esac
 }
 
-# compile COMPILER FLAGS..: each test with the library.
+# compile COMPILER FLAGS..: compiles each test with the library.
 compile() {
     rm -rf "$work/objects"
     mkdir "$work/objects"
@@ -44,8 +44,8 @@ compile() {
     done
 }
 
-# run COMMAND..: each test by a command, which fails on any error of memory. valgrind and sanitizers
-# would count those errors that the test of nulls is about.
+# run COMMAND..: runs each test by a command, which fails on any memory error. Without a command it
+# also runs the test of nulls, whose errors valgrind and sanitizers would count.
 run() {
     for name in rules readings sets errors refused uses; do "$@" "$work/$name"; done
     [ $# != 0 ] || "$work/nulls"
@@ -53,7 +53,7 @@ run() {
     "$@" "$work/order" 600 1
 }
 
-# by_standards LANGUAGE COMPILER FLAG STANDARD..: without warning.
+# by_standards LANGUAGE COMPILER FLAG STANDARD..: compiles without a warning.
 by_standards() {
     language=$1 compiler=$2 flag=$3
     shift 3

@@ -1,6 +1,6 @@
-"""Holds the JSON of check-lock-file against the schema in its manual: of all files of python/cases,
-also of those that are refused, of a directory without any, and of known findings that no longer
-apply.
+"""Compares the JSON of check-lock-file with the schema in its manual: for all files in
+python/cases, including those that are rejected, for a directory without any, and for known findings
+that no longer apply.
 
 checkers-json.py CASES MANUAL KNOWN DIRECTORY
 """
@@ -14,13 +14,13 @@ from semver_parser.checks.check_lock_file import PROGRAM
 from semver_parser.checks.files import Refusal
 from semver_parser.checks.program import Misuse, outcome_of
 
-# A line of the schema: a key, several that have the same type, and the type.
+# A line of the schema: a key, or several that have the same type, and the type.
 LINE = re.compile(r"( *)([a-z_]+) +(objects|strings?\??|numbers?\??)(?: +\S.*)?")
 SIMPLE = {"string": str, "number": int}
 
 
 def schema_of(manual):
-    """The keys of the objects in the schema, by the ways to them, each with its type."""
+    """Returns the type of each key of the objects in the schema, by its path."""
     block = re.search(r"^\.SS JSON\n.*?^\.EX\n(.*?)^\.EE", manual, re.M | re.S).group(1)
     found, left = {}, []
     for line in block.replace("\\-", "-").splitlines():
@@ -35,7 +35,7 @@ def schema_of(manual):
 
 
 def errors_in(value, schema, way, seen):
-    """What of an object isn't as the schema has it."""
+    """Yields what is wrong with an object by the schema."""
     keys = {it[-1] for it in schema if it[:-1] == way}
     if list(value) != [it[-1] for it in schema if it[:-1] == way]:
         yield f"{way}: {sorted(keys.symmetric_difference(value)) or 'another order'}"
@@ -49,7 +49,7 @@ def errors_in(value, schema, way, seen):
 
 
 def errors_of(value, kind, schema, way, seen):
-    """What of a value isn't of a type."""
+    """Yields what is wrong with a value by its type."""
     if kind == "objects":
         for it in value:
             yield from errors_in(it, schema, way, seen)
@@ -64,7 +64,8 @@ def errors_of(value, kind, schema, way, seen):
 
 
 def outputs(cases, known, empty):
-    """The objects that the program prints of each file, and of all with known findings."""
+    """Yields the objects that the program prints for each file, and for all files with known
+    findings."""
     options = ["--json", "--strict", "--why"]
     files = [os.path.join(at, name) for at, _, names in os.walk(cases) for name in names]
     named = [it for it in sorted(files) if re.search(r"\.(json|lock|lockb|yaml)$", it)]
@@ -85,7 +86,7 @@ def main(cases, manual, known, empty):
             sys.exit(f"{errors}\n{text[:2000]}")
     unseen = sorted(set(schema) - seen)
     if unseen:
-        sys.exit(f"no output has {unseen}")
+        sys.exit(f"these keys are in no output: {unseen}")
     print(f"JSON of {number} files: passed")
 
 

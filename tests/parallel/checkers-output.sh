@@ -1,10 +1,11 @@
-# What `checkers` tests of check-lock-file beside what it finds: what it prints, which files it takes,
-# and what it leaves out. `check` is the program, and `here` the directory python/.
+# The tests of check-lock-file that `checkers` runs besides those of its findings: what it prints,
+# which files it takes, and what it leaves out. `check` is the program, and `here` is the directory
+# python/.
 
 has_toml() { python3 -c 'import tomllib' 2> /dev/null; }
 has_yaml() { python3 -c 'import yaml' 2> /dev/null; }
 
-# may_read FILE: whether Python has what the file needs; else the skipped file is named.
+# may_read FILE: returns whether Python has what the file needs. If not, prints that it is skipped.
 may_read() {
     case $1 in
     *Cargo.lock) has_toml || { echo "$1: skipped, since python3 is older than 3.11" && return 1; } ;;
@@ -12,12 +13,12 @@ may_read() {
     esac
 }
 
-# Annotations have paths from the root of the repository on.
+# Annotations have paths relative to the root of the repository.
 export GITHUB_WORKSPACE="$PWD"
 
 # ---- the formats
 
-# for_people FILE [--strict]: the sentences of a file of cases/, which are beside it.
+# for_people FILE [--strict]: compares the sentences for a file of cases/ with those next to it.
 for_people() {
     ! may_read "$1" || same "$1, for people" 1 /dev/null "cases/${1%.*}.text" /dev/null $check --quiet ${2:+"$2"} "cases/$1"
 }
@@ -48,7 +49,7 @@ echo 'cases/empty/yarn.lock: gone # known' > "$work/known"
 PYTHONPATH=. python3 "$top/tests/parallel/checkers-json.py" cases "$top/docs/man/check-lock-file.1" "$work/known" "$work/no-lock" ||
     exit 1
 
-# What --duplicates lists of files is in cases/duplicates/expected.
+# The output of --duplicates is in cases/duplicates/expected.
 duplicated='cases/duplicates/npm/package-lock.json cases/duplicates/yarn/yarn.lock cases/bun/right/bun.lock
     cases/deno/right-4/deno.lock cases/pnpm/right-9.yaml'
 if has_yaml; then
@@ -59,7 +60,7 @@ at=cases/duplicates/npm/package-lock.json
 sed -n "s|^$at: |$at::|p" cases/duplicates/expected | sed '1s/json::/json,line=12::/; s/^/::notice file=/' > "$work/lines"
 same 'notices of duplicates' 0 /dev/null "$work/lines" /dev/null $check --quiet --duplicates --format github $at
 
-# SARIF: what GitHub requires of it, and the same findings at the same lines as annotations.
+# SARIF: what GitHub requires, and the same findings on the same lines as in annotations.
 status=0
 $check --quiet --format sarif --strict cases/monorepo cases/unread.json cases/cut-off.json "$work/no-lock" \
     > "$work/sarif" 2> "$work/errors" || status=$?
@@ -92,7 +93,8 @@ cp cases/cut-off.json "$work/bad name%.json"
 (cd "$work" && "$here/$check" --format sarif 'bad name%.json' 2> "$work/errors" || :) | sed -n 's/.*"uri": "\(.*\)"/\1/p' | diff -u "$work/lines" -
 echo 'the address of a file in SARIF: passed'
 
-# annotated FILE: the annotations of a file of cases/, each at the line where its entry begins.
+# annotated FILE: compares the annotations for a file of cases/, each on the line where its entry
+# begins.
 annotated() {
     status=0
     $check --quiet --format github "cases/$1" > "$work/annotations" || status=$?
@@ -110,7 +112,7 @@ if has_yaml; then
         package.json,line=3 '17.0.1 does not satisfy ^18.0.0,' 'the project' > "$work/lines"
     same 'annotations of catalogs' 1 /dev/null "$work/lines" /dev/null $check --quiet --format github cases/pnpm/catalogs
 fi
-# A key whose colon is on another line, and one that is there twice, so its line isn't sure.
+# A key whose colon is on another line, and a key that is there twice, so its line isn't known.
 printf '%s\n' '{"lockfileVersion": 3, "packages": {"": {"dependencies": {"a": "2", "b": "2"}},' '"node_modules/a"' ':' \
     '{"version": "1.0.0"},' '"node_modules/b": {},' '"node_modules/b": {"version": "1.0.0"}}}' > "$work/lock"
 printf '::error file=standard input%s::%s 1.0.0 does not satisfy 2, required by the project\n' ',line=2' a '' b > "$work/lines"
@@ -122,7 +124,7 @@ same "GitHub's escapes" 1 /dev/null "$work/lines" /dev/null sh -c 'cd "$1" && ex
 echo "::error file=cases/cut-off.json::it isn't JSON: line 1 column 37" > "$work/lines"
 same 'the annotation of an error' 2 /dev/null "$work/lines" cases/cut-off.told $check --format github cases/cut-off.json
 
-# Below the root of a repository, and elsewhere than GitHub says.
+# Below the root of a repository, and with a root that GitHub didn't name.
 mkdir "$work/rooted" && git init -q "$work/rooted" && cp -R cases/monorepo/web "$work/rooted"
 echo '::error file=web/package.json,line=1::react ^18.2.0 is missing, required by the project' > "$work/lines"
 for variable in GITHUB_WORKSPACE= "GITHUB_WORKSPACE=$work/rooted" "GITHUB_WORKSPACE=$here"; do
@@ -131,9 +133,10 @@ for variable in GITHUB_WORKSPACE= "GITHUB_WORKSPACE=$work/rooted" "GITHUB_WORKSP
 done
 (cd "$work/rooted/web" && env GITHUB_WORKSPACE= "$here/$check" --quiet --format sarif yarn.lock || :) | grep -q '"uri": "web/package.json"'
 
-# ---- paths, repairs and sums
+# ---- paths, repairs and checksums
 
-# why STATUS FILE PATH..: the paths below the findings of a file of cases/, by --why.
+# why STATUS FILE PATH..: compares the paths that --why prints below the findings of a file of
+# cases/.
 why() {
     wanted=$1 file=$2
     shift 2
@@ -162,7 +165,7 @@ echo '::error file=cases/monorepo/web/package.json,line=1::react ^18.2.0 is miss
     > "$work/lines"
 same 'a path in an annotation' 1 /dev/null "$work/lines" /dev/null $check --quiet --why --format github cases/monorepo/web/yarn.lock
 
-# repaired FILE COMMAND: the line that says how to repair a file of cases/.
+# repaired FILE COMMAND: compares the line that says how to repair a file of cases/.
 repaired() {
     may_read "$1" || return 0
     folder=cases/$(dirname "$1")
@@ -171,7 +174,7 @@ repaired() {
     echo "how to repair $1: passed"
 }
 repaired stale/package-lock.json 'npm install'
-# advised FILE ADVICE..: what the lines on repairs of a file of cases/ say to change.
+# advised FILE ADVICE..: compares the lines that say what to change to repair a file of cases/.
 advised() {
     file=$1
     shift
@@ -206,7 +209,7 @@ echo 'sums: passed'
 
 # ---- bytes and characters
 
-# in_each_form TOLD FILE: a file that is refused, in each form.
+# in_each_form TOLD FILE: checks a file that is rejected with this message, in each format.
 in_each_form() {
     echo "check-lock-file: $2: $1" > "$work/told"
     for form in text tsv json github sarif; do
@@ -231,7 +234,7 @@ in_each_form "it isn't UTF-8: line 2" "$work/encoded"
 printf '# yarn lockfile v1\n\n"a\377@1":\n  version "1.0.0"\n' > "$work/encoded"
 in_each_form "it isn't UTF-8: line 3" "$work/encoded"
 
-# A version that looks like a conflict of git: the status is the same in each form.
+# A version that looks like a merge conflict: the status is the same in each format.
 if has_toml; then
     cp -R cases/monorepo/rust "$work/like-a-conflict"
     sed -i 's/"1.0.4"/"<<<<<<< 1.0.4"/' "$work/like-a-conflict/Cargo.lock"
@@ -243,7 +246,7 @@ if has_toml; then
     echo 'a version like a conflict, in each form: passed'
 fi
 
-# Characters that a terminal takes for more, of a lock file, of its name, and of known findings.
+# Characters that a terminal would interpret, in a lock file, in its name, and in known findings.
 mkdir "$work/controls"
 printf '{"lockfileVersion": 3, "packages": {"": {"dependencies": {"a\302\233\177": "1\342\200\256", "\\u001b[2J": "\342\200\250"}}}}' \
     > "$work/controls/a$(printf '\302\233')"
@@ -263,8 +266,8 @@ cat > "$work/terminal.py" <<'END'
 import os, pty, sys
 sys.exit(os.waitstatus_to_exitcode(pty.spawn(sys.argv[1:])))
 END
-# at_terminal NAME LINES ARGUMENT..: the program's lines at a terminal, each of which ends there in
-# a carriage return, too.
+# at_terminal NAME LINES ARGUMENT..: compares the program's lines on a terminal, where each ends
+# with a carriage return, too.
 at_terminal() {
     name=$1 lines=$2
     shift 2
@@ -286,7 +289,7 @@ at_terminal '--color auto' "$work/plain" env NO_COLOR=1 $terminal --color=auto c
 same '--color always' 1 /dev/null "$work/colored" /dev/null env NO_COLOR=1 $check --quiet --color always cases/monorepo/package-lock.json
 refused 'check-lock-file: unknown color: "red"; see check-lock-file --help' /dev/null $check --color red cases/missing.json
 
-# A pipe that gets its content after more than a second.
+# A pipe whose content comes after more than a second.
 mkfifo "$work/slow"
 { sleep 2 && cat cases/nothing-wrong.json; } > "$work/slow" &
 printf '\033[Kchecking 1 of 2: %s\033[Kchecking 2 of 2: %s\033[K' "$work/slow" cases/nothing-wrong.json > "$work/progress"
@@ -305,8 +308,8 @@ done > "$work/closing"
 diff -u cases/closing "$work/closing"
 echo 'closing lines: passed'
 
-# unchecked TOLD FILE LINES REST: nothing of a file is checked, which is an error with --strict; and
-# the rest of the closing line without it.
+# unchecked TOLD FILE LINES REST: nothing in a file is checked. With --strict this is an error;
+# without it, REST is the rest of the closing line.
 unchecked() {
     echo "check-lock-file: cases/unchecked/$2: nothing was checked of $1" > "$work/told"
     for option in --strict '--strict --quiet'; do
@@ -380,13 +383,13 @@ END
         rust/Cargo.lock 1.0.10 1.0.4 'app 0.1.0 requires itoa' > "$work/fields"
     in_repository 1 "$work/fields" /dev/null --format tsv rust package-lock.json
 fi
-# git that refuses to list files, and directories that can't be read. All capabilities of root are
-# dropped, as it could read them.
+# git that fails to list files, and directories that can't be read. All capabilities of root are
+# dropped, since root could read them.
 mkdir -p "$work/refused/shut" && cp cases/monorepo/package-lock.json cases/monorepo/package.json "$work/refused"
 chmod 0 "$work/refused/shut"
 unprivileged=
 [ "$(id -u)" != 0 ] || unprivileged='setpriv --bounding-set=-all --inh-caps=-all'
-# in_refused TOLD COMMAND..: runs a command there, whose error has to be that.
+# in_refused TOLD COMMAND..: runs a command there, which has to print this error.
 in_refused() {
     echo "$1" > "$work/told"
     shift
@@ -406,7 +409,7 @@ in_refused "check-lock-file: .: git doesn't list its files: fatal: detected dubi
 rm -r "$work/refused/.git" && echo 'gitdir: nowhere' > "$work/refused/.git"
 in_refused "check-lock-file: .: git doesn't list its files: fatal: not a git repository: $(cd "$work/refused" && pwd -P)/nowhere" "$here/$check"
 chmod 700 "$work/refused/shut"
-# Manifests, whose lock files are beside them or above.
+# Manifests whose lock files are next to them or further up.
 cat > "$work/lines" <<'END'
 package-lock.json: lodash 4.17.20 does not satisfy ^4.17.21, required by the project
 package-lock.json: a 2.0.0 does not satisfy ^1.0.0, required by packages/b
@@ -456,7 +459,7 @@ $check --quiet cases/monorepo/web/yarn.lock | sed 's|^|cases/monorepo/web/yarn.l
 same 'standard input and a file' 1 cases/aliases.json "$work/lines" /dev/null \
     $check --quiet - cases/monorepo/web/yarn.lock
 
-# The directories that patterns of workspaces find, as npm has them.
+# The directories that patterns of workspaces match, as in npm.
 mkdir -p "$work/patterns/packages/a/inner" "$work/patterns/packages/b" "$work/patterns/other/a" "$work/patterns/packages/.h"
 mkdir -p "$work/patterns/packages/a/node_modules/part" && ln -s ../../.. "$work/patterns/packages/a/inner/up"
 cut -f 1 cases/workspace-patterns | python3 -c 'import sys
@@ -498,7 +501,8 @@ if has_yaml; then
     same 'a file of pnpm without peers' 1 /dev/null "$work/fields" /dev/null $fields --no-peers cases/pnpm/wrong-9.yaml
 fi
 
-# allowed STATUS KNOWN LINES ARGUMENT..: the lock files of cases/monorepo beside known findings.
+# allowed STATUS KNOWN LINES ARGUMENT..: checks the lock files of cases/monorepo with known
+# findings.
 allowed() {
     status=$1
     printf "$2" > "$work/known.txt"

@@ -1,7 +1,8 @@
 #!/bin/sh
-# Runs check-lock-file and compare-requirements on the cases of python/cases, and compares what they
-# print with what is beside them. It installs nothing, is beside the gate, and needs cargo, a C
-# compiler, git and python3 with PyYAML (Debian: apt-get install cargo gcc git python3 python3-yaml).
+# Runs check-lock-file and compare-requirements on the cases in python/cases, and compares their
+# output with the files next to them. It installs nothing, and isn't part of the gate. Needs cargo,
+# a C compiler, git and python3 with PyYAML (Debian: apt-get install cargo gcc git python3
+# python3-yaml).
 set -eu
 top=$(dirname -- "$(dirname -- "$(dirname -- "$(readlink -f -- "$0")")")")
 cd "$top"
@@ -23,8 +24,8 @@ fields="$check --quiet --format tsv"
 python3 -W error -m unittest tests.test_checkers 2> "$work/log" || { cat "$work/log" && exit 1; }
 echo 'modules: passed'
 
-# checked STATUS FILE [--strict]: checks a file of cases/. Its fields are beside it, and the error,
-# if there is one; those of --strict in other files.
+# checked STATUS FILE [--strict]: checks a file of cases/. The expected lines, and the error if
+# there is one, are next to it; the lines with --strict have their own file.
 checked() {
     stored=cases/${2%.*}${3:+.strict}
     lines=$stored.expected told=$stored.told
@@ -33,10 +34,10 @@ checked() {
     same "${3:+$3 }$2" "$1" /dev/null "$lines" "$told" $fields ${3:+"$3"} "cases/$2"
 }
 
-# checked_as_named STATUS NAME: checks a Cargo.lock of cases/cargo-lock, as `checked`, in a copy in
-# which each Cargo.toml.case is Cargo.toml. For a dependency by `git = URL` cargo reads each Cargo.toml
-# of this repository, and prints an error for a manifest of another shape; one that is older than
-# 1.94 also prints one for TOML 1.1.
+# checked_as_named STATUS NAME: checks a Cargo.lock of cases/cargo-lock, as `checked` does, but in a
+# copy in which each Cargo.toml.case is named Cargo.toml. They aren't named so here, because for a
+# dependency by `git = URL` cargo reads each Cargo.toml of this repository: it prints an error for a
+# manifest that it can't use, and before 1.94 also for TOML 1.1.
 checked_as_named() {
     stored=cases/cargo-lock/$2 copy=$work/named/cases/cargo-lock/$2
     lines=$stored/Cargo.expected told=$stored/Cargo.told
@@ -48,8 +49,8 @@ checked_as_named() {
         sh -c 'cd "$1" && shift && exec "$@"' - "$work/named" "$PWD/"$fields "$stored/Cargo.lock"
 }
 
-# refused TOLD INPUT PROGRAM ARGUMENT..: runs a program on an input, which has to report that and to
-# print nothing.
+# refused TOLD INPUT PROGRAM ARGUMENT..: runs a program on an input. It has to report this error,
+# and to print nothing else.
 refused() {
     echo "$1" > "$work/told"
     input=$2
@@ -78,7 +79,7 @@ done
 for name in nothing-wrong canaries-right; do checked 0 "$name.json" --strict; done
 for name in cut-off another-file another-shape another-version; do checked 2 "$name.json"; done
 
-# ---- what cargo metadata writes
+# ---- the output of cargo metadata
 
 for name in workspace one-platform several-targets other-names canaries-right; do checked 0 "cargo/$name.json"; done
 for name in workspace other-names canaries-right; do checked 0 "cargo/$name.json" --strict; done
@@ -111,7 +112,7 @@ if python3 -c 'import tomllib' 2> /dev/null; then
     printf '[package]\nname = "a"\n[features]\nx = ["dep:y"]\n' > "$work/right/Cargo.toml"
     refused "check-lock-file: $work/right/Cargo.toml: it is no Cargo.toml: features: x: dep:y isn't there" \
         /dev/null $check "$work/right/Cargo.lock"
-    # refused_by_cargo WHY PACKAGE REST: has a Cargo.toml refused that Cargo refuses.
+    # refused_by_cargo WHY PACKAGE REST: checks a Cargo.toml that Cargo rejects, too.
     refused_by_cargo() {
         printf '[package]\nname = "a"\nversion = "0.1.0"\n%b\n%b\n' "$2" "$3" > "$work/right/Cargo.toml"
         refused "check-lock-file: $work/right/Cargo.toml: it is no Cargo.toml: $1" /dev/null $check "$work/right/Cargo.lock"
@@ -205,7 +206,7 @@ refused 'check-lock-file: standard input: merge conflict at line 1' "$work/confl
 echo 'all' > "$work/unknown"
 refused 'check-lock-file: standard input: it is no lock file that is known' "$work/unknown" $check -
 
-# ---- files that are made of those of npm and Cargo, on standard input
+# ---- files that are made from those of npm and Cargo, on standard input
 
 sed -f cases/from-npm/broken.sed cases/from-npm/package-lock.json > "$work/lock"
 same 'overrides of a named package.json' 1 "$work/lock" cases/from-npm/broken.expected /dev/null \
@@ -234,7 +235,7 @@ sed "s/\"version\": \"0.2.7\"/\"version\": \"$version\"/" cases/cargo/workspace.
 printf '%s\n' "^0.2	$version	app 0.1.0 requires plain-parts" "	$version	plain-parts	invalid-version" > "$work/lines"
 same 'a number of 5,000 digits' 1 "$work/graph" "$work/lines" /dev/null $fields -
 
-# ---- what is misused, and what can't be read
+# ---- wrong usage, and what can't be read
 
 good=cases/nothing-wrong.json told=check-lock-file:
 nines=$(printf '%05000d' 0 | tr 0 9)
@@ -269,7 +270,7 @@ for name in pnpm/right-9.yaml cargo-lock/right/Cargo.lock cargo/workspace.json; 
     refused "$told --package-json is for files of npm and yarn; see check-lock-file --help" /dev/null \
         $check --package-json cases/from-npm/package.json "cases/$name"
 done
-# refused_manifest WHY JSON: has a package.json refused.
+# refused_manifest WHY JSON: checks that a package.json is rejected.
 refused_manifest() {
     echo "$2" > "$work/package.json"
     refused "$told standard input: it is no package.json: $1" "$work/package.json" $check --package-json - $good
@@ -291,8 +292,8 @@ echo '{"resolutions": ["numbers"]}' > "$work/package.json"
 refused "$told standard input: it is no package.json: resolutions isn't an object" "$work/package.json" \
     $check --package-json - cases/yarn/classic/yarn.lock
 
-# has_help PROGRAM: its help and its version, also without the library, and at an output that can't
-# be written.
+# has_help PROGRAM: checks the help and the version, also without the library, and with an output
+# that can't be written.
 has_help() {
     "$1" --help > "$work/page"
     head -n 1 "$work/page" > "$work/usage"
@@ -313,7 +314,7 @@ same 'a reader that closes the pipe' 1 /dev/null /dev/null /dev/null sh -c '
     { status=0; "$@" || status=$?; echo "$status" > "$0"; } | :
     exit "$(cat "$0")"' "$work/status" $fields cases/package-lock.json
 
-# Who opens the pipe to write waits until the program has opened it to read.
+# Opening the pipe for writing waits until the program has opened it for reading.
 cat > "$work/interrupt.py" <<'END'
 import signal, subprocess, sys
 signal.signal(signal.SIGINT, signal.default_int_handler)
@@ -324,8 +325,8 @@ with open(sys.argv[2], "w"):
 END
 mkfifo "$work/pipe"
 same 'an interrupt' 0 /dev/null /dev/null /dev/null python3 "$work/interrupt.py" $check "$work/pipe"
-# without_library PROGRAM ARGUMENT..: ends as after any error without the library, also as pip installs
-# it.
+# without_library PROGRAM ARGUMENT..: without the library it ends as after any other error, also as
+# pip installs it.
 without_library() {
     entry=$(sed -n "s/^${1##*/} = \"\(.*\):\(.*\)\"$/from \1 import \2 as main/p" ../pyproject.toml)
     echo "${1##*/}: semver_parser needs its shared library, and found none that can be loaded. It looked for\
@@ -343,7 +344,7 @@ for program in $check $compare; do
     cp "$program" "$work/${program##*/}"
     refused "${program##*/}: No module named 'semver_parser'" /dev/null python3 -S "$work/${program##*/}" -h
 done
-# Another package of the name that is installed for the user.
+# Another package of this name that the user has installed.
 installed=$(PYTHONUSERBASE=$work/user python3 -m site --user-site) || :
 mkdir -p "$installed/semver_parser"
 echo 'raise ImportError("another package")' > "$installed/semver_parser/__init__.py"
@@ -362,7 +363,7 @@ sed -n '/^    \$/d; s/^    //p' "$work/examples" > "$work/lines"
 same "README.md's example" 0 /dev/null "$work/lines" cases/monorepo/closing \
     env -u SEMVER_PARSER_LIBRARY sh -c 'cd .. && . "$1"' - "$work/commands"
 
-# compared STATUS NAME ARGUMENT..: compares requirements, whose lines are in cases/requirements/NAME.
+# compared STATUS NAME ARGUMENT..: compares requirements. The lines are in cases/requirements/NAME.
 compared() {
     wanted=$1 lines=cases/requirements/$2
     shift 2
@@ -374,7 +375,7 @@ compared 1 package.json.expected --json $folder/old.json $folder/new.json
 { printf '\357\273\277' && cat $folder/old.json; } > "$work/marked"
 compared 1 package.expected "$work/marked" $folder/new.json
 
-# refused_as_manifest WHY FILE: has a file refused, which is no manifest.
+# refused_as_manifest WHY FILE: checks that a file is rejected because it isn't a manifest.
 refused_as_manifest() {
     refused "compare-requirements: $2: it is no package.json, pnpm-workspace.yaml or Cargo.toml$1" /dev/null $compare "$2" "$2"
 }
@@ -422,7 +423,7 @@ refused "compare-requirements: $work/tree/nowhere.json: both sides lack it" /dev
 refused "compare-requirements: HEAD..HEAD names two revisions, and HEAD is a third one; see compare-requirements --help" \
     /dev/null $compare --git HEAD..HEAD HEAD "$work/tree/package.json"
 
-# Directories: two, one in two revisions, and one in a revision and the work tree.
+# Directories: two of them, one in two revisions, and one in a revision and in the work tree.
 if python3 -c 'import tomllib, yaml' 2> /dev/null; then
     # below NAME STATUS ARGUMENT..: compares all manifests of cases/requirements/before and after.
     below() {

@@ -1,7 +1,7 @@
 #!/bin/sh
-# Builds and runs the examples over the library as it is installed into a temporary directory, and
-# compares what they print with the files beside them. It stands beside the gate, and needs gcc, make,
-# pkg-config and python3 (Debian: apt-get install gcc make pkg-config python3) beside cargo, which
+# Builds and runs the examples with the library as it is installed into a temporary directory, and
+# compares their output with the files next to them. It isn't part of the gate. Needs gcc, make,
+# pkg-config and python3 (Debian: apt-get install gcc make pkg-config python3), and cargo, which
 # builds what isn't built.
 set -eu
 top=$(dirname -- "$(dirname -- "$(dirname -- "$(readlink -f -- "$0")")")")
@@ -15,7 +15,7 @@ for tool in gcc make pkg-config python3; do
 done
 begin
 
-# quietly COMMAND..: runs a command, and shows what it wrote only where it fails.
+# quietly COMMAND..: runs a command, and shows its output only if it fails.
 quietly() {
     "$@" > "$work/log" 2>&1 || {
         cat "$work/log"
@@ -45,7 +45,7 @@ same 'C, two dialects' 2 lines /dev/null "$work/usage" $in_c npm cargo
 same 'C, invalid lines' 2 faulty-lines faulty-lines.npm faulty-lines.errors $in_c
 same 'C, invalid lines to the crate' 2 faulty-lines faulty-lines.crate-npm faulty-lines.crate-npm.errors $in_c crate-npm
 same 'C, no line' 0 /dev/null /dev/null /dev/null $in_c
-# A line that there is no memory for, an output that can't be written, and an input that can't be
+# A line that doesn't fit into memory, an output that can't be written, and an input that can't be
 # read are errors.
 long=$work/long
 head -c 100000000 /dev/zero | tr '\0' 1 > "$long"

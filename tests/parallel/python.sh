@@ -1,10 +1,14 @@
 #!/bin/sh
-# Tests the Python package: its unit tests, over the table of cases too, with the shared library
-# that `make install` puts, and with that of the wheel; its types, if mypy is there; and what the
-# build backend makes: the wheel, the archive of sources, and what `pip install -e .` installs, each
-# in a virtual environment of its own without a network. It installs nothing, is beside the gate, and
-# needs cargo, python3 and a C compiler (Debian: apt-get install cargo gcc python3 python3-venv).
-# PYTHON names another python3.
+# Tests the Python package:
+#
+# - its unit tests, including the table of cases, with the shared library that `make install`
+#   installs, and with the one in the wheel
+# - its types, if mypy is installed
+# - what the build backend makes: the wheel, the archive of sources, and what `pip install -e .`
+#   installs, each in its own virtual environment without a network
+#
+# It installs nothing, and isn't part of the gate. Needs cargo, python3 and a C compiler (Debian:
+# apt-get install cargo gcc python3 python3-venv). The variable PYTHON can name another python3.
 set -eu
 top=$(dirname -- "$(dirname -- "$(dirname -- "$(readlink -f -- "$0")")")")
 . "$top/tools/built.sh"
@@ -19,7 +23,7 @@ cd "$top/python"
 unset PYTHONPATH
 export PYTHONDONTWRITEBYTECODE=1
 
-# passes_with LIBRARY: the unit tests pass with a library.
+# passes_with LIBRARY: the unit tests have to pass with this library.
 passes_with() {
     SEMVER_PARSER_LIBRARY=$1 "$python" -W error -m unittest discover --start-directory tests \
         --top-level-directory . || refuse "the Python package failed with $1"
@@ -55,7 +59,7 @@ fi
 
 # ---- the wheel
 
-# installed ARGUMENT..: installs what pip is given into a new environment, without a network.
+# installed ARGUMENT..: installs with pip into a new environment, without a network.
 installed() {
     rm -rf "$work/environment"
     "$python" -m venv "$work/environment"
@@ -63,8 +67,8 @@ installed() {
         --no-index --no-cache-dir "$@" || refuse "pip does not install $*"
 }
 
-# works DIRECTORY: what was installed has a package, below the directory, and programs that work
-# elsewhere.
+# works DIRECTORY: what was installed has a package, below the directory, and its programs work from
+# another directory.
 works() {
     directory=$1
     cp "$top/python/cases/package-lock.json" "$work/lock.json"
@@ -80,7 +84,7 @@ works() {
     cd "$top/python"
 }
 
-# has_tag FILE PLATFORM NAME: of such a library, on such a system, a wheel has this tag and library.
+# has_tag FILE PLATFORM NAME: a wheel of this library, on this system, has this tag and file.
 has_tag() {
     rm -rf "$work/tagged" && mkdir "$work/tagged"
     made=$(_PYTHON_HOST_PLATFORM=${2-} python3 "$top/tools/make-wheel.py" "$1" "$work/tagged")
@@ -88,13 +92,14 @@ has_tag() {
     python3 -m zipfile -l "$work/tagged/$made" | grep -q "^semver_parser/$4 " || refuse "$made has no $4"
 }
 
-# Wheels for others than this system: by the head of the file, and else by sysconfig.
+# Wheels for other systems: by the header of the file, or else by sysconfig.
 tags() {
     cp "$top/$library" "$work/other.so"
     printf '\267\0' | dd of="$work/other.so" bs=1 seek=18 conv=notrunc 2> "$work/told"
     of_glibc=$(readelf -V "$work/other.so" | grep -o 'GLIBC_[0-9.]*' | sort -uV | tail -n 1 | tr . _)
     has_tag "$work/other.so" '' "manylinux_${of_glibc#GLIBC_}_aarch64" 'libsemver_parser\.so\.1'
-    # Python's own build for macOS may be for two processors, and for an older system than rustc's.
+    # Python's own build for macOS may be for two processors, and for an older system than rustc
+    # supports.
     printf '\317\372\355\376\014\0\0\001' > "$work/other.dylib"
     has_tag "$work/other.dylib" macosx-10.9-universal2 macosx_11_0_arm64 'libsemver_parser\.dylib'
     has_tag "$work/other.dylib" macosx-14.2-arm64 macosx_14_2_arm64 'libsemver_parser\.dylib'
@@ -111,7 +116,7 @@ tags() {
     [ "$status" = 1 ] && grep -q '^make-wheel: .* is not a shared library$' "$work/lines" || refuse "make-wheel: $(cat "$work/lines")"
 }
 
-# is_described_alike WHEEL OTHER: two wheels have the same metadata, files of licences and programs.
+# is_described_alike WHEEL OTHER: two wheels have the same metadata, licence files and programs.
 is_described_alike() {
     python3 - "$1" "$2" << 'END'
 import email, sys, zipfile
@@ -130,7 +135,7 @@ assert len(one[2]) == 2, one[0]
 END
 }
 
-# has_same_project: the reader of pyproject.toml for Python 3.9 reads it as Python's own does.
+# has_same_project: the reader of pyproject.toml for Python 3.9 returns the same as tomllib.
 has_same_project() {
     (cd "$top/tools" && python3 -c 'import sys, tomllib
 from python_backend.project import TOP, tables_of
@@ -138,7 +143,7 @@ text = (TOP / "pyproject.toml").read_text()
 assert tables_of(text) == tomllib.loads(text)')
 }
 
-# Wheels by setuptools have the same metadata.
+# Wheels made by setuptools have the same metadata.
 described_by_setuptools() {
     mkdir "$work/source"
     cp -RL "$top/python" "$top"/LICENSE-* "$work/source"
@@ -153,7 +158,7 @@ described_by_setuptools() {
     is_described_alike "$wheel" "$work"/by-setuptools/*.whl
 }
 
-# ends_without_cargo: pip says in one sentence that there is no cargo.
+# ends_without_cargo: without cargo, pip prints one sentence that says so.
 ends_without_cargo() {
     status=0
     env PATH=/nowhere "$work/environment/bin/python" -m pip --isolated --disable-pip-version-check \
@@ -186,7 +191,7 @@ assert requires("semver-parser-proved") == ["PyYAML; extra == \"pnpm\""], requir
 passes_with "$(find "$work/environment" -name 'libsemver_parser.so.*')"
 ends_without_cargo
 
-# The archive of sources, made twice, and the wheel that is built of it.
+# The archive of sources, made twice, and the wheel that is built from it.
 for directory in sources sources-again; do
     mkdir "$work/$directory"
     "$python" "$top/tools/make-wheel.py" --sdist "$work/$directory" > "$work/told"
@@ -199,7 +204,7 @@ cmp "$sources" "$work"/sources-again/*.tar.gz
     --wheel-dir "$work/of-sources" "$sources" || refuse 'pip builds no wheel of the archive of sources'
 cmp "$wheel" "$work"/of-sources/*.whl
 
-# In place, in a copy of the repository: a change of the modules counts at once.
+# An editable installation, in a copy of the repository: a change of a module takes effect at once.
 mkdir "$work/a clone" && tar -C "$work/a clone" --strip-components 1 -xzf "$sources"
 installed --editable "$work/a clone"
 works "$work/a clone"

@@ -1,7 +1,7 @@
 #!/bin/sh
-# Makes a release of the last commit twice, each in a clone of its own in another directory: the files
-# have to be the same to the byte, and those that SHA256SUMS has. It stands beside the gate, and needs
-# what `make release` does.
+# Makes a release of the last commit twice, each in its own clone in another directory. The files
+# have to be the same byte for byte, and SHA256SUMS has to list them. It isn't part of the gate.
+# Needs what `make release` needs.
 set -eu
 unset CDPATH
 cd "$(dirname "$0")/../.."

@@ -1,7 +1,8 @@
-# What the tests of programs beside the gate share. Each begins first, and so has the folder `work`.
+# Shared by the tests of programs that aren't part of the gate. They call `begin` first, which makes
+# the directory `work`.
 
-# same NAME STATUS INPUT OUTPUT ERRORS COMMAND..: runs a command on an input, which has to end with
-# the status, and to write the output, and the errors to standard error.
+# same NAME STATUS INPUT OUTPUT ERRORS COMMAND..: runs a command on an input. It has to exit with
+# the status, write the output, and write the errors to standard error.
 same() {
     name=$1 wanted=$2 input=$3 output=$4 errors=$5
     shift 5
@@ -10,7 +11,7 @@ same() {
     diff -u "$output" "$work/output"
     diff -u "$errors" "$work/errors"
     [ "$status" = "$wanted" ] || {
-        echo "$name: status $status in place of $wanted"
+        echo "$name: status $status instead of $wanted"
         exit 1
     }
     echo "$name: passed"
