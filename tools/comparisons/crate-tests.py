@@ -1,10 +1,10 @@
-"""Runs the Rust crate's own tests and examples against rust/: python3 tools/comparisons/crate-tests.py SOURCES WORK.
+"""Runs the tests and examples of the original crate against rust/: crate-tests.py SOURCES WORK.
 
-SOURCES is the folder `src` of the crate semver-parser, as Debian's librust-semver-parser-dev has it. In
-the folder WORK a project is made whose Cargo.toml asks for semver-parser by its name, and has
-rust/ in its place; its tests are those of the crate, unchanged, each under a module in which its
-`use super::*` finds what it found in the crate. Of pest, which the tests of ranges call, a stand-in
-reads the text by RangeSet::parse. The crate's program is compiled, too, and has to print the same.
+SOURCES is the directory `src` of the crate semver-parser, from Debian's librust-semver-parser-dev.
+In the directory WORK this makes a project that depends on semver-parser by its name, but gets rust/
+instead. Its tests are the crate's own, unchanged, each in a module in which its `use super::*`
+finds what it found in the crate. The tests of ranges call pest; a stand-in for it parses the text
+with RangeSet::parse. The crate's program is compiled and run, too.
 """
 
 import os
@@ -15,7 +15,7 @@ import sys
 SOURCES, WORK = sys.argv[1:]
 TOP = os.path.dirname(os.path.dirname(os.path.dirname(os.path.realpath(__file__))))
 
-# What `super` has for the tests of a module.
+# What `super` contains for the tests of a module.
 FOUND = {
     "lexer": "pub use semver_parser::lexer::{self, *};\npub use self::Error::*;\npub use self::Token::*;",
     "range_set": "pub use semver_parser::*;",
@@ -61,7 +61,7 @@ def source(name):
 
 
 def tests_of(module):
-    """The tests of a module of the crate, in a module of their own."""
+    """Returns the tests of a module of the crate, in a module of their own."""
     text = source(f"{module}.rs")
     if "#[cfg(test)]\nmod tests {" not in text:
         return ""
@@ -72,7 +72,7 @@ def tests_of(module):
 
 
 def examples():
-    """The examples in the documentation, each as a test."""
+    """Yields the examples in the documentation, each as a test."""
     for file in sorted(os.listdir(SOURCES)):
         found = re.findall(r"//[/!] ```(?:rust)?\n(.*?)//[/!] ```", source(file), flags=re.S) if file.endswith(".rs") else []
         for place, example in enumerate(found):

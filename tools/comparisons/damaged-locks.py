@@ -1,11 +1,11 @@
 #!/usr/bin/env python3
-"""Runs the checkers on damaged copies of lock files and manifests, and reports each exception that
-is no refusal, and each status but 0, 1 and 2.
+"""Runs the checkers on damaged copies of lock files and manifests, and reports each unexpected
+exception, and each status except 0, 1 and 2.
 
-damaged-locks.py COUNT SEED: makes COUNT changed copies of the files of python/cases. Of each a piece
-is cut off, bytes are changed, lines are swapped, or a value of JSON, YAML or TOML gets another type.
-A lock file is checked with its manifests beside it, in a random format; a manifest is compared with
-what it was. It prints each error with what makes it again, and ends with status 1 if there is one.
+damaged-locks.py COUNT SEED makes COUNT damaged copies of the files in python/cases. It cuts off a
+piece, changes bytes, swaps lines, or gives a value in JSON, YAML or TOML another type. A lock file
+is checked with its manifests next to it, in a random format; a manifest is compared with its
+original. Prints each error with the command that reproduces it, and exits with 1 if there is one.
 """
 import json
 import os
@@ -42,13 +42,13 @@ TOML_VALUES = (
 
 
 def cut(draw, text):
-    """A text without its end, or its beginning, or a piece."""
+    """Returns a text without its end, its beginning or a piece."""
     start, end = sorted(draw.randrange(len(text) + 1) for _ in range(2))
     return draw.choice((text[:start], text[end:], text[:start] + text[end:]))
 
 
 def with_other_bytes(draw, text):
-    """A text in which some bytes are others."""
+    """Returns a text in which some bytes are changed."""
     changed = bytearray(text)
     for _ in range(draw.randrange(1, 5)):
         if changed:
@@ -57,7 +57,7 @@ def with_other_bytes(draw, text):
 
 
 def with_other_lines(draw, text):
-    """A text in which lines are swapped, missing or there twice."""
+    """Returns a text in which lines are swapped, missing or repeated."""
     lines = text.split(b"\n")
     one, other = (draw.randrange(len(lines)) for _ in range(2))
     kind = draw.randrange(3)
@@ -71,7 +71,7 @@ def with_other_lines(draw, text):
 
 
 def places_in(value, found):
-    """The containers of a value and the keys in them."""
+    """Returns the keys in a value and in the values below it, each with its container."""
     inside = value.items() if isinstance(value, dict) else enumerate(value) if isinstance(value, list) else ()
     for key, inner in inside:
         found.append((value, key))
@@ -80,7 +80,7 @@ def places_in(value, found):
 
 
 def with_other_types(draw, text):
-    """A text of JSON, YAML or TOML in which values are others."""
+    """Returns a text in JSON, YAML or TOML in which values are replaced."""
     if text.lstrip()[:1] == b"{":
         value = json.loads(text)
         dump = json.dumps
@@ -112,7 +112,8 @@ DAMAGES = (cut, with_other_bytes, with_other_lines, with_other_types, with_other
 
 
 def status_of(program, arguments):
-    """The status of a program, whose lines can be written. An exception that is no refusal goes on."""
+    """Returns the status of a program. Fails if its output can't be encoded. An exception that
+    isn't a Refusal or a Misuse is passed on."""
     try:
         outcome = outcome_of(program, arguments)
     except (Misuse, Refusal) as error:
@@ -123,7 +124,8 @@ def status_of(program, arguments):
 
 
 def commands_for(draw, path, whole):
-    """What is run on a file that was damaged: on a manifest both programs, if a lock file is beside it."""
+    """Returns the commands for a damaged file: for a manifest both programs, if a lock file is next
+    to it."""
     folder, name = os.path.split(path)
     chosen = [it for it in MAY_GIVE if draw.randrange(4) == 0]
     options = ["--format", draw.choice(FORMATS), *chosen]
@@ -141,7 +143,7 @@ def commands_for(draw, path, whole):
 
 
 def sources():
-    """The files of the cases that may be damaged."""
+    """Yields the files of the cases that may be damaged."""
     for folder, _, names in os.walk(CASES_COPY):
         for name in names:
             if name in MANIFESTS or re.search(r"\.(json|toml|yaml|lock|lockb)$", name):

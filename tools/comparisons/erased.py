@@ -1,10 +1,10 @@
-"""Compares the kit's build with cargo's: python3 tools/comparisons/erased.py KIT CARGO FILTER FILTER COUNT SEED.
+"""Compares the kit's build with cargo's: erased.py KIT CARGO FILTER FILTER COUNT SEED.
 
-KIT and CARGO are the program of cases as the kit and as cargo build it, each a command; the two FILTERs are
-release-filter so built. COUNT random texts of versions, ranges and lines are made by the seed, each
-read by one call of the table of cases, in every dialect and by every rule in turn; and texts of lines
-are filtered with random options. Both write the same to the byte, or the first difference is
-printed, and it ends with status 1.
+KIT and CARGO are the commands of the program of cases as the kit and as cargo build it. The two
+FILTERs are release-filter, built in the same two ways. From the seed, this makes COUNT random texts
+of versions, ranges and lines. Each is read by one random call of the table of cases, in a random
+dialect and by a random rule. It also filters texts of lines with random options. Both builds have
+to print the same, byte for byte. Otherwise it prints the first difference, and exits with 1.
 """
 
 import random
@@ -38,7 +38,7 @@ def number(chance):
 
 
 def partial(chance):
-    """A version, or a part of one, now and then with a character that it can't have."""
+    """Returns a version or a part of one, sometimes with a character that it can't have."""
     parts = [number(chance) if chance.random() < 0.9 else chance.choice("xX*") for _ in range(chance.choice((1, 2, 3, 3, 3, 3, 4)))]
     text = ".".join(parts)
     for mark in "-+":
@@ -81,7 +81,7 @@ def written(command, given):
 
 
 def same(what, kit, cargo, given):
-    """Ends at the first difference."""
+    """Exits at the first difference."""
     if kit == cargo:
         return
     for line, wanted, found in zip(given.splitlines(), kit[0].splitlines(), cargo[0].splitlines()):

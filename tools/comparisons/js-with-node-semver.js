@@ -1,11 +1,15 @@
-// Compares the package of js/ with node-semver: `node js-with-node-semver.js PACKAGE COUNT SEED` makes
-// COUNT pairs of ranges and versions, by the grammar, changed at a place, and at the limits of lengths
-// and numbers, and makes each call of node-semver with them, with and without `includePrerelease`, and
-// some with what was read of them. It prints the first difference, and then ends with status 1.
+// Compares the package in js/ with node-semver:
 //
-// What docs/GRAMMAR.md, docs/MEANING.md and js/README.md list is counted by kind: texts that node-semver reads by
-// accident, digits above 2^53, which it compares as floats, and what it says of two ranges by their
-// comparators.
+//     node js-with-node-semver.js PACKAGE COUNT SEED
+//
+// makes COUNT pairs of ranges and versions: by the grammar, with one change, and at the limits of
+// lengths and numbers. It makes each call of node-semver with them, with and without
+// `includePrerelease`, and some with the parsed objects. It prints the first difference, and then
+// exits with 1.
+//
+// Known differences, which docs/GRAMMAR.md, docs/MEANING.md and js/README.md list, are counted by
+// kind: texts that node-semver reads by accident, digits above 2^53, which it compares as floats,
+// and its results for two ranges, which it computes from their comparators.
 'use strict'
 
 const path = require('path')
@@ -29,7 +33,7 @@ function identifiers (random) {
   return Array.from({ length: random.of([1, 1, 2, 3]) }, () => random.of(IDENTIFIERS)).join('.')
 }
 
-// A version, often one that is none.
+// A version, often an invalid one.
 function version (random) {
   const numbers = Array.from({ length: random.of([3, 3, 3, 3, 3, 3, 3, 2, 4]) }, () => random.of(random.below(3) ? NUMBERS.slice(0, 4) : NUMBERS))
   const pre = random.below(2) ? '' : `-${identifiers(random)}`
@@ -40,7 +44,7 @@ function version (random) {
   return whole.slice(0, at) + random.of([...'01.-+av= x', '\ud800', 'ä']) + whole.slice(at + random.below(2))
 }
 
-// What each library reads by a class of its own.
+// What each library parses with one of its own classes.
 const read = (name, ...values) => ({
   by: (library) => new library[name](...values), toJSON: () => `new ${name}(${JSON.stringify(values)})`
 })
@@ -97,7 +101,7 @@ function compareVersions (random, one, other) {
   for (const options of [{}, { rtl: true }, { includePrerelease: true }]) compareCall('coerce', [string, options], isLarge([string]))
 }
 
-// Whether both read a range, or neither; how else is counted.
+// Whether both read a range, or neither does. Known differences are counted.
 function isRead (range, options) {
   const [wanted, found] = [semver, ours].map((library) => library.validRange(range, options) !== null)
   if (wanted === found) return wanted
@@ -107,7 +111,7 @@ function isRead (range, options) {
   return false
 }
 
-// A range that is written is read back, with the same options, as the same versions.
+// A range that is printed has to be read back, with the same options, as the same versions.
 function readBack (range, options, versions) {
   const written = ours.validRange(range, options)
   for (const one of versions) {
@@ -141,13 +145,13 @@ function compareRange (random, range) {
   }
 }
 
-// Whether node-semver has to say of a range what the sets say: if it has no pre-release, and each of
-// its parts some version.
+// Whether node-semver has to return the same for a range as the sets: if it has no pre-release, and
+// each of its parts matches some version.
 const isPlain = (range) => !/\d-/.test(range) && plain(range) === range && !LARGE.test(range) &&
   new semver.Range(range).set.every((comparators) => semver.minVersion(comparators.join(' ')) !== null)
 
-// Whether each part of a range has one lower bound at most, and one upper one: node-semver asks each
-// comparator whether a version is outside.
+// Whether each part of a range has at most one lower and one upper bound. node-semver checks each
+// comparator on its own when it decides whether a version is outside.
 const isOfBounds = (range) => ours.toComparators(range).every(([one, other = '<', third]) =>
   third === undefined && (other === '<' || (/^>/.test(one) && /^</.test(other))))
 

@@ -1,10 +1,10 @@
-// Compares which versions a range takes in to Cargo and npm, by versions of their grammars.
+// Compares which versions of each tool's grammar are in a range, for Cargo and for npm.
 //
-// `node kept-with-tools.js PROGRAM CARGO COUNT SEED`, where PROGRAM is the built `release-filter`,
-// and CARGO the built `versions-by-cargo-semver`. It makes COUNT texts for each tool, a thousand for
-// each range, most of them versions that the crate's own grammar refuses. PROGRAM has to write
-// those lines that `satisfies` of node-semver, or `matches` of the crate `semver`, takes in. It
-// prints the first difference, and then ends with status 1.
+// `node kept-with-tools.js PROGRAM CARGO COUNT SEED`: PROGRAM is the built `release-filter`, and
+// CARGO the built `versions-by-cargo-semver`. It makes COUNT texts for each tool, a thousand for
+// each range; most are versions that the crate's own grammar rejects. PROGRAM has to write the
+// lines that satisfy the range by `satisfies` of node-semver, or by `matches` of the crate
+// `semver`. It prints the first difference, and then exits with 1.
 'use strict'
 
 const semver = require('semver')
@@ -32,7 +32,7 @@ function line (random) {
   return blank(random) + sign + version + blank(random)
 }
 
-// A comparator of three numbers, or of fewer without a pre-release.
+// A comparator with three numbers, or with fewer and no pre-release.
 function comparator (random) {
   const sign = random.of(['', '=', '<', '<=', '>', '>=', '>=', '~', '^', '^'])
   const stated = random.of([3, 3, 3, 3, 2, 1])
@@ -59,7 +59,7 @@ const TOOLS = {
   }
 }
 
-// What the crate `semver` answers of a requirement and each text: `none` where it reads either not.
+// What the crate `semver` returns for a requirement and each text: `none` if either is invalid.
 function asked (cargo, range, lines) {
   const escaped = (of) => of.replace(/\\/g, '\\\\').replace(/\t/g, '\\t')
   const input = lines.map((of) => `${range}\t${escaped(of)}\n`).join('')
@@ -73,7 +73,8 @@ function compare (program, cargo, tool, count, random) {
   const counts = { ranges: 0, kept: 0 }
   for (let left = count; left > 0; left -= LINES) {
     const of = range(random)
-    // A first line of its own: a byte order mark at its front would be dropped.
+    // The first line isn't a version, since a byte order mark at the beginning of the input is
+    // skipped.
     const lines = ['first', ...listOf(random, LINES, line)]
     const input = lines.map((of) => of + '\n').join('')
     const ran = spawnSync(program, ['--as', tool, '--', of], { input, encoding: 'utf8', maxBuffer: 1 << 28 })

@@ -1,8 +1,10 @@
-"""Compares release-filter with the rules of docs/man/release-filter.1, docs/GRAMMAR.md and docs/MEANING.md: python3 lines-in-pieces.py PROGRAM COUNT SEED.
+"""Compares release-filter with docs/man/release-filter.1, docs/GRAMMAR.md and docs/MEANING.md:
+lines-in-pieces.py PROGRAM COUNT SEED.
 
-It makes COUNT random texts of lines, each with a range and options, and tells by code of its own what is written, what is reported of lines without a
-version, and the status. Each text is cut in 100 random ways, and the program gets each piece by a read of its own: standard input is a socket that keeps
-messages apart. Any difference is printed, and ends it.
+This makes COUNT random texts of lines, each with a range and options. Its own code determines what
+is written, what is reported about lines without a version, and the status. Each text is cut in 100
+random ways, and the program gets each piece in a separate read: standard input is a socket that
+keeps messages apart. Prints any difference, and exits.
 """
 
 import random
@@ -16,11 +18,11 @@ NUMBER = rb"(0|[1-9][0-9]*)"
 
 
 def versions(before, pre, build, after):
-    """Versions with such texts around them, and with such identifiers."""
+    """Returns a pattern for versions with these texts around them, and with these identifiers."""
     return re.compile(rb"%s%s\.%s\.%s(?:-(%s(?:\.%s)*))?(?:\+(%s(?:\.%s)*))?%s" % (before, NUMBER, NUMBER, NUMBER, pre, pre, build, build, after))
 
 
-# The crate's versions, those of SemVer 2.0.0, and npm's, by docs/GRAMMAR.md.
+# The versions of the crate, of SemVer 2.0.0 and of npm, by docs/GRAMMAR.md.
 RUNS = rb"[0-9A-Za-z]+(?:-[0-9A-Za-z]+)*"
 NO_ZERO = rb"(?:0|[1-9][0-9]*|[0-9]*[A-Za-z-][0-9A-Za-z-]*)"
 CRATE = versions(rb"[ \t\r\n]*", RUNS, RUNS, rb"[ \t\r\n]*")
@@ -30,7 +32,7 @@ AROUND = re.compile(f"{BLANK}v?(.*?){BLANK}", re.DOTALL)
 
 
 def read_as_npm(text):
-    """What a text is as npm reads it."""
+    """Returns the version that npm reads in a text, or None."""
     try:
         text = text.decode()
     except UnicodeDecodeError:
@@ -52,14 +54,16 @@ BLANKS = (b" ", b"\t", b"  ", b"\xc2\xa0", b"\xe2\x80\x83", MARK, b"\xc2\x85")
 
 
 def precedence(version):
-    """By SemVer 2.0.0, section 11. A number past 64 bits is kept as a text, and so is one with a leading zero."""
+    """Returns a key for the precedence of SemVer 2.0.0, section 11. A number above 64 bits is
+    compared as a text, and so is one with a leading zero."""
     numbers, pre = version
     parts = [(0, int(part), b"") if part.isdigit() and b"%d" % int(part) == part and int(part) < 2**64 else (1, 0, part) for part in pre.split(b".")]
     return numbers, not pre, parts if pre else []
 
 
 def between(least, end, pre_of=None, pre_from=b""):
-    """Releases from `least` on and below `end`; pre-releases of `pre_of` from `pre_from` on."""
+    """Returns a function for whether a version is a release from `least` to below `end`, or a
+    pre-release of `pre_of` from `pre_from` on."""
     def holds(version):
         numbers, pre = version
         if pre:
@@ -69,7 +73,8 @@ def between(least, end, pre_of=None, pre_from=b""):
 
 
 def within(least, end):
-    """All versions from the lowest pre-release of `least` on and below that of `end`."""
+    """Returns a function for whether a version is between the lowest pre-releases of `least` and of
+    `end`."""
     return lambda version: least <= version[0] < end
 
 
@@ -88,7 +93,8 @@ RANGES = (
 
 
 def version_of(text, prefixes, dialect):
-    """The version of a line's text, and the prefix before it: the first prefix after which there is one decides."""
+    """Returns the version in a line's text, and the prefix before it. The first prefix that is
+    followed by a version decides."""
     for prefix in prefixes:
         read = DIALECTS[dialect](text[len(prefix):]) if text.startswith(prefix) else None
         if read and all(int(number) < 2**64 for number in read.groups()[:3]):
@@ -97,13 +103,13 @@ def version_of(text, prefixes, dialect):
 
 
 def shown(text):
-    """The first bytes of a line without a version."""
+    """Returns the first bytes of a line without a version, as they are reported."""
     escaped = (ESCAPES.get(byte) or (chr(byte) if 32 <= byte < 127 else f"\\x{byte:02x}") for byte in text[:80])
     return "".join(escaped) + ("..." if len(text) > 80 else "")
 
 
 def told(text, holds, prefixes, dialect, options):
-    """What the program writes, what it reports, and its status."""
+    """Returns what the program writes, what it reports, and its status."""
     end = b"\0" if "--null" in options else b"\n"
     lines = text.removeprefix(MARK).split(end)
     lines = [line + end for line in lines[:-1]] + [line for line in lines[-1:] if line]
@@ -169,7 +175,7 @@ def random_text(draw, prefixes, ends):
 
 
 def random_options(draw):
-    """Options that change which versions are kept, and what is written of them."""
+    """Returns options that change which versions are kept, and what is written about them."""
     options = [draw.choice(("", "", "--greatest", "--least", "--sort"))]
     options += ["--reverse"] if options == ["--sort"] and draw.randrange(2) else []
     options += ["--only=" + draw.choice(("releases", "pre-releases"))] if draw.randrange(6) == 0 else []
@@ -178,7 +184,7 @@ def random_options(draw):
 
 
 def chosen(holds, arguments, options):
-    """Which versions are kept by a range, by what the options make of it."""
+    """Returns which versions are kept, from the range and the options."""
     is_inverted = "--invert" in options
     kinds = [option.removeprefix("--only=") for option in options if option.startswith("--only=")]
     kinds += ["releases"] if "--releases" in arguments else []
@@ -186,7 +192,7 @@ def chosen(holds, arguments, options):
 
 
 def random_cut(draw, text):
-    """The pieces of a text: of one length, or ended at random places."""
+    """Returns the pieces of a text: all of one length, or cut at random."""
     if draw.randrange(4) == 0:
         length = draw.choice((1, 2, 3, 7) if len(text) < 4000 else (1000, 4096, 8192))
         return [text[at:at + length] for at in range(0, len(text), length)]

@@ -1,17 +1,19 @@
-// Runs node-semver's own tests against the package of js/:
+// Runs node-semver's own tests against the package in js/:
 //
 //     node node-suite.js SOURCE PACKAGE [--show]
 //
-// SOURCE is node-semver's source, with its tests, and PACKAGE a directory with the package: files of
-// both are changed. The tests run by a shim for `tap`:
-// - against node-semver itself: each assertion has to hold;
-// - against the package: the assertions that fail have to be those of node-suite.expected, which has
-//   them by what js/README.md lists;
-// - against node-semver without `loose`: those of the class LOOSE have to fail here, too.
-// With --show each assertion that fails with the package is written with what it found.
+// SOURCE is node-semver's source, with its tests, and PACKAGE is a directory with the package.
+// Files in both are changed. The tests run with a shim for `tap`:
 //
-// An assertion is named by its file and its number in it. After an exception the next case of a list
-// is tried, and the exception is counted as an assertion that fails.
+// - against node-semver itself: each assertion has to hold
+// - against the package: the assertions that fail have to be those in node-suite.expected, which
+//   has them by the differences that js/README.md lists
+// - against node-semver without `loose`: the assertions of the class LOOSE have to fail here, too
+//
+// With --show, each assertion that fails with the package is printed with what it found.
+//
+// An assertion is named by its file and its number in that file. After an exception the next case
+// of a list is tested, and the exception is counted as an assertion that fails.
 'use strict'
 const assert = require('assert')
 const { execFileSync } = require('child_process')
@@ -20,7 +22,7 @@ const Module = require('module')
 const path = require('path')
 const { inspect } = require('util')
 
-// What isn't run: tests of the command, of what is under internal/, and of which files there are.
+// Tests that aren't run: tests of the command, of internal/, and of the list of files.
 const NOT_RUN = /^(bin|internal|fixtures)\/|^map\.js$/
 const LOOSE = 'what only `loose` reads'
 // node-semver's internal/parse-options.js, without `loose`.
@@ -48,7 +50,7 @@ function holds (check) {
   }
 }
 
-// Whether a value has the fields of a pattern, as tap's `match`.
+// Whether a value has the fields of a pattern, as in tap's `match`.
 function matches (value, pattern) {
   if (pattern instanceof RegExp) return pattern.test(value)
   if (typeof pattern === 'string' && typeof value === 'string') return value.includes(pattern)
@@ -57,7 +59,7 @@ function matches (value, pattern) {
   return value !== null && typeof value === 'object' && names.every((name) => matches(value[name], pattern[name]))
 }
 
-// Whether an error is the one that a test wants: a class, or an object with fields of it.
+// Whether an error is the one that a test expects: a class, or an object with fields of the error.
 const isWanted = (error, wanted) => typeof wanted === 'function' ? error instanceof wanted
   : wanted === null || typeof wanted !== 'object' || matches(error, wanted)
 
@@ -89,12 +91,12 @@ function tap (names) {
   return t
 }
 
-// ---- one file of tests, in a process of its own
+// ---- one file of tests, in its own process
 
 function runFile (file) {
   const load = Module._load
   Module._load = (name, ...others) => name === 'tap' ? tap([]) : load(name, ...others)
-  // In the tests alone a list of cases goes on after an exception.
+  // Only in the tests, a list of cases goes on after an exception.
   Array.prototype.forEachCase = function (call) { // eslint-disable-line no-extend-native
     this.forEach((...values) => {
       try {
@@ -131,8 +133,8 @@ function run (directory) {
 
 const failed = (all) => Object.entries(all).flatMap(([file, list]) => list.map((it, at) => ({ ...it, id: `${file} ${at + 1}` }))).filter(({ ok }) => !ok)
 
-// The assertions that are expected to fail, by what js/README.md lists: a line that isn't indented is
-// a class, and under it each line has a file, and the numbers of its assertions.
+// The assertions that are expected to fail, by the differences that js/README.md lists. A line that
+// isn't indented is a class. Each line below it has a file and the numbers of its assertions.
 function expectedFailures () {
   const expected = new Map()
   let version = null
@@ -157,7 +159,7 @@ function main (source, package_, isShown) {
   const { version } = JSON.parse(fs.readFileSync(path.join(source, 'package.json')))
   const { expected, version: wanted } = expectedFailures()
   if (version !== wanted) {
-    console.log(`node-suite: node-suite.expected is for node-semver ${wanted}, and this is ${version}`)
+    console.log(`node-suite: node-suite.expected is for node-semver ${wanted}, but this is ${version}`)
     process.exit(2)
   }
   const own = run(source)
@@ -180,8 +182,8 @@ function main (source, package_, isShown) {
   const strict = new Set(failed(run(source)).map(({ id }) => id))
   const others = [...expected].filter(([id, kind]) => kind === LOOSE && !strict.has(id))
   for (const [id] of others) console.log(`holds with node-semver without loose: ${id}`)
-  console.log(`node-semver ${version}: ${count(own)} assertions, of which ${failed(own).length} fail with itself, and ${strict.size} without loose`)
-  console.log(`the package: ${count(found)} assertions up to the exceptions, of which ${failed(found).length} fail:`)
+  console.log(`node-semver ${version}: ${count(own)} assertions; ${failed(own).length} fail with itself, and ${strict.size} without loose`)
+  console.log(`the package: ${count(found)} assertions up to the exceptions; ${failed(found).length} fail:`)
   for (const [kind, times] of kinds) console.log(`  ${times}: ${kind ?? 'not expected'}`)
   process.exit(wrong || left.size || others.length ? 1 : 0)
 }

@@ -1,7 +1,7 @@
-# Sourced by tools/compare.sh: runs node-semver's own tests, from Debian's source package, against the
-# JavaScript package. The suite of Debian is the one whose version node-suite.expected has. If tsc is
-# there, js/tests/types-of-semver.ts is compiled with the types of @types/semver, which Debian's
-# package node-semver has.
+# Sourced by tools/compare.sh: runs node-semver's own tests, from Debian's source package, against
+# the JavaScript package. The suite of Debian has the version that node-suite.expected is for. If
+# tsc is installed, js/tests/types-of-semver.ts is compiled with the types of @types/semver, which
+# are in Debian's package node-semver.
 suite=trixie
 for tool in apt-get node; do
     command -v "$tool" > /dev/null || { echo "compare: needs $tool" >&2 && exit 2; }
@@ -9,7 +9,7 @@ done
 work=$(mktemp -d)
 trap 'rm -rf "$work"' EXIT
 trap 'exit 2' HUP INT TERM
-# apt with lists and sources of its own: source packages of the suite, from the system's mirror.
+# apt with its own lists and sources: the suite's source packages, from the system's mirror.
 mkdir -p "$work/lists/partial" "$work/cache/archives/partial" "$work/tree"
 mirror=$(cat /etc/apt/sources.list /etc/apt/sources.list.d/*.sources 2> /dev/null |
     sed -nE 's/^(URIs:|deb) +([a-z]+:[^ ]*debian)\/?( .*)?$/\2/p' | head -n 1)
@@ -22,11 +22,12 @@ apt() {
         -o Dir::State::lists="$work/lists" -o Dir::Cache="$work/cache" -o APT::Sandbox::User=root "$@"
 }
 apt update || { echo 'compare: apt-get has no source packages here' >&2 && exit 2; }
-# The package has other archives, too, which aren't used: one that can't be had is no error.
+# The package has further archives, which aren't used. It is fine if one of them can't be
+# downloaded.
 (cd "$work" && apt source --download-only --tar-only node-semver) || :
 for archive in "$work"/node-semver_*.orig.tar.*; do
     case $archive in *.asc) continue ;; esac
-    [ -e "$archive" ] || { echo "compare: node-semver's source can't be had here" >&2 && exit 2; }
+    [ -e "$archive" ] || { echo "compare: node-semver's source isn't here" >&2 && exit 2; }
     tar -C "$work/tree" --strip-components 1 -xf "$archive"
 done
 if command -v tsc > /dev/null; then

@@ -1,5 +1,5 @@
-// Random texts of npm's ranges, the versions that they are asked of, and what node-semver reads of them
-// by accident of how it replaces texts.
+// Random texts of npm's ranges, the versions to match them with, and what node-semver accepts or
+// rejects by accident, because of how it replaces texts.
 'use strict'
 
 const ALPHABET = [...'01 .-*x<>=~^|va+']
@@ -10,16 +10,16 @@ const SPACES = ['', '', '', '', ' ', '  ', '\t', '\u00a0', '\ufeff']
 const BARS = ['||', ' || ', '|| ', ' ||']
 const PRE_RELEASES = ['', '-0', '-0.0', '-1', '-a', '-a.0', '-b', '-rc.1', '-zz']
 
-// What node-semver reads although no page has it, each by a test of the text.
+// What node-semver accepts although no page says so, each with a test of the text.
 const ACCIDENTS = [
   ['more than one `v` or `=`, or white space between', /[v=]\s*[v=]|v\s/],
   ['white space within an operator', /[<>]\s+=|~\s+>/],
   ['a comparison after `~` or `^`', /[~^]>?\s*[<>=]/],
   ['an operator at a side of a hyphen range', /[<>=~^][^|]*\s-\s|\s-\s[^|]*[<>=~^]/],
-  ['`*` beside what it replaces', /\*[^\s|.]|[^\s|.<>=~^v]\*|[<>=~^v]\s*\*\S|[^\s|<>][<>]?=\s*\*/]
+  ['`*` next to what it replaces', /\*[^\s|.]|[^\s|.<>=~^v]\*|[<>=~^v]\s*\*\S|[^\s|<>][<>]?=\s*\*/]
 ]
 
-// What it doesn't read although its pages have it, by the same accident.
+// What it rejects although its pages allow it, by the same accident.
 const REFUSALS = [
   ['`=` between white space after `v`, and before it a part of a pre-release that begins with digits', /[\dxX*]-(?:[0-9A-Za-z-]+\.)*\d+(?:v|[A-Za-z-][^\s|]*v)\s+=\s/]
 ]
@@ -35,7 +35,8 @@ function range (random) {
   return Array.from({ length: random.of([0, 1, 1, 1, 1, 2, 2, 3]) }, () => simple(random)).join(random.of([' ', '  ', '\t', '\u00a0']))
 }
 
-// Simples that state nearly the same numbers, and of three numbers most often a pre-release.
+// Simple ranges that state nearly the same numbers. Those with three numbers mostly have a
+// pre-release.
 function related (random) {
   const numbers = [0, 0, 0].map(() => random.of([0, 0, 1, 2, 9]))
   const one = () => {
@@ -57,8 +58,8 @@ function changed (random) {
   return of.slice(0, at) + random.of([...ALPHABET, '']) + of.slice(at + random.below(2))
 }
 
-// A word at the limits: numbers round 2^53 - 1 and of about 257 digits, identifiers of about 250 and
-// 256 characters, and words of about 256.
+// A word at the limits: numbers around 2^53 - 1 and with about 257 digits, identifiers of about 250
+// and 256 characters, and words of about 256 characters.
 const NUMBERS = ['9007199254740990', '9007199254740991', '9007199254740992', '18446744073709551616']
 const LENGTHS = [249, 250, 251, 252, 255, 256, 257, 258]
 const filled = (random, front, length) => front + Array.from({ length: length - front.length }, () => random.of([...'aZ-9b0'])).join('')
@@ -97,7 +98,8 @@ function limited (random) {
   return Array.from({ length: random.of([1, 1, 1, 2]) }, () => random.of(SIGNS) + limitedWord(random)).join(random.of([' ', ' || ']))
 }
 
-// The versions that are asked of a text: of the numbers that each simple states, filled up at random, and of some round these.
+// The versions to match a text with: the numbers that each simple range states, completed at
+// random, and versions around these.
 function asked (random, of) {
   const asked = []
   for (const part of of.split(/[\s|]+/).slice(0, 4)) {
@@ -113,9 +115,10 @@ function asked (random, of) {
   return [...new Set(asked)]
 }
 
-// `>=0.0.0` with a build or a `v` asks nothing here, and is a comparator there, also as the left side
-// of a hyphen range. And with `includePrerelease` the left side `1.2.3+b` begins with 1.2.3 there, since
-// `-0` is put after the build. So node-semver is asked of the text without both.
+// `>=0.0.0` with a build or a `v` matches everything here, but is a comparator in node-semver, even
+// as the left side of a hyphen range. And with `includePrerelease`, the left side `1.2.3+b` begins
+// with 1.2.3 in node-semver, since `-0` is put after the build. So node-semver gets the text
+// without both.
 const plain = (of) => of.replace(/\+[0-9A-Za-z.-]+/g, '').replace(/v0\.0\.0/g, '0.0.0')
 
 const isOf = (of) => ([, ...tests]) => tests.every((test) => test.test(of))

@@ -1,15 +1,15 @@
-// Compares npm's dialect with node-semver, by PROGRAM, which is the built `replayed_cases`.
+// Compares npm's dialect with node-semver. PROGRAM is the built `replayed_cases`.
 //
-// `node npm-with-node-semver.js PROGRAM COUNT SEED` makes COUNT texts by the grammar, COUNT that are
-// changed at a place, COUNT at the limits of lengths and numbers, and all texts of a few characters.
-// It asks whether each is read, and of those
-// that are which versions each means, releases and pre-releases at and round the numbers that it
-// states. `node npm-with-node-semver.js PROGRAM --texts TEXTS VERSIONS` asks the same of the lines of
-// two files. Both print the first difference, and then end with status 1. Each text is asked by npm's
-// own rule for pre-releases, and by that of `includePrerelease`.
+// `node npm-with-node-semver.js PROGRAM COUNT SEED` makes COUNT texts by the grammar, COUNT with
+// one change, COUNT at the limits of lengths and numbers, and all texts of a few characters. It
+// compares whether each is accepted, and if so, which versions it matches: releases and
+// pre-releases at and around the numbers that it states. `node npm-with-node-semver.js PROGRAM
+// --texts TEXTS VERSIONS` does the same with the lines of two files. Each text is tested by npm's
+// own rule for pre-releases, and with `includePrerelease`. Both forms print the first difference,
+// and then exit with 1.
 //
-// What node-semver reads by accident of how it replaces texts is counted by kind, and each such text
-// has to be of one.
+// What node-semver reads by accident, because of how it replaces texts, is counted by kind. Each
+// such text has to be of a known kind.
 'use strict'
 
 const semver = require('semver')
@@ -19,17 +19,18 @@ const { ALPHABET, ACCIDENTS, REFUSALS, text, changed, limited, asked, plain, isO
 
 const BATCH = 20000
 
-// What it reads and doesn't read of a hyphen range with `includePrerelease`, where a right side is a
-// raised bound and `-0` is put after the left side: here the limits are those without this option.
+// What node-semver accepts or rejects in a hyphen range with `includePrerelease`, where a right
+// side is a raised bound and `-0` is put after the left side. Here the limits are those without
+// this option.
 const OF_SIDES = [['a hyphen range at a limit', /[^|]{250}|\d{16}/, /\s-\s/]]
 
-// All texts of so many characters.
+// All texts of a length.
 function * texts (length) {
   if (length === 0) return yield ''
   for (const front of texts(length - 1)) for (const last of ALPHABET) yield front + last
 }
 
-// The rules for pre-releases: the call of the program, and what node-semver is asked by.
+// The rules for pre-releases: the call of the program, and the options for node-semver.
 const RULES = [
   { call: 'meant-as-npm', options: {}, name: '', isKnown: (of) => /0\.0\.0\+|v0\.0\.0/.test(of), sides: [] },
   { call: 'meant-with-all-as-npm', options: { includePrerelease: true }, name: ', with includePrerelease', isKnown: (of) => /\+\S*\s+-\s/.test(of), sides: OF_SIDES }
@@ -43,7 +44,8 @@ function rangeOf (of, options) {
   }
 }
 
-// A text without the characters that end a field or a line of the program's input, or begin an escape.
+// A text in which the characters are escaped that end a field or a line of the program's input, or
+// begin an escape.
 const ESCAPES = { '\\': '\\\\', '\n': '\\n', '\r': '\\r', '\t': '\\t' }
 const escaped = (of) => of.replace(/[\\\n\r\t]/g, (character) => ESCAPES[character])
 
@@ -57,7 +59,7 @@ function compare (program, what, all, versionsOf) {
   for (const rule of RULES) compareBy(program, rule, what + rule.name, all, versionsOf)
 }
 
-// Compares all texts, each by the versions that `of` tells, and tells of what they are.
+// Compares all texts, each with the versions that `versionsOf` returns, and prints counts.
 function compareBy (program, { call, options, isKnown, sides }, what, all, versionsOf) {
   const counts = { texts: 0, read: 0, pairs: 0, met: 0, preReleases: 0 }
   const accidents = new Map()

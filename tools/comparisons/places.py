@@ -1,8 +1,11 @@
-"""Compares the places that compare-ranges names with brute force: python3 places.py CASES PROGRAM LENGTH.
+"""Compares the offsets that compare-ranges reports with brute force: places.py CASES PROGRAM
+LENGTH.
 
-CASES is the built `replayed_cases`, which says whether a text is a range, and PROGRAM the built `compare-ranges`. Of each text of up to LENGTH of the
-characters below that is no range, the place has to be that after the longest front with which a range of up to LENGTH + 2 of them begins: the end of the text
-exactly where that is all of it. It is asked by Cargo, npm, and the crate in npm mode. Any difference is printed, and ends it.
+CASES is the built `replayed_cases`, which determines whether a text is a range, and PROGRAM is the
+built `compare-ranges`. This tests each text of up to LENGTH of the characters below that isn't a
+range. The offset has to be the length of the longest prefix with which some range of up to LENGTH +
+2 of these characters begins; it is reported as the end of the text if that is the whole text. The
+dialects are Cargo's, npm's, and the crate's in npm mode. Prints any difference, and exits.
 """
 
 import re
@@ -12,14 +15,15 @@ from itertools import product
 from multiprocessing import Pool
 
 CHARACTERS = "1.-*>|,va "
-# The call that reads a text, and what it answers where that is no range.
+# The call that reads a text, and what it returns if the text isn't a range.
 CALLS = {
     "cargo": ("rewritten-as-cargo", "not-a-range"),
     "npm": ("rewritten-as-npm", "not-a-range"),
     "crate-npm": ("npm-exact", "not a range"),
 }
 LIMITS = {"cargo": 2**64 - 1, "npm": 2**53 - 1, "crate-npm": 2**64 - 1}
-# What is between two terms. Before and after a hyphen they have no operator: they are `>=` and `<=`.
+# What is between two terms. In a hyphen range the terms have no operator: they stand for `>=` and
+# `<=`.
 HYPHEN = "  - "
 BETWEEN = {"cargo": (",", "  , "), "npm": (" ", "\u00a0|| ", HYPHEN), "crate-npm": ("  ", "||", HYPHEN)}
 AT_THE_END = re.compile(r"at the end(: .*)?$")
@@ -27,12 +31,12 @@ AT_AN_OFFSET = re.compile(r"at offset (\d+)(: .*)?$")
 
 
 def texts(length):
-    """All texts of so many of the characters."""
+    """Returns all texts with this many of the characters."""
     return ["".join(characters) for characters in product(CHARACTERS, repeat=length)]
 
 
 def ranges(cases, dialect, of):
-    """Those of the texts that are ranges."""
+    """Returns the texts that are ranges."""
     call, refusal = CALLS[dialect]
     asked = "".join(f"-\t{call}\t{text}\n" for text in of)
     ran = subprocess.run([cases], input=asked, capture_output=True, text=True, check=True)
@@ -42,14 +46,15 @@ def ranges(cases, dialect, of):
 
 
 def refusals(cases, dialect, of):
-    """What is answered of each of the texts."""
+    """Returns the result for each text."""
     call = CALLS[dialect][0]
     ran = subprocess.run([cases], input="".join(f"-\t{call}\t{text}\n" for text in of), capture_output=True, text=True, check=True)
     return dict(zip(of, ran.stdout.split("\n")))
 
 
 def pairs(dialect):
-    """Two terms each: the text, where the number of each is that may be too large, and how each is written by itself."""
+    """Yields pairs of terms: the text, the offset of the number in each term that may be too large,
+    and each term by itself."""
     words = [("x", 0), ("*", 0)]
     for n in (1, LIMITS[dialect], LIMITS[dialect] + 1):
         words += [(f"{n}", 0), (f"{n}.2", 0), (f"1.{n}", 2), (f"1.2.{n}", 4), (f"{n}.x", 0), (f"{n}.0.0-a.1+b", 0)]
@@ -62,7 +67,8 @@ def pairs(dialect):
 
 
 def too_large(cases, program, pool):
-    """Numbers that are too large. By itself a term of Cargo's that is a wildcard is read."""
+    """Compares the offsets of numbers that are too large. A term with a wildcard in Cargo's dialect
+    may be valid by itself."""
     for dialect in CALLS:
         made = list(pairs(dialect))
         alone = refusals(cases, dialect, sorted({term for _, _, both in made for term in both}))
@@ -72,12 +78,12 @@ def too_large(cases, program, pool):
         for (text, numbers, both), place in zip(asked, places):
             at = next(at for at, term in zip(numbers, both) if "too" in alone[term])
             if place != at:
-                sys.exit(f"differ: {text!r} as {dialect}: {at}, the program names {place}")
+                sys.exit(f"differ: {text!r} as {dialect}: {at}, but the program reports {place}")
         print(f"{len(asked)} texts as {dialect} with a number that is too large: no difference")
 
 
 def named(program, dialect, text):
-    """The place that the program names, or None where it reads the text."""
+    """Returns the offset that the program reports, or None if it accepts the text."""
     ran = subprocess.run([program, "--as", dialect, "--", text, "1"], capture_output=True, text=True)
     if ran.returncode != 2:
         return None
@@ -101,9 +107,9 @@ def main(cases, program, length):
         for text, place in zip(asked, places):
             longest = max((end for end in range(len(text) + 1) if text[:end] in prefixes), default=0)
             if place != (None if text in read else longest):
-                sys.exit(f"differ: {text!r} as {dialect}: byte {longest}, the program names {place}")
+                sys.exit(f"differ: {text!r} as {dialect}: {longest}, but the program reports {place}")
         refused = sum(place is not None for place in places)
-        print(f"{len(asked)} texts as {dialect}, {refused} of them no range: no difference")
+        print(f"{len(asked)} texts as {dialect}, {refused} of them not ranges: no difference")
     with Pool() as pool:
         too_large(cases, program, pool)
 

@@ -1,10 +1,10 @@
-// Compares what check-lock-file lists of changed lock files with node-semver.
+// Compares what check-lock-file lists for changed lock files with node-semver.
 //
-// `node planted-locks.js PROGRAM COUNT SEED FILE..`, where each FILE is a yarn.lock, a
-// package-lock.json with "packages" or what `cargo metadata` writes, of which nothing is listed.
-// node-semver stands for Cargo too: on carets and such versions both agree. Of each it makes COUNT copies in which one package has another version, finds by itself
-// which asks that breaks, and compares the lines. It prints the first difference, and then ends with
-// status 1.
+// `node planted-locks.js PROGRAM COUNT SEED FILE..`: each FILE is a yarn.lock, a package-lock.json
+// with "packages", or the output of `cargo metadata`, for which nothing is listed. node-semver
+// stands for Cargo too: they agree on carets and the versions used here. For each file it makes
+// COUNT copies in which one package has another version, determines itself which requirements that
+// breaks, and compares the lines. It prints the first difference, and then exits with 1.
 'use strict'
 
 const fs = require('fs')
@@ -16,7 +16,8 @@ const { Random } = require('./with-node-semver.js')
 
 const VERSIONS = ['0.0.1', '1.0.0', '2.0.0-rc.1', '99.0.0', '1.2.3--canary.1']
 
-// The asks of a yarn.lock: who asks for which name by which range, and the place of what is found.
+// The requirements of a yarn.lock: who requires which name by which range, and the index of what is
+// found.
 function asksOfYarn (text) {
   const isBerry = text.includes('__metadata:')
   const blocks = text.split(/\n\n/).filter((it) => /^["@a-z]/i.test(it.trim()) && !it.startsWith('#'))
@@ -58,8 +59,8 @@ function asksOfYarn (text) {
   return { packages, asks }
 }
 
-// The place at which a package of npm's tree finds a name: in its own node_modules, or in that of one
-// above.
+// The path at which a package of npm's tree finds a name: in its own node_modules, or in one
+// further up.
 function placeOf (entries, from, name) {
   for (let base = from; ;) {
     const place = `${base}${base === '' ? '' : '/'}node_modules/${name}`
@@ -69,7 +70,8 @@ function placeOf (entries, from, name) {
   }
 }
 
-// The asks of a package-lock.json: of the names that two kinds of dependencies have, the later counts.
+// The requirements of a package-lock.json. If two kinds of dependencies have a name, the later one
+// counts.
 function asksOfNpm (text) {
   const entries = JSON.parse(text).packages
   const places = Object.keys(entries).filter((place) => place.includes('node_modules/') && entries[place].version)
@@ -88,7 +90,7 @@ function asksOfNpm (text) {
   return { packages, asks }
 }
 
-// The asks of what `cargo metadata` writes.
+// The requirements in the output of `cargo metadata`.
 function asksOfCargo (text) {
   const graph = JSON.parse(text)
   const packages = graph.packages.map((it) => ({ keys: [it.id], version: it.version }))
@@ -109,11 +111,11 @@ function asksOfCargo (text) {
   return { packages, asks }
 }
 
-// What is read of a file, by its kind.
+// The requirements of a file, by its kind.
 const asksOf = (text) => !text.startsWith('{') ? asksOfYarn(text)
   : 'resolve' in JSON.parse(text) ? asksOfCargo(text) : asksOfNpm(text)
 
-// A copy of JSON with another version of a package.
+// A copy of JSON in which a package has another version.
 function changedOfJson (text, place, version) {
   const lock = JSON.parse(text)
   const entry = lock.packages[place] ?? lock.packages.find((it) => it.id === place)
@@ -121,7 +123,7 @@ function changedOfJson (text, place, version) {
   return JSON.stringify(lock, null, 2)
 }
 
-// The range that is asked for; null if it is none.
+// The range that is required, or null if it is invalid.
 const rangeOf = (spec) => {
   const bare = spec.startsWith('npm:') ? spec.slice(4).replace(/^@?[^@]+@/, '') : spec.replace(/, */g, ' ')
   return semver.validRange(bare) === null ? null : bare
@@ -130,7 +132,7 @@ const rangeOf = (spec) => {
 const whoIs = (ask) => ask.by === undefined ? ask.who
   : ask.by.version === '0.0.0-use.local' ? ask.who : `${ask.who} ${ask.by.version}`
 
-// A copy of a yarn.lock with another version of a package; null where it isn't found.
+// A copy of a yarn.lock in which a package has another version, or null if it isn't found.
 function changedOfYarn (text, old, version) {
   const key = old.keys.length === 1 || text.includes('__metadata:') ? old.keys.join(', ') : null
   const begin = text.split('\n').findIndex((line) => line.endsWith(':') && !line.startsWith(' ') &&
@@ -141,7 +143,7 @@ function changedOfYarn (text, old, version) {
   return lines.join('\n')
 }
 
-// A changed copy of a lock file, and the lines that are to be listed of it.
+// A changed copy of a lock file, and the lines that have to be listed for it.
 function planted (text, parsed, at, version) {
   const { packages, asks } = parsed
   const old = packages[at]

@@ -1,8 +1,11 @@
-// Compares how node-semver reads the ranges of sets: `node ranges-of-sets-with-node-semver.js PROGRAM COUNT SEED`, where PROGRAM is the built
-// `replayed_cases`. It makes COUNT pairs of range texts in npm mode, each with some versions near their bounds, and has the program say what
-// the second text loses, gains and keeps of the first: of each version, and as range texts. These have to have the same versions by
-// node-semver: the releases by default, and the pre-releases with `includePrerelease`. It prints how many were in and not in, and the first
-// difference.
+// Compares how node-semver reads the ranges that sets are printed as.
+//
+// `node ranges-of-sets-with-node-semver.js PROGRAM COUNT SEED`: PROGRAM is the built
+// `replayed_cases`. It makes COUNT pairs of range texts in npm mode, each with some versions near
+// their bounds. The program returns what the second text loses, gains and keeps of the first: for
+// each version, and as range texts. In node-semver these ranges have to match the same versions:
+// releases by default, and pre-releases with `includePrerelease`. It prints how many versions were
+// in a range and how many weren't, and the first difference.
 'use strict'
 
 const semver = require('semver')
@@ -17,10 +20,10 @@ function pair (random) {
   return { texts, versions: Array.from({ length: VERSIONS }, () => version(random, random.of(ranges))) }
 }
 
-// The words after each version: what the program says that it is in.
+// The words after each version: the sets that contain it, according to the program.
 const said = (answer) => answer.split('; ').slice(1).map((one) => one.split(':')[1].trim().split(' '))
 
-// The ranges of the releases and of the pre-releases of each part.
+// The ranges of releases and of pre-releases for each part.
 const whole = (answer) => answer.split('; ').map((part) => part.slice(part.indexOf(' ') + 1).split(', pre-releases '))
 
 function main ([program, count, seed]) {
@@ -36,7 +39,7 @@ function main ([program, count, seed]) {
       const isPreRelease = semver.prerelease(one) !== null
       const text = parts[of][isPreRelease ? 1 : 0]
       const theirs = semver.satisfies(one, text, { includePrerelease: isPreRelease })
-      if (ours !== theirs) throw new Error(`${texts.join('  and  ')}: ${part} ${text}: ${one} is ${ours ? '' : 'not '}in it, and node-semver says otherwise`)
+      if (ours !== theirs) throw new Error(`${texts.join('  and  ')}: ${part} ${text}: ${one} is ${ours ? '' : 'not '}in it, but node-semver says otherwise`)
       counts[ours ? 'in' : 'not']++
     }))
   })

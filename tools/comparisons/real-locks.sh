@@ -1,5 +1,5 @@
-# Sourced by tools/compare.sh: lists what check-lock-file says of the lock files in Debian's source
-# packages of these names, and beside it what npm says of its own.
+# Sourced by tools/compare.sh: prints what check-lock-file lists for the lock files in Debian's
+# source packages of these names, and for npm's files also the problems that npm has with them.
 set -eu
 [ $# -gt 0 ] || set -- node-graphql node-lodash
 for tool in apt-get npm python3; do
@@ -8,7 +8,7 @@ done
 here=$PWD work=$(mktemp -d)
 trap 'rm -rf "$work"' EXIT
 trap 'exit 2' HUP INT TERM
-# apt with lists and sources of its own: those of the system without security's, and source packages.
+# apt with its own lists and sources: the system's, without security updates, as source packages.
 mkdir -p "$work/sources" "$work/lists/partial" "$work/cache/archives/partial" "$work/packages" "$work/trees"
 for file in /etc/apt/sources.list.d/*.sources; do
     [ ! -e "$file" ] || awk 'BEGIN { RS = ""; ORS = "\n\n" } !/security/' "$file" |
@@ -32,9 +32,9 @@ for name in "$@"; do
     rm -f "$work/packages"/*
 done
 
-[ -n "$(ls "$work/trees")" ] || { echo 'compare: none of the source packages can be had here' >&2 && exit 2; }
+[ -n "$(ls "$work/trees")" ] || { echo 'compare: none of the source packages can be downloaded here' >&2 && exit 2; }
 
-# of_npm FILE: the problems that npm itself has with a lock file.
+# of_npm FILE: prints the problems that npm itself has with a lock file.
 of_npm() {
     (cd "$(dirname "$1")" && npm_config_cache="$work/npm" npm_config_userconfig=/dev/null npm_config_offline=true \
         npm ls --package-lock-only --all --json 2> /dev/null || :) |
@@ -42,7 +42,7 @@ of_npm() {
 for it in json.load(sys.stdin).get("problems", []): print("    npm:", it.partition(sys.argv[1])[0].strip())' "$work"
 }
 cd "$work/trees"
-# Not in node_modules: there are none of the project in a source package.
+# Not in node_modules: a source package has none that belongs to the project.
 find . -name package-lock.json -o -name npm-shrinkwrap.json -o -name yarn.lock -o -name pnpm-lock.yaml -o -name Cargo.lock |
     grep -v '/node_modules/' | LC_ALL=C sort | while read -r file; do
     echo "${file#./}"

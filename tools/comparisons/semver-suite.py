@@ -1,10 +1,11 @@
-"""Runs the tests of Cargo's crate semver against rust/: python3 tools/comparisons/semver-suite.py CRATE WORK.
+"""Runs the tests of Cargo's crate semver against rust/: semver-suite.py CRATE WORK.
 
-CRATE is the folder of the crate, as Debian's librust-semver-dev has it. In the folder WORK a project is
-made whose `semver` is tools/comparisons/semver_shim.rs, over the Rust crate by `Dialect::Cargo`; its
-tests are those of the crate, unchanged, but an assertion that fails is written and the test goes on.
-The same is done with the crate itself, of which each assertion has to hold. Those that fail with the
-shim have to be those of semver-suite.expected, which has their lines by class.
+CRATE is the directory of the crate, from Debian's librust-semver-dev. In the directory WORK this
+makes a project whose `semver` is tools/comparisons/semver_shim.rs, which uses the Rust crate with
+`Dialect::Cargo`. Its tests are the crate's own, unchanged, except that a failing assertion is
+printed and the test goes on. The same is done with the crate itself, for which each assertion has
+to hold. The assertions that fail with the shim have to be those in semver-suite.expected, which has
+their lines by class.
 """
 
 import collections
@@ -39,8 +40,8 @@ path = "{here}/semver_shim.rs"
 [dependencies]
 semver-parser = {{ package = "semver-parser-proved", path = "{rust}" }}
 """
-# In place of the macros of std: they write where an assertion is, and whether it holds. `util` says
-# where a function that has it was called.
+# These replace the macros of std. They print where an assertion is, and whether it holds. For a
+# function in `util`, that is where the function was called.
 MACROS = """#![allow(warnings)]
 macro_rules! assert {
     ($holds:expr $(, $($rest:tt)*)?) => { crate::note(std::panic::Location::caller(), $holds) };
@@ -66,7 +67,8 @@ def write(path, text):
 
 
 def run(name, path):
-    """The lines of the assertions with a crate as semver, and how often each holds and fails."""
+    """Runs the tests with a crate as semver. Returns the lines of the assertions, and how often
+    each holds and fails."""
     tests = os.path.join(CRATE, "tests")
     modules = "".join(f'#[path = "{tests}/{module}.rs"]\nmod {module};\n' for module in FILES)
     write(f"{name}/Cargo.toml", CARGO.format(path=path))
@@ -84,7 +86,8 @@ def run(name, path):
 
 
 def expected_failures():
-    """The lines of the assertions that are expected to fail, with their class; and the crate's version."""
+    """Returns the lines of the assertions that are expected to fail, with their class, and the
+    crate's version."""
     found, version, kind = {}, None, None
     with open(os.path.join(HERE, "semver-suite.expected"), encoding="utf-8") as file:
         for line in file.read().splitlines():
@@ -102,7 +105,7 @@ def main():
     expected, wanted = expected_failures()
     version = os.path.basename(os.path.realpath(CRATE)).split("-")[-1]
     if version != wanted:
-        sys.exit(f"semver-suite: semver-suite.expected is for semver {wanted}, and this is {version}")
+        sys.exit(f"semver-suite: semver-suite.expected is for semver {wanted}, but this is {version}")
     write("shim/Cargo.toml", SHIM.format(version=version, here=HERE, rust=RUST))
     own = run("own", CRATE)
     shim = run("by_shim", os.path.join(WORK, "shim"))

@@ -1,5 +1,5 @@
-//! The names of the crate `semver` that its tests use, over semver-parser-proved by `Dialect::Cargo`.
-//! What is compared are the calls of that: here is nothing that decides.
+//! The names of the crate `semver` that its tests use, implemented by semver-parser-proved with
+//! `Dialect::Cargo`. The tests compare the calls of that crate; nothing is decided here.
 
 use semver_parser::version::read_ref_in;
 use semver_parser::{check_range, comparators, refusals, satisfies, Dialect, RangeSet};
@@ -9,7 +9,7 @@ use std::hash::{Hash, Hasher};
 
 const CARGO: Dialect = Dialect::Cargo;
 
-/// An error is the sentence of its reason.
+/// An error: the sentence of its reason.
 #[derive(Debug)]
 pub struct Error(String);
 
@@ -19,7 +19,7 @@ impl Display for Error {
     }
 }
 
-/// The part of a version after a sign: its string.
+/// The part of a version after a sign, as a string.
 macro_rules! part {
     ($name:ident, $sign:literal) => {
         #[derive(Clone, PartialEq, Eq, Debug)]
@@ -100,7 +100,7 @@ impl PartialOrd for Version {
     }
 }
 
-/// A requirement: its text.
+/// A requirement, as its text.
 #[derive(Clone, Debug)]
 pub struct VersionReq(std::borrow::Cow<'static, str>);
 

@@ -1,8 +1,11 @@
-// Compares what sets of versions tell of two range texts with node-semver: `node sets-with-node-semver.js PROGRAM COUNT SEED`, where PROGRAM is
-// the built `replayed_cases`. It makes COUNT pairs of texts, in npm mode, and asks by two rules, pre-releases included and as stated: whether both
-// overlap (`intersects`), whether the first is within the second (`subset`), and what is the least version of the first (`minVersion`). So that a
-// text means the same to both, node-semver is given the printed set with exact bounds. It tells how often the answers agree, and of each kind of
-// difference how often it showed and on which texts, the smallest that were met.
+// Compares what sets of versions return for two range texts with node-semver.
+//
+// `node sets-with-node-semver.js PROGRAM COUNT SEED`: PROGRAM is the built `replayed_cases`. It
+// makes COUNT pairs of texts in npm mode, and compares by two rules, pre-releases included and
+// default: whether the two overlap (`intersects`), whether the first is within the second
+// (`subset`), and the lowest version of the first (`minVersion`). node-semver gets the printed set
+// with exact bounds, so that a text has the same meaning for both. It prints how often the results
+// agree; for each kind of difference it prints how often it occurred, and the smallest texts.
 'use strict'
 
 const semver = require('semver')
@@ -12,7 +15,7 @@ const RULES = [{ name: 'included', call: 'mean-npm', options: { includePrereleas
 
 const text = (random) => Array.from({ length: random.of([1, 1, 1, 2]) }, () => range(random).text).join(' || ')
 
-// What node-semver answers, or that it throws.
+// What node-semver returns, or that it throws.
 function asked (answer) {
   try {
     const answered = answer()
@@ -22,20 +25,20 @@ function asked (answer) {
   }
 }
 
-// Of two versions whether the one is below the other, so that a kind of difference of `minVersion` has a name.
+// Whether one version is below the other, which names a kind of difference of `minVersion`.
 function kind (ours, theirs) {
   if ([ours, theirs].some((answer) => !semver.valid(answer))) return `here ${semver.valid(ours) ? 'a version' : ours}, there ${semver.valid(theirs) ? 'a version' : theirs}`
   const order = semver.compare(ours, theirs)
   return order === 0 ? 'equal' : order < 0 ? 'here a version below that of node-semver' : 'here a version above that of node-semver'
 }
 
-// What is told here of a pair and of its first text.
+// What the program returns for a pair and for its first text.
 function told (pair, set) {
   const word = (name) => pair.match(new RegExp(`${name} (\\S+?)(,|$)`))[1]
   return { intersects: word('overlaps'), subset: word('within'), minVersion: set.match(/least (\S+?),/)[1] }
 }
 
-// The answers of node-semver.
+// What node-semver returns.
 function byNode (first, second, options) {
   return {
     intersects: asked(() => semver.intersects(first, second, options)),
@@ -44,7 +47,7 @@ function byNode (first, second, options) {
   }
 }
 
-// Counts what differs, and keeps the smallest input of each kind.
+// Counts the differences, and keeps the smallest input of each kind.
 function count (kinds, call, input, ours, theirs) {
   if (ours === theirs) return true
   const name = `${call}: ${kind(ours, theirs)}`
@@ -66,7 +69,7 @@ function compare (program, pairs, { name, call, options }) {
       same += count(kinds, asks, input, ours[asks], theirs[asks]) ? 1 : 0
     }
   })
-  console.log(`${name}: ${same} of ${3 * pairs.length} answers are the same`)
+  console.log(`${name}: ${same} of ${3 * pairs.length} results are the same`)
   for (const [of, { times, input, ours, theirs }] of [...kinds].sort()) console.log(`  ${times} times ${of}; smallest: ${input}: here ${ours}, node-semver ${theirs}`)
 }
 

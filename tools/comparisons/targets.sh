@@ -1,7 +1,7 @@
-# The tests of rust/ for other processors, read by tools/compare.sh: rows, library tests and refused
-# requests on i686, which this processor runs, and on aarch64 by qemu, with checks of overflow, over
-# Debian's std for these; and `cargo check` for each other target for which there is a std. The
-# packages are unpacked into a folder of its own.
+# Tests rust/ for other processors; sourced by tools/compare.sh. It runs the rows, the library tests
+# and the tests of failing allocations, with overflow checks and Debian's std, for i686, which this
+# processor runs, and for aarch64 with qemu. It runs `cargo check` for each other target that has a
+# std. The packages are unpacked into a temporary directory.
 for tool in /usr/bin/rustc=rustc-web aarch64-linux-gnu-gcc=gcc-aarch64-linux-gnu \
     i686-linux-gnu-gcc=gcc-i686-linux-gnu qemu-aarch64=qemu-user /lib/ld-linux.so.2=libc6-i386; do
     command -v "${tool%=*}" > /dev/null || {
@@ -16,7 +16,7 @@ export RUSTC=/usr/bin/rustc CARGO_NET_OFFLINE=true
 version=$(dpkg-query --show --showformat '${Version}' rustc-web)
 "$RUSTC" --version
 
-# apt_of ARCHITECTURE WORD..: apt-get for another architecture, with lists of its own.
+# apt_of ARCHITECTURE WORD..: runs apt-get for another architecture, with its own lists.
 apt_of() {
     architecture=$1
     shift
@@ -27,14 +27,14 @@ apt_of() {
         -o Dir::Cache="$folder/$architecture" -o APT::Sandbox::User=root "$@"
 }
 
-# unpack ARCHITECTURE TARGET: std for a target, beside that of this machine.
+# unpack ARCHITECTURE TARGET: puts the std for a target next to this machine's.
 unpack() {
     apt_of "$1" update
     (cd "$folder" && apt_of "$1" download "libstd-rust-web-dev=$version")
     dpkg -x "$folder"/libstd-rust-web-dev_*_"$1".deb "$folder/sysroot-$2"
 }
 
-# pass TARGET COMPILER [RUNNER..]: all tests of the crate.
+# pass TARGET COMPILER [RUNNER..]: runs all tests of the crate.
 pass() {
     name=$(echo "$1" | tr a-z- A-Z_) target=$1 compiler=$2
     shift 2

@@ -1,13 +1,13 @@
-// Compares where and why a text is no version, in each dialect, with brute force.
+// Compares where and why a text is an invalid version, in each dialect, with brute force.
 //
-// `node version-places.js PROGRAM COUNT SEED`, where PROGRAM is the built `replayed_cases`. It makes
-// the texts that versions-with-tools.js makes, COUNT of each kind, all texts of up to four
-// characters, and all of up to three after `1.0.0-` and after `1.0.0+`. A version is what a tool
-// reads: to npm node-semver, to Cargo the regular expression of semver.org with numbers below 2^64,
-// to the crate that of docs/GRAMMAR.md. A prefix is what one of COMPLETIONS makes a version of; for
-// short texts all completions of up to three characters are tried too. The reason is the one of the table in
-// docs/GRAMMAR.md, with a node-semver whose limit of length is raised. It prints the first 20
-// differences, and then ends with status 1.
+// `node version-places.js PROGRAM COUNT SEED`: PROGRAM is the built `replayed_cases`. It tests
+// COUNT texts of each kind that versions-with-tools.js makes, all texts of up to four characters,
+// and all of up to three after `1.0.0-` and after `1.0.0+`. What is a version is determined by
+// node-semver for npm, by the regular expression of semver.org with numbers below 2^64 for Cargo,
+// and by the one in docs/GRAMMAR.md for the crate. A prefix of a version is a text that one of
+// COMPLETIONS makes a version; for short texts all completions of up to three characters are tried,
+// too. The reason is the one in the table of docs/GRAMMAR.md, found by a node-semver whose limit of
+// length is raised. It prints the first 20 differences, and then exits with 1.
 'use strict'
 
 const { Random, answers } = require('./with-node-semver.js')
@@ -36,7 +36,7 @@ function semverWithin (length) {
   }
 }
 
-// What three numbers below 2^64 begin that a regular expression reads.
+// Whether a regular expression matches a text whose three numbers are below 2^64.
 const byGrammar = (grammar) => (of) => {
   const read = grammar.exec(of)
   return read !== null && read.slice(1, 4).every((number) => BigInt(number) < 2n ** 64n)
@@ -51,7 +51,8 @@ const byCargo = byGrammar(new RegExp(`^${NUMBERS}${parts(PRE, PART)}$`))
 const byCrate = byGrammar(new RegExp(`^[ \\t\\n\\r]*${NUMBERS}${parts(RUNS, RUNS)}[ \\t\\n\\r]*$`))
 const byNpm = semverWithin()
 
-// Whether a text is a version to each tool, whether one of any length, and the reasons of a number above its limit and of a leading v.
+// For each tool: whether a text is a version, whether it is one without the limit of length, and
+// the reasons for a number above its limit and for a leading v.
 const TOOLS = {
   crate: { isVersion: byCrate, isLong: byCrate, tooLarge: 'too-large', ofMark: 'crate-v' },
   cargo: { isVersion: byCargo, isLong: byCargo, tooLarge: 'too-large', ofMark: 'cargo-v' },
@@ -61,7 +62,7 @@ const TOOLS = {
 const isPrefix = (isVersion, of, completions) => completions.some((completion) => isVersion(of + completion))
 const isWhite = (of) => /^[\t-\r ]/.test(of)
 
-// The white space that the first byte of a character begins; else the character itself.
+// The white space that begins with the same byte as a character, or else the character.
 const begun = (character) => WHITE.find((white) => Buffer.from(white)[0] === Buffer.from(character)[0]) ?? character
 
 // The reason by the table.
@@ -84,7 +85,7 @@ function reason ({ isVersion, isLong, tooLarge, ofMark }, prefix, next) {
   return /\d/.test(prefix) ? missing : 'unexpected-character'
 }
 
-// Where and why a text is no version, in bytes of UTF-8.
+// Where and why a text is an invalid version, in bytes of UTF-8.
 function wanted (tool, of, completions) {
   if (tool.isVersion(of)) return 'a version'
   const characters = [...of]
@@ -118,7 +119,7 @@ function compare (program, what, all, completions = COMPLETIONS) {
   console.log(`${what}: ${all.length} texts, no versions: ${counts.join(', ')}`)
 }
 
-// All texts of so many of some characters.
+// All texts of a length, made of some characters.
 function * texts (length, of) {
   if (length === 0) return yield ''
   for (const prefix of texts(length - 1, of)) for (const last of of) yield prefix + last
@@ -142,7 +143,7 @@ function main ([program, count, seed]) {
   compare(program, 'changed', made(Number(count), changed))
   compare(program, 'near the limit', made(Math.ceil(count / 10), limit))
   const beside = (of) => [`${of}1.0.0`, `v${of}1.0.0`, `1.${of}0.0`, `1.0.0${of}`, `1.0.0-a${of}`, `1.0.0-01${of}`]
-  compare(program, 'beside each character', [...WHITE, ...OTHER].flatMap(beside))
+  compare(program, 'next to each character', [...WHITE, ...OTHER].flatMap(beside))
   console.log(`${differences === 0 ? 'no' : differences} differences`)
   process.exit(differences === 0 ? 0 : 1)
 }

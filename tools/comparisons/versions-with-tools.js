@@ -1,12 +1,11 @@
-// Compares which texts are versions to Cargo and npm, and what they are.
+// Compares which texts are versions in Cargo and npm, and how they are parsed.
 //
-// `node versions-with-tools.js PROGRAM CARGO COUNT SEED`, where PROGRAM is the built
-// `replayed_cases`, and CARGO the built `versions-by-cargo-semver`, which asks `Version::parse` of
-// the crate `semver`. It makes COUNT texts by the grammar, COUNT with one to three changes, a tenth
-// of COUNT near npm's limit of 256 characters, and all texts of up to five characters after `1.0.0`
-// and of up to three before it. Each text is read in both dialects and by both tools, and the
-// numbers and identifiers are compared. It prints the first 20 differences, and then ends with
-// status 1.
+// `node versions-with-tools.js PROGRAM CARGO COUNT SEED`: PROGRAM is the built `replayed_cases`,
+// and CARGO the built `versions-by-cargo-semver`, which calls `Version::parse` of the crate
+// `semver`. It makes COUNT texts by the grammar, COUNT with one to three changes, a tenth of COUNT
+// near npm's limit of 256 characters, and all texts of up to five characters after `1.0.0` and of
+// up to three before it. Each text is read in both dialects and by both tools, and the numbers and
+// identifiers are compared. It prints the first 20 differences, and then exits with 1.
 //
 // An identifier of digits is a number here if it is below 2^64. node-semver keeps one from 2^53 - 1
 // on as a text, which prints the same.
@@ -18,7 +17,8 @@ const { Random, answers } = require('./with-node-semver.js')
 
 const BATCH = 10000
 const AFTER = [...'-+.019avV= ']
-// The white space of JavaScript, and other characters: beside these, invisible, or digits.
+// The white space of JavaScript, and other characters: neighbours of these, invisible ones, and
+// digits.
 const WHITE = [...'\t\n\v\f\r \u00a0\u1680', ...'\u2000\u2001\u2002\u2003\u2004\u2005\u2006',
   ...'\u2007\u2008\u2009\u200a\u2028\u2029\u202f\u205f\u3000\ufeff']
 const OTHER = [...'\0\u0008\u000e\u001c\u001f\u007f\u0080\u0085\u009f\u00a1\u00ad\u167f\u1681',
@@ -98,14 +98,14 @@ function limit (random) {
   }
 }
 
-// All texts of so many characters.
+// All texts of a length.
 function * texts (length) {
   if (length === 0) return yield ''
   for (const front of texts(length - 1)) for (const last of AFTER) yield front + last
 }
 
-// A text without the characters that end a field or a line of the program's input, or begin an
-// escape.
+// A text in which the characters are escaped that end a field or a line of the program's input, or
+// begin an escape.
 const ESCAPES = { '\\': '\\\\', '\n': '\\n', '\r': '\\r', '\t': '\\t' }
 const escaped = (of) => of.replace(/[\\\n\r\t]/g, (character) => ESCAPES[character])
 
@@ -119,7 +119,7 @@ function kind (identifier) {
 const kinds = (identifiers) => `[${identifiers.map(kind).join(' ')}]`
 const fields = (numbers, pre, build) => `${numbers.join(' ')} pre${kinds(pre)} build${kinds(build)}`
 
-// What node-semver reads: `none`, or the numbers and identifiers, which it prints so too.
+// What node-semver parses: `none`, or the numbers and identifiers, which it has to print again.
 function byNpm (of) {
   try {
     const { major, minor, patch, prerelease, build, version } = new semver.SemVer(of)
@@ -131,7 +131,7 @@ function byNpm (of) {
   }
 }
 
-// What the crate `semver` reads of each text: `none`, or the numbers and identifiers.
+// What the crate `semver` parses in each text: `none`, or the numbers and identifiers.
 function byCargo (cargo, all) {
   const input = all.map((of) => escaped(of) + '\n').join('')
   const ran = spawnSync(cargo, { input, encoding: 'utf8', maxBuffer: 1 << 30 })
@@ -183,7 +183,7 @@ function main ([program, cargo, count, seed]) {
   compare(program, cargo, 'all before 1.0.0', before.map((of) => of + '1.0.0'))
   const fronts = (of) => [`${of}1.0.0`, `v${of}1.0.0`, `${of}v1.0.0+a${of}`]
   const beside = (of) => [...fronts(of), `1.0.0${of}`, `1.0.0-a${of}`]
-  compare(program, cargo, 'beside each character', [...WHITE, ...OTHER].flatMap(beside))
+  compare(program, cargo, 'next to each character', [...WHITE, ...OTHER].flatMap(beside))
   console.log(`${differences === 0 ? 'no' : differences} differences`)
   process.exit(differences === 0 ? 0 : 1)
 }

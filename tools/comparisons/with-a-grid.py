@@ -1,10 +1,17 @@
-"""Compares sets of versions with brute force: python3 with-a-grid.py PROGRAM COUNT SEED, where PROGRAM is the built `replayed_cases`.
+"""Compares sets of versions with brute force: with-a-grid.py PROGRAM COUNT SEED.
 
-It makes COUNT random pairs of range texts. The numbers and identifiers in them are so few that a grid of versions has each place at which an answer can
-change. Each version of the grid is asked for by itself, of each term, by `meets_term` of tools/range_meaning.py. So the grid tells what each set has, and from that
-follows each answer: the least version that the first set has alone, the second alone, and both; within, overlaps and same; and of eight versions of
-the grid what they are in. And of each pair what the first set has alone, the second alone, and both is asked for as ranges: by precedence they have to be met
-by just these versions of the grid. Any difference is printed, and ends it.
+PROGRAM is the built `replayed_cases`. This makes COUNT random pairs of range texts. They have so
+few numbers and identifiers that a grid of versions has each point at which a result can change.
+Each version of the grid is matched with each term by `meets_term` of tools/range_meaning.py. This
+gives the contents of each set in the grid, and from them each result is computed:
+
+- the lowest version that only the first set has, only the second, and both
+- within, overlaps and same
+- for eight versions of the grid, which sets contain them
+- the ranges of what only the first set has, only the second, and both: by precedence, exactly these
+  versions of the grid have to satisfy them
+
+Prints any difference, and exits.
 """
 
 import random
@@ -18,7 +25,8 @@ from range_meaning import RULES, meets_term, precedence, ranges, shown, version
 
 NUMBERS = (0, 1, 2)
 PRE_RELEASES = ((0,), (1,), ("a",), ("a", 0), ("a", "b"), ("b",))
-# With 3 the grid has the next numbers of each; with the identifier 0 it has the lowest pre-releases, and those right after another.
+# With 3 the grid has the next number after each. With the identifier 0 it has the lowest
+# pre-releases, and those directly after another one.
 GRID_NUMBERS = (0, 1, 2, 3)
 OTHERS = ((2,), (7,), ("B",), ("Z",), (0, 0, 0), (0, "z"), (1, 1), (1, "a"), ("a", 0, 1), ("a", 1), ("a", "a"), ("a", "b", "c"), ("a", "c"), ("aa",), ("b", 1), ("b", "a"), ("b", "b"), ("c",), ("z",))
 GRID_PRE_RELEASES = sorted({*PRE_RELEASES, *(pre + (0,) for pre in PRE_RELEASES), *OTHERS}, key=str)
@@ -27,7 +35,7 @@ ASKED = 8
 
 
 def mask(holds):
-    """The versions of the grid for which this holds, as the bits of a number."""
+    """Returns the versions of the grid for which this holds, as the bits of a number."""
     return sum(1 << at for at, it in enumerate(GRID) if holds(it))
 
 
@@ -49,7 +57,8 @@ def of_numbers(stated):
 
 
 def of_text(text, mode, rule):
-    """The versions of the grid that a text means: of each range what meets each of its terms, and counts."""
+    """Returns the versions of the grid that a text matches: for each range those that satisfy each
+    of its terms, and count."""
     found = 0
     for terms in ranges(text, mode):
         met, counting = -1, RELEASES
@@ -73,14 +82,14 @@ def wanted(first, second, asked):
     return answer + "".join(f"; {shown(GRID[at])}:" + "".join(f" {word}" for word, bits in sets if bits >> at & 1) for at in asked)
 
 
-# ---- ranges that are answered
+# ---- ranges that are returned
 
 
 COMPARATORS = {}
 
 
 def of_comparator(comparator):
-    """The versions of the grid that meet a comparator by precedence."""
+    """Returns the versions of the grid that satisfy a comparator by precedence."""
     if comparator not in COMPARATORS:
         bound = comparator.lstrip("<>=")
         sign, at = comparator[: -len(bound)], precedence(version(bound))
@@ -90,7 +99,7 @@ def of_comparator(comparator):
 
 
 def of_ranges(text, of_kind):
-    """The versions of a kind, as bits of the grid, that meet ranges."""
+    """Returns the versions of a kind that satisfy ranges, as bits of the grid."""
     found = 0
     for one in text.split(" || "):
         met = of_kind
@@ -101,7 +110,8 @@ def of_ranges(text, of_kind):
 
 
 def differs(first, second, answer):
-    """Whether ranges of what is lost, gained and shared are met by other versions of the grid than these."""
+    """Returns whether the ranges of what is lost, gained and shared are satisfied by other versions
+    of the grid than these."""
     for part, bits in zip(answer.removeprefix("-: ").split("; "), (first & ~second, second & ~first, first & second)):
         releases, pre_releases = part.split(" ", 1)[1].split(", pre-releases ")
         if of_ranges(releases, RELEASES) | of_ranges(pre_releases, PRE_RELEASES_OF_GRID) != bits:
@@ -131,7 +141,7 @@ def one_text(of):
 
 
 def another(of, text):
-    """A text by itself, or one beside another: with a part changed or left out, or in another order."""
+    """Returns a new text, or another text with a part changed or left out, or in another order."""
     parts = text.split("||")
     how = of.random()
     if how < 0.5:

@@ -1,9 +1,13 @@
-// Compares what range texts mean here with what they mean by node-semver: `node with-node-semver.js PROGRAM COUNT SEED`, where
-// PROGRAM is the built `replayed_cases`. It makes COUNT pairs of a range text and a version, in npm mode, and compares them by two rules:
-// pre-releases included on both sides, and as stated, which is node-semver's rule where nothing else is asked for. Where node-semver is
-// known to mean something else, its answer is undone: each simple is turned into one that node-semver reads as it is meant here; which
-// pre-releases count beside these is left to node-semver. It counts how often each departure changed an answer, and prints the first other
-// difference. It also lets node-semver read the printed set with exact bounds of each text, which has to give the same comparators.
+// Compares which versions range texts match here and in node-semver.
+//
+// `node with-node-semver.js PROGRAM COUNT SEED`: PROGRAM is the built `replayed_cases`. It makes
+// COUNT pairs of a range text and a version in npm mode, and compares them by two rules:
+// pre-releases included on both sides, and the default rule, which is also node-semver's default.
+// If node-semver is known to read something differently, that is undone: each simple range is
+// turned into one that node-semver reads as it is meant here. Which pre-releases count next to
+// these is left to node-semver. It counts how often each departure changed a result, and prints the
+// first other difference. It also lets node-semver parse the printed set with exact bounds of each
+// text, which has to give the same comparators.
 'use strict'
 
 const semver = require('semver')
@@ -20,7 +24,7 @@ const DROPPED = '`>=0.0.0` is dropped, so pre-releases of 0.0.0 are let in'
 const REDUCED = 'beside a range that states nothing, all other ranges are dropped, and with them what they state'
 const NOTHING = 'nothing stated takes the pre-releases of 0.0.0 in, or for `<` and `>` leaves them out'
 
-// A small generator of numbers; its whole state is its seed.
+// A small random number generator. Its state is only the seed.
 class Random {
   constructor (seed) {
     this.state = BigInt(seed) * 0x9e3779b97f4a7c15n & 0xffffffffffffffffn | 1n
@@ -43,7 +47,7 @@ class Random {
 const number = (random) => String(random.of([0, 0, 0, 1, 1, 2, 3, 9, 10, 11]))
 const preRelease = (random) => random.of(['alpha', 'alpha.1', 'beta', 'beta.2', 'beta.11', 'rc-1', '1', '2.a', 'a.0'])
 
-// A partial: what it states, and its text.
+// A partial version: what it states, and its text.
 function partial (random) {
   const stated = [number(random), number(random), number(random)].slice(0, random.of([0, 1, 2, 3, 3, 3]))
   const wildcard = random.of(['x', '*', 'X'])
@@ -55,7 +59,7 @@ function partial (random) {
   return { stated, pre, text }
 }
 
-// The zero-filled version of a partial.
+// The version of a partial one, completed with zeros.
 const filled = (p) => p.stated.concat(['0', '0', '0']).slice(0, 3).join('.') + p.pre
 
 function simple (random) {
@@ -74,14 +78,14 @@ function range (random) {
   return { parts: simples, text: simples.map((s) => s.text).join(' ') }
 }
 
-// A side that states nothing is left out where the other states something.
+// A side that states nothing is left out if the other one states something.
 function sides (left, right) {
   const lower = { sign: '>=', of: left, text: `>=${left.text}` }
   const upper = { sign: '<=', of: right, text: `<=${right.text}` }
   return [lower, upper].filter((side) => side.of.stated.length > 0 || left.stated.length + right.stated.length === 0)
 }
 
-// A version near a partial of the text.
+// A version near a partial version of the text.
 function version (random, ranges) {
   const near = random.of(random.of(ranges).parts).of
   const numbers = filled({ stated: near.stated, pre: '' }).split('.').map(Number)
@@ -94,7 +98,8 @@ function version (random, ranges) {
   return numbers.join('.') + pre
 }
 
-// The comparators of node-semver that mean what a part means here, and the departure that was undone.
+// The comparators that mean in node-semver what a part means here, and the departure that was
+// undone.
 function meant ({ sign, of, text }, options) {
   const one = (comparator) => [new semver.Comparator(comparator, options)]
   if (of.stated.length === 0) {
@@ -109,7 +114,8 @@ function meant ({ sign, of, text }, options) {
   return [upper.concat(lower), options.includePrerelease ? LOWER : filled(of) === '0.0.0' ? DROPPED : undefined]
 }
 
-// Whether the comparators of some range are met, by the rule of the options, as node-semver has it.
+// Whether a version satisfies the comparators of some range in node-semver, by the rule of the
+// options.
 function isMet (sets, tested, options) {
   const range = new semver.Range('*', options)
   return sets.some((set) => {
@@ -118,7 +124,8 @@ function isMet (sets, tested, options) {
   })
 }
 
-// Whether a version meets some range by what its parts mean, and the departures by which node-semver's own answer may be another.
+// Whether a version satisfies some range by what its parts mean, and the departures because of
+// which node-semver may return something else.
 function expected (text, ranges, tested, options) {
   const parts = ranges.map((range) => range.parts.map((part) => meant(part, options)))
   const answer = isMet(parts.map((range) => range.flatMap(([comparators]) => comparators)), tested, options)
@@ -130,7 +137,7 @@ function expected (text, ranges, tested, options) {
   return { answer, departures, isKnown: departures.size > 0 }
 }
 
-// What the program answers to each line, which gets a name in front.
+// The program's result for each line, which gets a name in front.
 function answers (program, lines) {
   const input = lines.map((line) => `-\t${line}\n`).join('')
   const ran = spawnSync(program, { input, encoding: 'utf8', maxBuffer: 1 << 30 })
@@ -138,7 +145,8 @@ function answers (program, lines) {
   return ran.stdout.trimEnd().split('\n').map((line) => line.replace(/^-: /, ''))
 }
 
-// Whether node-semver reads a printed set as the same comparators. It writes `=1.2.3` as `1.2.3`, and repeats once.
+// Whether node-semver parses a printed set into the same comparators. It writes `=1.2.3` as
+// `1.2.3`, and repeated comparators once.
 function readsBack (printed) {
   const written = printed.split(' || ').map((range) => [...new Set(range.split(' ').map((word) => word.replace(/^=/, '')))])
   const read = new semver.Range(printed, INCLUDED).set.map((comparators) => comparators.map((comparator) => comparator.value))
@@ -173,7 +181,7 @@ function compare (program, cases, { call, options }, seed) {
       const { answer, departures, isKnown } = expected(text, ranges, new semver.SemVer(tested), options)
       const of = `${call}: ${JSON.stringify(text)} and ${tested}`
       if (answer !== kept[at].has(tested)) differ(`${of}: wanted here ${answer}, answered here ${!answer}`)
-      if (!isKnown) differ(`${of}: answered here ${answer}, and by node-semver ${!answer} for no known reason`)
+      if (!isKnown) differ(`${of}: here ${answer}, in node-semver ${!answer}, for no known reason`)
       met += answer ? 1 : 0
       for (const departure of departures) occurred.set(departure, (occurred.get(departure) || 0) + 1)
     }

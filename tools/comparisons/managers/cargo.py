@@ -1,6 +1,6 @@
-"""The checker beside Cargo: workspaces over crates of a directory, whose Cargo.lock Cargo writes,
-and edits of manifests, of that and of the graph, which `cargo metadata --locked` takes or
-refuses."""
+"""Compares the checker with Cargo: workspaces that use crates from a directory, with the Cargo.lock
+that Cargo writes, and edits of the manifests, of that file and of the graph, which `cargo metadata
+--locked` accepts or rejects."""
 
 import json
 from pathlib import Path
@@ -28,15 +28,15 @@ CHANGES = 5
 
 
 def compare(what: str, is_taken: bool, path: Path, found: Differences, shown: object) -> None:
-    """Compares whether Cargo takes a lock file or a graph, and whether the checker does."""
-    found.count(f"{what}: Cargo {'takes' if is_taken else 'refuses'} it")
+    """Compares whether Cargo accepts a lock file or a graph, and whether the checker does."""
+    found.count(f"{what}: Cargo {'accepts' if is_taken else 'rejects'} it")
     if is_taken == is_refused(path):
-        who = "refused here, and Cargo takes it" if is_taken else "Cargo alone refuses it"
+        who = "rejected here, but Cargo accepts it" if is_taken else "only Cargo rejects it"
         found.add(f"{what}: {who}", shown)
 
 
 def shown_of(world: World, lock: str, **more: Any) -> Dict[str, Any]:
-    """A world as it is kept."""
+    """Returns a world as it is kept."""
     return {**more, "manifests": texts_of(world), "lock": lock}
 
 
@@ -62,9 +62,12 @@ def mend(top: Path, world: World, lock: str, found: Differences) -> None:
 
 
 def damage_lock(top: Path, world: World, maker: Maker, found: Differences) -> None:
-    """Damages the Cargo.lock, in one place at a time. Cargo goes by what crates of the registry
-    require, too, which the file doesn't have: it refuses a version for that, and ignores an edge to
-    no package or to one of several, if nothing requires it."""
+    """Damages the Cargo.lock, in one place at a time.
+
+    Cargo also knows what crates of the registry require, which isn't in the file. It rejects a
+    version for that reason, and ignores an edge that leads to no package or to several if nothing
+    requires it.
+    """
     path = top / "Cargo.lock"
     lock = path.read_text()
     for _ in range(CHANGES):
@@ -74,7 +77,7 @@ def damage_lock(top: Path, world: World, maker: Maker, found: Differences) -> No
         if what == A_CHECKSUM and not taken and not refused:
             found.choose("Cargo compares checksums with those of the registry", what)
         elif is_of_registry and taken == refused and (refused is False or what == AN_EDGE_MORE):
-            found.count(f"{what}: Cargo {'takes' if taken else 'refuses'} it")
+            found.count(f"{what}: Cargo {'accepts' if taken else 'rejects'} it")
             found.choose("Cargo.lock has no requirements of crates", shown_of(world, text))
         else:
             compare(what, taken, path, found, shown_of(world, text))
@@ -86,14 +89,14 @@ def damage_lock(top: Path, world: World, maker: Maker, found: Differences) -> No
 
 
 def needs_changed(needs: List[Need], maker: Maker) -> Tuple[int, List[Need]]:
-    """Requirements of which one is another one, and which that is."""
+    """Returns requirements of which one is replaced, and its index."""
     index = maker.chance.randrange(len(needs))
     other = needs[index]._replace(requirement=maker.requirement_for(needs[index].name))
     return index, [*needs[:index], other, *needs[index + 1 :]]
 
 
 def crates_in(graph: Dict[str, List[Dict[str, object]]]) -> Iterator[Crate]:
-    """The crates of the registry that a graph has."""
+    """Yields the crates of the registry in a graph."""
     yield from ((str(it["name"]), str(it["version"])) for it in graph["packages"])
 
 
@@ -121,7 +124,7 @@ def change_graph(top: Path, graph: str, world: World, maker: Maker, found: Diffe
 
 
 def run(top: Path, count: int, seed: int) -> Differences:
-    """Compares so many worlds."""
+    """Compares `count` worlds."""
     found, made = Differences("cargo"), 0
     for number in range(count * 20):
         if made == count:

@@ -1,4 +1,4 @@
-"""Edits of a world of Cargo: of its manifests by hand, and of its Cargo.lock by damage."""
+"""Edits of a world for Cargo: edits of its manifests as by hand, and damage of its Cargo.lock."""
 
 import copy
 import re
@@ -7,13 +7,13 @@ from typing import Callable, Dict, List, Optional, Tuple
 from cargo_worlds import TABLES, VERSIONS, Maker, Need, World
 
 Edited = Optional[str]
-"""Where an edit is, if there was something to edit."""
+"""The place of an edit, or None if there was nothing to edit."""
 
 # ---- of manifests
 
 
 def with_needs(world: World, is_member: bool = False) -> List[str]:
-    """The packages at paths that require something."""
+    """Returns the packages at paths that require something."""
     places = world.members if is_member else list(world.locals)
     return [place for place in places if world.locals[place].needs]
 
@@ -36,7 +36,7 @@ def change_need(
 
 
 def another_requirement(world: World, maker: Maker) -> Edited:
-    """Another requirement."""
+    """Replaces a requirement."""
 
     def change(need: Need) -> Need:
         version = world.locals[need.place].version if need.place else None
@@ -48,14 +48,14 @@ def another_requirement(world: World, maker: Maker) -> Edited:
 
 
 def another_table(world: World, maker: Maker) -> Edited:
-    """Another table."""
+    """Moves a requirement to another table."""
     return change_need(
         world, maker, lambda it: it._replace(table=maker.chance.choice(TABLES), is_optional=False)
     )
 
 
 def another_target(world: World, maker: Maker) -> Edited:
-    """A table for an expression of targets that is valid or nearly so."""
+    """Puts a requirement into a table for an expression of targets that is valid, or nearly so."""
     text = "cfg(all(unix, not(any(a, b = \"c\"))))"
     at = maker.chance.randrange(len(text) + 1)
     piece = maker.chance.choice(("", " ", "(", ")", ",", "=", '"', "a", "not", "r#"))
@@ -65,7 +65,7 @@ def another_target(world: World, maker: Maker) -> Edited:
 
 
 def optional(world: World, maker: Maker) -> Edited:
-    """What is optional isn't, or the other way round."""
+    """Makes a requirement optional, or an optional one mandatory."""
 
     def change(need: Need) -> Optional[Need]:
         is_free = "dev-" not in need.table and not need.is_optional
@@ -75,7 +75,7 @@ def optional(world: World, maker: Maker) -> Edited:
 
 
 def another_source(world: World, maker: Maker) -> Edited:
-    """A crate of a directory in place of the registry's."""
+    """Requires a crate from a directory instead of the registry's."""
     places = [it for it in world.locals if it.startswith("patched/")]
 
     def change(need: Need) -> Optional[Need]:
@@ -86,7 +86,7 @@ def another_source(world: World, maker: Maker) -> Edited:
 
 
 def features(world: World, maker: Maker) -> Edited:
-    """Other features of a package at a path."""
+    """Requires other features of a package at a path."""
 
     def change(need: Need) -> Optional[Need]:
         own = world.locals[need.place].features if need.place else {}
@@ -98,7 +98,7 @@ def features(world: World, maker: Maker) -> Edited:
 
 
 def added(world: World, maker: Maker) -> Edited:
-    """A requirement more."""
+    """Adds a requirement."""
     place = maker.chance.choice(list(world.locals))
     local = world.locals[place]
     free = [it for it in maker.names if it not in {need.name for need in local.needs}]
@@ -110,7 +110,7 @@ def added(world: World, maker: Maker) -> Edited:
 
 
 def removed(world: World, maker: Maker) -> Edited:
-    """A requirement less."""
+    """Removes a requirement."""
     places = with_needs(world)
     if not places:
         return None
@@ -122,14 +122,14 @@ def removed(world: World, maker: Maker) -> Edited:
 
 
 def another_version(world: World, maker: Maker) -> Edited:
-    """Another version of a package at a path."""
+    """Changes the version of a package at a path."""
     place = maker.chance.choice(list(world.locals))
     world.locals[place].version = maker.chance.choice(VERSIONS)
     return place
 
 
 def member_added(world: World, maker: Maker) -> Edited:
-    """A member more, if there is a workspace."""
+    """Adds a member, if there is a workspace."""
     if "" in world.members:
         return None
     world.locals["members/more"] = maker.local("more", 1)
@@ -138,7 +138,7 @@ def member_added(world: World, maker: Maker) -> Edited:
 
 
 def member_renamed(world: World, maker: Maker) -> Edited:
-    """A member of another name, which another one may require."""
+    """Renames a member, which another member may require."""
     place = maker.chance.choice(world.members)
     world.locals[place].name = "other"
     for local in world.locals.values():
@@ -150,7 +150,7 @@ def member_renamed(world: World, maker: Maker) -> Edited:
 
 
 def member_removed(world: World, maker: Maker) -> Edited:
-    """A member less, which another one no longer requires."""
+    """Removes a member, and what requires it."""
     if len(world.members) < 2:
         return None
     place = world.members.pop(maker.chance.randrange(len(world.members)))
@@ -161,7 +161,7 @@ def member_removed(world: World, maker: Maker) -> Edited:
 
 
 def patch_added(world: World, maker: Maker) -> Edited:
-    """A patch more."""
+    """Adds a patch."""
     if world.patches:
         return None
     maker.add_patch(world)
@@ -169,12 +169,12 @@ def patch_added(world: World, maker: Maker) -> Edited:
 
 
 def patch_removed(world: World, maker: Maker) -> Edited:
-    """A patch less."""
+    """Removes a patch."""
     return world.patches.pop() if world.patches else None
 
 
 def feature_gone(world: World, maker: Maker) -> Edited:
-    """A feature less of a package at a path, which another one may require."""
+    """Removes a feature of a package at a path, which another package may require."""
     places = [it for it, local in world.locals.items() if local.features]
     if not places:
         return None
@@ -188,7 +188,7 @@ def feature_gone(world: World, maker: Maker) -> Edited:
 
 
 def feature_of_another(world: World, maker: Maker) -> Edited:
-    """A default feature that requires one of another package at a path."""
+    """Adds a default feature that requires a feature of another package at a path."""
     places = [it for it in with_needs(world) if any(need.place for need in world.locals[it].needs)]
     if not places:
         return None
@@ -201,7 +201,7 @@ def feature_of_another(world: World, maker: Maker) -> Edited:
 
 
 def cycle(world: World, maker: Maker) -> Edited:
-    """A package at a path that requires one that may require it."""
+    """Makes two packages at paths require each other."""
     if len(world.members) < 2:
         return None
     one, other = world.members[:2]
@@ -213,7 +213,7 @@ def cycle(world: World, maker: Maker) -> Edited:
 
 
 def another_name(world: World, maker: Maker) -> Edited:
-    """A requirement more of what a package requires, by another name."""
+    """Requires what a package requires a second time, by another name."""
     places = with_needs(world)
     if not places:
         return None
@@ -225,7 +225,7 @@ def another_name(world: World, maker: Maker) -> Edited:
 
 
 def links(world: World, maker: Maker) -> Edited:
-    """Packages at paths that link a library, perhaps the same."""
+    """Makes packages at paths link a library, perhaps the same one."""
     for place in world.members:
         library = maker.chance.choice("yz")
         world.locals[place].more = f'links = "{library}"\nbuild = "src/lib.rs"\n'
@@ -233,7 +233,7 @@ def links(world: World, maker: Maker) -> Edited:
 
 
 def invalid_manifest(world: World, maker: Maker) -> Edited:
-    """A line that Cargo rejects."""
+    """Adds a line that Cargo rejects."""
     place = maker.chance.choice(world.members)
     lines = ('resolver = "9"', 'links = "z"', 'workspace = "nowhere"', 'rust-version = "1.60"')
     world.locals[place].more = f"{maker.chance.choice(lines)}\n"
@@ -265,7 +265,7 @@ MANIFEST_EDITS: Dict[str, Callable[[World, Maker], Edited]] = {
 
 
 def edited(world: World, maker: Maker) -> Tuple[str, World]:
-    """A copy of a world with an edit of a manifest, and which it is."""
+    """Returns a copy of a world with a random edit of a manifest, and the name of the edit."""
     while True:
         other = copy.deepcopy(world)
         what = maker.chance.choice(list(MANIFEST_EDITS))
@@ -282,8 +282,8 @@ NAME = re.compile(r'name = "([^"]*)"')
 
 
 def damaged(lock: str, maker: Maker) -> Tuple[str, str, bool]:
-    """A damaged copy of a lock file, what the damage is, and whether it is in an entry of the
-    registry, of which the lock file has no requirements."""
+    """Returns a damaged copy of a lock file, the kind of damage, and whether it is in an entry of
+    the registry, whose requirements the lock file doesn't have."""
     head, *entries = ENTRY.split(lock.rstrip("\n"))
     kind = maker.chance.choice(list(DAMAGES))
     index = maker.chance.randrange(len(entries)) if entries else 0
@@ -295,7 +295,7 @@ def damaged(lock: str, maker: Maker) -> Tuple[str, str, bool]:
 
 
 def of_version(entries: List[str], index: int, maker: Maker) -> List[str]:
-    """Another version of an entry."""
+    """Changes the version of an entry."""
     found = NAME.search(entries[index])
     assert found is not None
     known = maker.versions_of(found.group(1)) or list(VERSIONS)
@@ -305,17 +305,17 @@ def of_version(entries: List[str], index: int, maker: Maker) -> List[str]:
 
 
 def of_removed(entries: List[str], index: int, _: Maker) -> List[str]:
-    """An entry less."""
+    """Removes an entry."""
     return [*entries[:index], *entries[index + 1 :]]
 
 
 def of_twice(entries: List[str], index: int, _: Maker) -> List[str]:
-    """An entry twice."""
+    """Repeats an entry."""
     return [*entries[:index], entries[index], *entries[index:]]
 
 
 def of_more(entries: List[str], _: int, maker: Maker) -> List[str]:
-    """An entry to which nothing leads."""
+    """Adds an entry that nothing requires."""
     name, version = maker.chance.choice(list(maker.crates))
     source = "registry+https://github.com/rust-lang/crates.io-index"
     entry = f'[[package]]\nname = "{name}"\nversion = "{version}"\nsource = "{source}"'
@@ -323,13 +323,13 @@ def of_more(entries: List[str], _: int, maker: Maker) -> List[str]:
 
 
 def of_edge_removed(entries: List[str], index: int, _: Maker) -> List[str]:
-    """An entry that depends on one less."""
+    """Removes a dependency of an entry."""
     entry = re.sub(r'(dependencies = \[\n(?:.*\n)*?) ".*",\n', r"\1", entries[index], count=1)
     return [*entries[:index], entry.replace("\ndependencies = [\n]", ""), *entries[index + 1 :]]
 
 
 def of_edge_added(entries: List[str], index: int, maker: Maker) -> List[str]:
-    """An entry that depends on one more."""
+    """Adds a dependency of an entry."""
     found = NAME.search(maker.chance.choice(entries))
     assert found is not None
     line = f' "{found.group(1)}",\n'
@@ -344,7 +344,7 @@ def of_edge_added(entries: List[str], index: int, maker: Maker) -> List[str]:
 
 
 def of_source(entries: List[str], index: int, _: Maker) -> List[str]:
-    """An entry of another source."""
+    """Changes the source of an entry."""
     entry = entries[index]
     if "\nsource = " in entry:
         entry = re.sub('\nsource = "[^"]*"', "", entry)
@@ -355,7 +355,7 @@ def of_source(entries: List[str], index: int, _: Maker) -> List[str]:
 
 
 def of_checksum(entries: List[str], index: int, maker: Maker) -> List[str]:
-    """An entry without a checksum, or with one that is none."""
+    """Removes the checksum of an entry, or makes it an invalid one."""
     value = maker.chance.choice(("", '\nchecksum = "<none>"', '\nchecksum = "0123"'))
     entry = re.sub('\nchecksum = "[^"]*"', "", entries[index])
     entry = re.sub('(\nversion = "[^"]*"(?:\nsource = "[^"]*")?)', rf"\1{value}", entry, count=1)

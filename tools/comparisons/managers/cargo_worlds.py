@@ -1,4 +1,4 @@
-"""Random crates of a directory, and workspaces of Cargo that require them, by a seed."""
+"""Random crates in a directory, and workspaces of Cargo that require them, from a seed."""
 
 import hashlib
 import json
@@ -23,8 +23,8 @@ Crate = Tuple[str, str]
 
 
 class Need(NamedTuple):
-    """A requirement of a manifest: its table, its key, the crate, the requirement, whether it is
-    optional, the directory of the crate, if that is at a path, and its features."""
+    """A requirement of a manifest: its table, its key, the crate, the version requirement, whether
+    it is optional, the directory of the crate if that is at a path, and its features."""
 
     table: str
     key: str
@@ -35,7 +35,7 @@ class Need(NamedTuple):
     features: Tuple[str, ...] = ()
 
     def line(self, own_place: str) -> str:
-        """The line in the table of a manifest in a directory."""
+        """Returns the line for the table of a manifest in a directory."""
         fields = [f'version = "{self.requirement}"'] if self.requirement else []
         if self.place:
             fields.append(f'path = "{os.path.relpath(self.place, own_place)}"')
@@ -51,8 +51,8 @@ Needs = Dict[Crate, List[Need]]
 
 @dataclass
 class Local:
-    """A package at a path: its name and version, what it requires, its features, and more of its
-    table."""
+    """A package at a path: its name and version, its requirements, its features, and further lines
+    of its table."""
 
     name: str
     version: str
@@ -64,7 +64,7 @@ class Local:
 @dataclass
 class World:
     """The crates of a registry, the packages at paths by their directories, the members of the
-    workspace, which may be one package alone, and the patches of crates by their directories."""
+    workspace, which may be a single package, and the patches of crates by their directories."""
 
     crates: Needs
     locals: Dict[str, Local]
@@ -80,11 +80,11 @@ class Maker:
         self.crates: Needs = {}
 
     def maybe(self, share: float) -> bool:
-        """Whether something is so, as often as a share has it."""
+        """Returns true with a probability."""
         return self.chance.random() < share
 
     def requirement_of(self, version: str) -> str:
-        """A requirement by which a version may be required."""
+        """Returns a requirement that a version may be required by."""
         major, minor, _ = version.partition("-")[0].split(".")
         forms = [f"^{version}", version, f"{major}.{minor}", f"~{version}", f"={version}"]
         forms += [f">={version}, <{int(major) + 2}", f">{major}.0.0", f"<={version}"]
@@ -92,20 +92,20 @@ class Maker:
         return self.chance.choice(forms)
 
     def requirement_for(self, name: str) -> str:
-        """A requirement by which a version of a crate may be required."""
+        """Returns a requirement that some version of a crate may be required by."""
         return self.requirement_of(self.chance.choice(self.versions_of(name)))
 
     def versions_of(self, name: str) -> List[str]:
-        """The versions of a crate."""
+        """Returns the versions of a crate."""
         return [it for known, it in self.crates if known == name]
 
     @property
     def names(self) -> List[str]:
-        """The names of the crates."""
+        """Returns the names of the crates."""
         return list(dict.fromkeys(name for name, _ in self.crates))
 
     def need(self, name: str, has_optional: bool) -> Need:
-        """A requirement of a crate."""
+        """Returns a requirement of a crate."""
         table, key = self.chance.choice(TABLES), name
         if self.maybe(0.15):
             table = f"target.'{self.chance.choice(TARGETS)}'.{table}"
@@ -115,12 +115,12 @@ class Maker:
         return Need(table, key, name, self.requirement_for(name), may_lack)
 
     def needs_of(self, names: List[str], most: int, has_optional: bool) -> List[Need]:
-        """What a crate requires, each name once."""
+        """Returns the requirements of a crate, each name once."""
         chosen = self.chance.sample(names, min(len(names), self.chance.randint(0, most)))
         return [self.need(name, has_optional) for name in chosen]
 
     def local(self, name: str, most: int) -> Local:
-        """A package at a path, which may have features that ask for what is optional."""
+        """Returns a package at a path, which may have features for its optional requirements."""
         made = Local(name, self.chance.choice(VERSIONS), self.needs_of(self.names, most, True))
         optional = [it.key for it in made.needs if it.is_optional]
         for number, key in enumerate(optional):
@@ -132,7 +132,7 @@ class Maker:
         return made
 
     def require_local(self, world: World, own: str, place: str) -> None:
-        """Has a package at a path require another one."""
+        """Makes a package at a path require another one."""
         local = world.locals[place]
         version = self.requirement_of(local.version) if self.maybe(0.5) else ""
         features = tuple(it for it in local.features if it != "default" and self.maybe(0.4))
@@ -140,8 +140,8 @@ class Maker:
         world.locals[own].needs.append(need)
 
     def world(self) -> World:
-        """A world: crates, each of which requires some of those before it, a workspace of two
-        members or a package alone, and packages at paths that are no members."""
+        """Returns a world: crates, each of which requires some of those before it, a workspace with
+        two members or a single package, and packages at paths that aren't members."""
         for index, name in enumerate(NAMES[: self.chance.randint(3, len(NAMES))]):
             versions = self.chance.sample(VERSIONS, self.chance.randint(1, 4))
             made = {(name, it): self.needs_of(list(NAMES[:index]), 3, True) for it in versions}
@@ -172,14 +172,14 @@ class Maker:
 
 
 def sum_of(crate: Crate) -> str:
-    """The sum of a crate's archive, which is made up."""
+    """Returns the checksum of a crate's archive, which is made up."""
     return hashlib.sha256(" ".join(crate).encode()).hexdigest()
 
 
 def manifest_of(
     name: str, version: str, needs: List[Need], place: str = "", more: str = ""
 ) -> str:
-    """The text of a Cargo.toml in a directory, without its features."""
+    """Returns the text of a Cargo.toml in a directory, without its features."""
     tables: Dict[str, List[str]] = {}
     for need in needs:
         tables.setdefault(need.table, []).append(need.line(place))
@@ -188,7 +188,7 @@ def manifest_of(
 
 
 def text_of(world: World, place: str) -> str:
-    """The text of the Cargo.toml of a package at a path."""
+    """Returns the text of the Cargo.toml of a package at a path."""
     local = world.locals[place]
     text = manifest_of(local.name, local.version, local.needs, place, local.more)
     if local.features:
@@ -198,13 +198,13 @@ def text_of(world: World, place: str) -> str:
 
 
 def patches_of(world: World) -> str:
-    """The table of the patches."""
+    """Returns the table of patches."""
     lines = [f'{world.locals[it].name} = {{ path = "{it}" }}\n' for it in world.patches]
     return "\n[patch.crates-io]\n" + "".join(lines) if lines else ""
 
 
 def top_of(world: World) -> Optional[str]:
-    """The text of the Cargo.toml of a workspace without a package of its own."""
+    """Returns the text of the Cargo.toml of a workspace that isn't a package itself, or None."""
     if "" in world.members:
         return None
     members = ", ".join(f'"{it}"' for it in world.members)
@@ -213,7 +213,7 @@ def top_of(world: World) -> Optional[str]:
 
 
 def texts_of(world: World) -> Dict[str, str]:
-    """The texts of all Cargo.toml files by their directories."""
+    """Returns the texts of all Cargo.toml files by their directories."""
     texts = {place: text_of(world, place) for place in world.locals}
     top = top_of(world)
     return texts if top is None else {"": top, **texts}
@@ -227,7 +227,7 @@ def write_package(folder: Path, text: str) -> None:
 
 
 def write_manifests(top: Path, world: World) -> None:
-    """Writes the packages at paths in place of those before."""
+    """Replaces the packages at paths."""
     for name in ("members", "beside", "patched", "src"):
         shutil.rmtree(top / name, ignore_errors=True)
     for place, text in texts_of(world).items():
@@ -237,12 +237,12 @@ def write_manifests(top: Path, world: World) -> None:
 
 
 def crate_folder(top: Path, crate: Crate) -> Path:
-    """The directory of a crate of the registry."""
+    """Returns the directory of a crate of the registry."""
     return top / "vendor" / f"{crate[0]}-{crate[1]}"
 
 
 def write_world(top: Path, world: World) -> None:
-    """Writes all, and has Cargo take the crates from there."""
+    """Writes everything, and makes Cargo use the crates from there."""
     for crate, needs in world.crates.items():
         write_package(crate_folder(top, crate), manifest_of(*crate, needs))
         sums = json.dumps({"files": {}, "package": sum_of(crate)})
@@ -255,7 +255,7 @@ def write_world(top: Path, world: World) -> None:
 
 
 def cargo(folder: Path, *arguments: str) -> Optional[str]:
-    """What Cargo prints, without the user's settings; None if it fails."""
+    """Returns what Cargo prints, without the user's settings, or None if it fails."""
     ended = subprocess.run(
         ["cargo", *arguments, "--offline", "--quiet"], cwd=folder, timeout=WAITING,
         env={**os.environ, "CARGO_HOME": str(folder / "home")},
@@ -265,5 +265,6 @@ def cargo(folder: Path, *arguments: str) -> Optional[str]:
 
 
 def graph_at(folder: Path) -> Optional[str]:
-    """What `cargo metadata --locked` prints; None if the lock file would have to be changed."""
+    """Returns what `cargo metadata --locked` prints, or None if the lock file would have to be
+    changed."""
     return cargo(folder, "metadata", "--format-version", "1", "--locked")

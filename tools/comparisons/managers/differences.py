@@ -1,4 +1,4 @@
-"""What differs between the checker and a tool, and what the choices of the README name."""
+"""Differences between the checker and a tool, including those that the README lists as choices."""
 
 import json
 import os
@@ -21,7 +21,7 @@ from semver_parser.checks.model import PROJECT, Scope  # noqa: E402
 from semver_parser.checks.reports import Wanted, report_on  # noqa: E402
 
 Edge = Tuple[str, str]
-"""Who requires which name. The project is empty."""
+"""The package that requires something (empty for the project), and the name that it requires."""
 
 
 class Rejected(Finding):
@@ -34,19 +34,20 @@ class Rejected(Finding):
 
     @property
     def record(self) -> Record:
-        """Why it is."""
+        """Returns the reason."""
         return Record(range=self.why)
 
 
 class Found(NamedTuple):
-    """What the checker lists: requirements that aren't met, and what tools don't look at."""
+    """What the checker lists: requirements that aren't satisfied, and findings that tools don't
+    look for."""
 
     edges: Set[Edge]
     others: List[Finding]
 
 
 def found_in(path: str, is_strict: bool = False) -> Found:
-    """What the checker lists of a lock file."""
+    """Returns what the checker lists for a lock file."""
     report = report_on(path, None, Wanted(Scope()))
     if report.refusal is not None:
         sys.exit(f"{path}: {report.refusal}")
@@ -63,7 +64,7 @@ def found_in(path: str, is_strict: bool = False) -> Found:
 
 
 def findings_in(path: Path) -> List[Finding]:
-    """What the checker lists of a lock file with --strict, or that it rejects the file."""
+    """Returns what the checker lists for a lock file with --strict, or that it rejects it."""
     report = report_on(str(path), None, Wanted(Scope()))
     if report.refusal is not None:
         return [Rejected(str(report.refusal))]
@@ -71,18 +72,18 @@ def findings_in(path: Path) -> List[Finding]:
 
 
 def listed_in(path: Path) -> List[Finding]:
-    """What the checker lists of a lock file by default, or that it rejects the file."""
+    """Returns what the checker lists for a lock file by default, or that it rejects it."""
     return [it for it in findings_in(path) if not it.excuse]
 
 
 def is_refused(path: Path) -> bool:
-    """Whether the checker refuses a lock file, or lists something."""
+    """Returns whether the checker rejects a lock file or lists something."""
     return bool(listed_in(path))
 
 
 class Differences:
-    """How much was compared, and the differences by their kind and those that a choice of the
-    README names, of each the smallest world."""
+    """How much was compared; the differences by kind, and those that a choice of the README names;
+    and the smallest world for each."""
 
     def __init__(self, tool: str) -> None:
         self.tool = tool
@@ -95,23 +96,23 @@ class Differences:
         self.counts[what] = self.counts.get(what, 0) + 1
 
     def choose(self, choice: str, world: Any) -> None:
-        """Keeps a difference that a choice names."""
+        """Records a difference that a choice of the README names."""
         self.keep(f"by choice, {choice}", world)
 
     def add(self, kind: str, world: Any) -> None:
-        """Keeps a difference."""
+        """Records a difference."""
         self.is_same = False
         self.keep(f"DIFFERENCE: {kind}", world)
 
     def keep(self, what: str, world: Any) -> None:
-        """Counts something, and keeps its world if that is smaller than those before."""
+        """Counts something, and keeps its world if that is the smallest so far."""
         self.count(what)
         text = json.dumps(world)
         if len(text) < len(self.smallest.get(what, text + " ")):
             self.smallest[what] = text
 
     def report(self) -> bool:
-        """Prints all. Whether there is no difference but by choice."""
+        """Prints everything. Returns whether all differences are choices."""
         print(f"{self.tool}:")
         for what, count in sorted(self.counts.items()):
             print(f"  {what}: {count}")

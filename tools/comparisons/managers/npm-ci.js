@@ -1,7 +1,9 @@
-// Reads directories, one a line, and answers each with a line of JSON: why `npm ci` refuses the lock file and the
-// manifests there, nothing if it takes them, whose requirements it looks at, and what is optional and it leaves out,
-// since it can't be installed. npm's own libraries do what `npm ci` does before it removes node_modules: npm-ci.js NPM
-// REGISTRY CACHE has the directory of npm, and where it fetches.
+// Reads directories, one on each line, and writes a line of JSON for each: why `npm ci` rejects the
+// lock file and the manifests there (nothing if it accepts them), whose requirements it checks, and
+// which optional dependencies it leaves out because they can't be installed.
+//
+// `npm-ci.js NPM REGISTRY CACHE` has the directory of npm, the registry and the cache. It uses
+// npm's own libraries to do what `npm ci` does before it removes node_modules.
 'use strict'
 const path = require('path')
 const { createInterface } = require('readline')
@@ -9,7 +11,7 @@ const [npm, registry, cache] = process.argv.slice(2)
 const Arborist = require(path.join(npm, 'node_modules', '@npmcli', 'arborist'))
 const validateLockfile = require(path.join(npm, 'lib', 'utils', 'validate-lockfile.js'))
 
-// As buildIdealTree looks for edges that aren't valid: links lead no further.
+// As in buildIdealTree, which looks for edges that aren't valid: links aren't followed.
 const lookedAt = tree => {
   const found = new Set([tree])
   for (const node of found) {

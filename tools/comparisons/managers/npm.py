@@ -1,5 +1,6 @@
-"""The checker beside npm: worlds that npm writes lock files of, and edited copies of these. The
-statuses of both are compared: of `npm ci` what it does before it touches node_modules."""
+"""Compares the checker with npm: worlds for which npm writes lock files, and edited copies of
+these. It compares the status of both. For `npm ci`, it runs what that does before it touches
+node_modules."""
 
 import json
 import os
@@ -36,14 +37,14 @@ LOCK = "package-lock.json"
 EDITS = 5
 WAITING = 60
 
-# How npm says which release it would add to a lock file, or put in place of another one, or which it
+# How npm names the release that it would add to a lock file, use instead of another one, or that it
 # looks for in vain.
 ADDED = r"Missing: |Invalid: .* does not satisfy |ETARGET: No matching version found for "
 REFUSED = re.compile(rf"(?:{ADDED})(.[^@]*)@(.*?)(?: from lock file|\.)?")
 
 
 class Case(NamedTuple):
-    """A project with a lock file: its directory, what was edited in it, if something was, its
+    """A project with a lock file: its directory, what was edited in it, if anything, its
     package.json files and its lock file."""
 
     folder: Path
@@ -53,8 +54,9 @@ class Case(NamedTuple):
 
 
 class Answer(NamedTuple):
-    """Why npm refuses a project, nothing if it takes it, whose requirements it looks at, and what
-    is optional and npm leaves out: who requires which name."""
+    """npm's result for a project: why it rejects the project (nothing if it accepts it), whose
+    requirements it checks, and the optional dependencies that it leaves out, each with its
+    dependent and its name."""
 
     refused: List[str]
     looked: List[str]
@@ -62,7 +64,7 @@ class Answer(NamedTuple):
 
 
 class Npm:
-    """npm's own libraries, which answer for a directory as `npm ci` does."""
+    """npm's own libraries, which return for a directory what `npm ci` would do."""
 
     def __init__(self, registry: Registry, top: Path) -> None:
         found = subprocess.run(["npm", "root", "-g"], capture_output=True, text=True, check=True)
@@ -74,7 +76,7 @@ class Npm:
         )  # fmt: skip
 
     def answer(self, folder: Path) -> Answer:
-        """What npm says of a project."""
+        """Returns npm's result for a project."""
         assert self.process.stdin is not None and self.process.stdout is not None
         self.process.stdin.write(f"{folder}\n")
         self.process.stdin.flush()
@@ -82,7 +84,7 @@ class Npm:
 
 
 def lock_by_npm(folder: Path, version: int, registry: Registry, top: Path) -> Optional[Json]:
-    """The lock file that npm writes; None if it refuses the project."""
+    """Returns the lock file that npm writes, or None if it rejects the project."""
     flags = ["--package-lock-only", "--no-audit", "--no-fund", "--ignore-scripts", "--silent"]
     flags += [f"--lockfile-version={version}", f"--registry={registry.url}"]
     ended = subprocess.run(
@@ -96,7 +98,7 @@ def lock_by_npm(folder: Path, version: int, registry: Registry, top: Path) -> Op
 def cases_of(
     folder: Path, lock: Json, world: World, registry: Registry, maker: Maker
 ) -> List[Case]:
-    """The project as it is written, and edited copies of it."""
+    """Returns the project as it is written, and edited copies of it."""
     cases = [Case(folder, "", world, lock)]
     for number in range(EDITS):
         it: Edited = edited(lock, world, registry, maker)
@@ -111,8 +113,8 @@ def cases_of(
 
 
 def choice_of(finding: Finding, it: Case, answer: Answer) -> Optional[str]:
-    """Why a finding is listed, though npm takes the project: by a row of the README, or since it
-    can't be known without a network."""
+    """Returns why a finding is listed although npm accepts the project: a row of the README, or the
+    fact that it can't be known without a network. Returns None if there is no such reason."""
     record = finding.record
     requirer = "" if record.requirer in (PROJECT, None) else record.requirer
     wanted, name = record.range or "", record.dependency or ""
@@ -131,15 +133,15 @@ def choice_of(finding: Finding, it: Case, answer: Answer) -> Optional[str]:
 
 
 def are_chosen(listed: List[Finding], it: Case, npm: Npm) -> bool:
-    """Whether each finding of a project as it is now is listed by a row of the README."""
+    """Returns whether each finding for a project as it is now is listed by a row of the README."""
     now = it._replace(lock=json.loads((it.folder / LOCK).read_text()))
     answer = npm.answer(it.folder)
     return all(each.advice or choice_of(each, now, answer) for each in listed)
 
 
 def is_left_peer(finding: Finding, it: Case) -> bool:
-    """Whether a peer doesn't fit, and the version that npm picks for it isn't for all else that
-    requires what is there and is right."""
+    """Returns whether a peer doesn't fit, and the version that npm picks for it doesn't fit
+    everything else that requires the installed package and is satisfied by it."""
     packages = with_manifests(it)
     found = {place: package_at(packages, place, False) for place in packages}
     required = [
@@ -162,7 +164,8 @@ def is_left_peer(finding: Finding, it: Case) -> bool:
 
 
 def picked_for(wanted: str, versions: List[str]) -> Optional[str]:
-    """The version that npm takes from the registry for a range: the latest, or else the highest."""
+    """Returns the version that npm takes from the registry for a range: the latest one, or else the
+    highest."""
     latest = max(versions, key=in_order, default="")
     if is_met(wanted, latest, Dialect.NPM):
         return latest
@@ -171,8 +174,8 @@ def picked_for(wanted: str, versions: List[str]) -> Optional[str]:
 
 
 def with_manifests(it: Case) -> Packages:
-    """The packages of a lock file with what their package.json files require: one of
-    lockfileVersion 1 has no peers."""
+    """Returns the packages of a lock file with the requirements of their package.json files, since
+    a lock file with lockfileVersion 1 doesn't have peers."""
     packages = packages_of(it.lock, it.world.manifests[""])
     for place, entry in packages.items():
         releases = it.world.releases.get(entry.get("name", name_by_place(place)), {})
@@ -183,9 +186,9 @@ def with_manifests(it: Case) -> Packages:
 
 
 def choice_of_refusal(it: Case, answer: Answer, as_written: Answer) -> Optional[str]:
-    """Why npm refuses a project in which nothing is listed, by a row of the README: it refuses just
-    that also as npm wrote it, and would add what has an override by a range, and what this brings
-    along."""
+    """Returns why npm rejects a project for which nothing is listed, by a row of the README: it
+    rejects the project in the same way as npm wrote it, and would add what has an override by a
+    range, and what that requires."""
     lines = [REFUSED.fullmatch(line) for line in answer.refused]
     releases = [line.groups() for line in lines if line is not None]
     known = set(names_by_range(it.world.manifests[""].get("overrides", {})))
@@ -199,7 +202,7 @@ def choice_of_refusal(it: Case, answer: Answer, as_written: Answer) -> Optional[
 
 
 def names_by_range(overrides: Json) -> Iterator[str]:
-    """The names of the overrides whose keys have a range."""
+    """Yields the names of the overrides whose keys have a range."""
     for key, value in overrides.items():
         name, at, _ = key[1:].partition("@")
         if at:
@@ -209,7 +212,8 @@ def names_by_range(overrides: Json) -> Iterator[str]:
 
 
 def above(finding: Finding, lock: Json) -> List[str]:
-    """The versions of what is required that are further up than what is found."""
+    """Returns the versions of the required package that are further up than the one that is
+    found."""
     packages, name = packages_of(lock, None), finding.record.dependency
     around = folders(finding.record.requirer or "")
     places = [f"{folder}/node_modules/{name}".lstrip("/") for folder in around]
@@ -218,16 +222,16 @@ def above(finding: Finding, lock: Json) -> List[str]:
 
 
 def compare(it: Case, answer: Answer, as_written: Answer, found: Differences) -> None:
-    """Compares what npm and the checker say of a project, of which npm has said another thing
-    before it was edited."""
+    """Compares the results of npm and of the checker for a project. `as_written` is npm's result
+    before the edit."""
     listed = listed_in(it.folder / LOCK)
     found.count(f"projects with {it.edit}" if it.edit else "projects as npm wrote them")
     if bool(answer.refused) == bool(listed):
-        found.count("both refuse" if listed else "both take")
+        found.count("both reject" if listed else "both accept")
     elif answer.refused:
         choice = choice_of_refusal(it, answer, as_written)
         if choice is None:
-            found.add("npm alone refuses", shown(it, answer.refused))
+            found.add("only npm rejects", shown(it, answer.refused))
         else:
             found.choose(choice, shown(it, answer.refused))
     else:
@@ -235,13 +239,13 @@ def compare(it: Case, answer: Answer, as_written: Answer, found: Differences) ->
         why = shown(it, [[each.kind, *each.record] for each in listed])
         for choice in choices:
             if choice is None:
-                found.add("the checker alone refuses", why)
+                found.add("only the checker rejects", why)
             else:
                 found.choose(choice, why)
 
 
 def leave_over(it: Case, found: Differences) -> None:
-    """Compares whether npm ignores a lock file in a workspace with whether the checker does."""
+    """Compares whether npm and the checker ignore a lock file in a workspace."""
     for place in it.world.manifests:
         if place.startswith("packages/") and not it.edit:
             path = it.folder / place / LOCK
@@ -253,7 +257,7 @@ def leave_over(it: Case, found: Differences) -> None:
 
 
 def shown(it: Case, why: Any) -> Json:
-    """What is printed of a project, without archives and their sums."""
+    """Returns what is printed about a project, without archives and their checksums."""
     packages = {
         place: {key: value for key, value in entry.items() if key not in ("resolved", "integrity")}
         for place, entry in it.lock.get("packages", it.lock.get("dependencies", {})).items()
@@ -263,7 +267,7 @@ def shown(it: Case, why: Any) -> Json:
 
 
 def run(top: Path, count: int, seed: int) -> Differences:
-    """Compares so many worlds."""
+    """Compares `count` worlds."""
     found, registry = Differences("npm"), Registry()
     npm = Npm(registry, top)
     made = 0
@@ -277,7 +281,7 @@ def run(top: Path, count: int, seed: int) -> Differences:
         write_project(folder, world)
         lock = lock_by_npm(folder, random.Random(number).choice((1, 2, 3, 3)), registry, top)
         if lock is None:
-            found.count("worlds that npm refuses")
+            found.count("worlds that npm rejects")
             continue
         made += 1
         cases = cases_of(folder, lock, world, registry, maker)

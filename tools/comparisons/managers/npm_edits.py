@@ -1,4 +1,4 @@
-"""Edits by hand of projects of npm, whose lock file is then stale, and of lock files themselves."""
+"""Edits of projects of npm as by hand, which make the lock file stale, and edits of lock files."""
 
 import copy
 import json
@@ -11,7 +11,7 @@ KINDS_OF_ALL = (*dict.fromkeys(KINDS), "devDependencies")
 
 
 class Edited(NamedTuple):
-    """What was edited, and the project and its lock file after that."""
+    """The kind of edit, and the project and its lock file after it."""
 
     what: str
     world: World
@@ -19,16 +19,16 @@ class Edited(NamedTuple):
 
 
 Edit = Callable[[World, Maker], bool]
-"""An edit of the package.json files of a world, and whether it found what to edit."""
+"""Edits the package.json files of a world. Returns whether there was something to edit."""
 
 
 def kinds_of(entry: Json) -> List[str]:
-    """The kinds of requirements that a package has."""
+    """Returns the kinds of requirements that a package has."""
     return [it for it in entry if it.endswith("ependencies") and entry[it]]
 
 
 def some_manifest(world: World, maker: Maker) -> Json:
-    """A package.json, mostly that of the project."""
+    """Returns a package.json, most often the project's."""
     places = list(world.manifests)
     return world.manifests["" if maker.maybe(0.5) else maker.chance.choice(places)]
 
@@ -81,7 +81,7 @@ def move_dependency(world: World, maker: Maker) -> bool:
 
 
 def workspaces_of(world: World) -> List[str]:
-    """The directories of the workspaces."""
+    """Returns the directories of the workspaces."""
     return [it for it in world.manifests if it.startswith("packages/")]
 
 
@@ -120,7 +120,8 @@ def change_version(world: World, maker: Maker) -> bool:
 
 
 def change_override(world: World, maker: Maker) -> bool:
-    """Adds overrides, also of what the project itself requires, changes one or removes all."""
+    """Adds overrides, even of what the project itself requires, changes one, or removes all of
+    them."""
     project, names = world.manifests[""], list(world.releases)
     overrides = project.setdefault("overrides", {})
     if overrides and maker.maybe(0.3):
@@ -133,7 +134,7 @@ def change_override(world: World, maker: Maker) -> bool:
 
 
 def require_workspace(world: World, maker: Maker) -> bool:
-    """Has the project require a workspace, perhaps by a range that it doesn't satisfy."""
+    """Makes the project require a workspace, perhaps by a range that it doesn't satisfy."""
     if not workspaces_of(world):
         return False
     name = world.manifests[maker.chance.choice(workspaces_of(world))]["name"]
@@ -155,13 +156,13 @@ def change_specifier(world: World, maker: Maker) -> bool:
 
 
 def change_own_version(world: World, maker: Maker) -> bool:
-    """Gives the project or a workspace a version that is none."""
+    """Gives the project or a workspace an invalid version."""
     some_manifest(world, maker)["version"] = maker.chance.choice(("1.0", "", "next"))
     return True
 
 
 def add_late_override(world: World, maker: Maker) -> bool:
-    """Adds an override of what other packages require, perhaps inside of another one."""
+    """Adds an override for what other packages require, perhaps inside of another one."""
     names = list(world.releases)
     name, outer = maker.chance.choice(names), maker.chance.choice(names)
     version = maker.chance.choice(list(world.releases[name]))
@@ -174,7 +175,7 @@ def add_late_override(world: World, maker: Maker) -> bool:
     return True
 
 
-# Specifiers of other kinds, of which nothing is there.
+# Specifiers of other kinds; none of them exists.
 SPECIFIERS = (
     "file:nowhere", "./nowhere.tgz", "github:user/nowhere", "user/nowhere",
     "git+https://127.0.0.1:1/nowhere.git", "http://127.0.0.1:1/nowhere.tgz",
@@ -203,7 +204,7 @@ MANIFEST_EDITS: Dict[str, Edit] = {
 def damaged(
     lock: Json, world: World, registry: Registry, maker: Maker
 ) -> Optional[Tuple[str, Json]]:
-    """A damaged copy of a lock file, and what was damaged."""
+    """Returns what was damaged, and a damaged copy of a lock file."""
     made, chance = copy.deepcopy(lock), maker.chance
     packages = made["packages"]
     places = [it for it in packages if "node_modules" in it and not packages[it].get("link")]
@@ -234,7 +235,7 @@ def damaged(
 
 
 def without_one(lock: Json, maker: Maker) -> Optional[Json]:
-    """A copy of a lock file of lockfileVersion 1 without one of its packages."""
+    """Returns a copy of a lock file with lockfileVersion 1 without one of its packages."""
     made = copy.deepcopy(lock)
     names = list(made.get("dependencies", {}))
     if not names:
@@ -244,7 +245,7 @@ def without_one(lock: Json, maker: Maker) -> Optional[Json]:
 
 
 def edited(lock: Json, world: World, registry: Registry, maker: Maker) -> Edited:
-    """The project or its lock file with a random edit."""
+    """Returns the project or its lock file with a random edit."""
     while True:
         if lock["lockfileVersion"] == 1 and maker.maybe(0.3):
             made = without_one(lock, maker)

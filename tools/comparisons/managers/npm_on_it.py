@@ -1,7 +1,10 @@
-"""npm with the JavaScript package in the place of `semver`: npm_on_it.py PACKAGE COUNT SEED runs
-its commands in COUNT projects over a registry on the loopback address, once as it is and once in a
-copy of npm's tree that has the package, and compares what they write and leave. The status is 1 if
-something differs, but where node-semver reads strings by `loose`: in each tenth project."""
+"""Compares npm as it is with npm that uses the JavaScript package instead of `semver`.
+
+npm_on_it.py PACKAGE COUNT SEED runs npm's commands in COUNT projects with a registry on the
+loopback address, once with npm as it is and once with a copy of npm's tree that has the package. It
+compares their output and the files that they leave. Exits with 1 if something differs, except in
+each tenth project, where node-semver reads strings with `loose`.
+"""
 
 import json
 import os
@@ -37,18 +40,18 @@ COMMANDS = (
     ("pack",),
 )
 LOOSE_RANGES = (">=1.2, <2", "01.x", "^1.2.3beta", ">=01.2.3 <3")
-"""What only `loose` reads: npm's commands pass that."""
+"""Ranges that are valid only with `loose`, which npm's commands use."""
 
 
 class Tree(NamedTuple):
-    """npm's tree, and its name for the report."""
+    """npm's tree, and its name in the report."""
 
     name: str
     program: Path
 
 
 def copy_of_npm(top: Path, package: Path) -> Tree:
-    """A copy of npm's tree that has the package in the place of `semver`."""
+    """Makes a copy of npm's tree that has the package instead of `semver`."""
     root = subprocess.run(["npm", "root", "-g"], capture_output=True, text=True, check=True)
     copy = top / "npm"
     shutil.copytree(Path(root.stdout.strip()) / "npm", copy, symlinks=True)
@@ -61,13 +64,13 @@ def copy_of_npm(top: Path, package: Path) -> Tree:
 
 
 def npm_itself() -> Tree:
-    """npm as it is installed."""
+    """Returns npm as it is installed."""
     root = subprocess.run(["npm", "root", "-g"], capture_output=True, text=True, check=True)
     return Tree("npm", Path(root.stdout.strip()) / "npm" / "bin" / "npm-cli.js")
 
 
 def plain(text: str, folder: Path) -> str:
-    """What a command wrote without what differs from run to run."""
+    """Returns the output of a command without what differs between runs."""
     text = text.replace(str(folder), "PROJECT")
     text = re.sub(r"in \d+(\.\d+)?m?s\b", "in TIME", text)
     text = re.sub(r"\S*_logs/\S*", "LOG", text)
@@ -75,13 +78,13 @@ def plain(text: str, folder: Path) -> str:
 
 
 def state(folder: Path) -> Dict[str, str]:
-    """The manifests and lock files that are in a project."""
+    """Returns the manifests and lock files in a project."""
     files = [it for it in folder.rglob("*.json") if it.is_file()]
     return {str(it.relative_to(folder)): it.read_text() for it in sorted(files)}
 
 
 def run(tree: Tree, folder: Path, registry: Registry, top: Path) -> List[Tuple[str, str]]:
-    """Runs the commands in a project: each with what it wrote, how it ended, and what is there."""
+    """Runs the commands in a project. Returns each with its output, its status and the files."""
     results = []
     for command in COMMANDS:
         flags = [*QUIET, f"--registry={registry.url}"]
@@ -97,7 +100,7 @@ def run(tree: Tree, folder: Path, registry: Registry, top: Path) -> List[Tuple[s
 
 
 def advisories(world: World, chance: random.Random) -> Json:
-    """What the registry says of vulnerable versions: of most packages, those up to a high one."""
+    """Returns the advisories of the registry: for most packages, all versions up to a high one."""
     found = {}
     for number, (name, versions) in enumerate(sorted(world.releases.items()), 1):
         if chance.random() < 0.7:
@@ -111,7 +114,7 @@ def advisories(world: World, chance: random.Random) -> Json:
 
 
 def loosen(world: World, chance: random.Random) -> None:
-    """Has the project require a package by what only `loose` reads."""
+    """Makes the project require a package by a range that is valid only with `loose`."""
     name = chance.choice(sorted(world.releases))
     manifest = world.manifests[""]
     for kind in ("dependencies", "devDependencies", "optionalDependencies", "peerDependencies"):
@@ -120,7 +123,7 @@ def loosen(world: World, chance: random.Random) -> None:
 
 
 def main(package: Path, count: int, seed: int) -> int:
-    """Compares the commands in so many projects. The status."""
+    """Compares the commands in `count` projects. Returns the status."""
     registry, differences, loose, ran, failed = Registry(), 0, 0, 0, 0
     with tempfile.TemporaryDirectory() as made, ThreadPoolExecutor() as pool:
         top = Path(made)
@@ -147,8 +150,8 @@ def main(package: Path, count: int, seed: int) -> int:
                 if not is_loose:
                     differences += 1
                     print(f"npm {command} of project {number}: npm itself\n{theirs}\nhere\n{ours}")
-    print(f"seed {seed}: {count} projects, {ran} commands, of which {failed} end with an error:")
-    print(f"  {differences} differ, and {loose} where only `loose` reads a range")
+    print(f"seed {seed}: {count} projects, {ran} commands, {failed} of which end with an error:")
+    print(f"  {differences} differ, and {loose} with a range that is valid only with `loose`")
     return int(differences > 0)
 
 

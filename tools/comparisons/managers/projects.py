@@ -1,4 +1,4 @@
-"""Projects of npm and yarn on the disk, and what their tools are run with."""
+"""Writes projects of npm and yarn to disk, and returns the environment for their tools."""
 
 import json
 import os
@@ -9,8 +9,8 @@ from worlds import World
 
 
 def environment(top: Path) -> Dict[str, str]:
-    """What a tool is run with: nothing of the user. It fetches once: the registry is there, and
-    other URLs aren't."""
+    """Returns the environment for a tool, without anything of the user. It fetches only once: the
+    registry always replies, and other URLs never do."""
     own = {"npm_config_cache": str(top / "cache"), "npm_config_userconfig": os.devnull}
     own["npm_config_fetch_retries"] = "0"
     path = {"PATH": os.environ["PATH"], "NODE_PATH": "/usr/share/nodejs"}

@@ -1,4 +1,4 @@
-"""A registry of npm on the loopback address, which serves the packages of one world."""
+"""A registry of npm on the loopback address that serves the packages of one world."""
 
 import gzip
 import hashlib
@@ -17,7 +17,7 @@ Releases = Dict[str, Dict[str, Json]]
 
 
 def archive_of(manifest: Json) -> bytes:
-    """The archive of a release, which has its package.json alone."""
+    """Returns the archive of a release, which has only its package.json."""
     text = json.dumps(manifest).encode()
     made = io.BytesIO()
     with tarfile.open(fileobj=made, mode="w:gz") as archive:
@@ -28,12 +28,12 @@ def archive_of(manifest: Json) -> bytes:
 
 
 class Handler(BaseHTTPRequestHandler):
-    """Answers for packages and archives."""
+    """Replies to requests for packages and archives."""
 
     server: "Registry"
 
     def do_GET(self) -> None:
-        """Sends the document or the archive that a path names."""
+        """Sends the document or the archive at a path."""
         found = self.server.files.get(unquote(self.path))
         self.send_response(200 if found else 404)
         body = found or b"{}"
@@ -43,7 +43,7 @@ class Handler(BaseHTTPRequestHandler):
         self.wfile.write(body)
 
     def do_POST(self) -> None:
-        """Sends the advisories of the packages that a request of `npm audit` names."""
+        """Sends the advisories for the packages in a request of `npm audit`."""
         sent = self.rfile.read(int(self.headers.get("Content-Length", "0")))
         if self.headers.get("Content-Encoding") == "gzip":
             sent = gzip.decompress(sent)
@@ -58,7 +58,7 @@ class Handler(BaseHTTPRequestHandler):
         self.wfile.write(body)
 
     def log_message(self, format: str, *arguments: Any) -> None:
-        """Writes nothing."""
+        """Logs nothing."""
 
 
 class Registry(ThreadingHTTPServer):
@@ -74,21 +74,21 @@ class Registry(ThreadingHTTPServer):
 
     @property
     def url(self) -> str:
-        """The URL of the registry."""
+        """Returns the URL of the registry."""
         return f"http://127.0.0.1:{self.server_address[1]}"
 
     def archive_at(self, name: str, version: str) -> str:
-        """The URL of the archive of a release."""
+        """Returns the URL of the archive of a release."""
         return f"{self.url}/{name}/-/{name.rpartition('/')[2]}-{version}.tgz"
 
     def integrity_of(self, name: str, version: str) -> str:
-        """The sum of the archive of a release that is served."""
+        """Returns the checksum of the archive of a release that is served."""
         url = self.archive_at(name, version)
         sums: str = self.sums_of(self.files[url[len(self.url) :]], url)["integrity"]
         return sums
 
     def serve(self, releases: Releases) -> None:
-        """Serves these packages in place of those before."""
+        """Serves these packages instead of the previous ones."""
         self.files = {}
         for name, versions in releases.items():
             listed = {}
@@ -102,18 +102,18 @@ class Registry(ThreadingHTTPServer):
             self.files[f"/{name}"] = json.dumps(document).encode()
 
     def serve_advisories(self, advisories: Json) -> None:
-        """Serves advisories by the names of packages in place of those before."""
+        """Serves advisories, by package name, instead of the previous ones."""
         self.advisories = advisories
 
     @staticmethod
     def sums_of(archive: bytes, url: str) -> Json:
-        """Where an archive is, and its sums."""
+        """Returns the URL of an archive and its checksums."""
         sha512 = b64encode(hashlib.sha512(archive).digest()).decode()
         shasum = hashlib.sha1(archive).hexdigest()
         return {"tarball": url, "shasum": shasum, "integrity": f"sha512-{sha512}"}
 
 
 def in_order(version: str) -> Tuple[bool, Tuple[int, ...]]:
-    """A key by which releases are after pre-releases."""
+    """Returns a sort key by which releases come after pre-releases."""
     numbers, dash, _ = version.partition("-")
     return not dash, tuple(map(int, numbers.split(".")))

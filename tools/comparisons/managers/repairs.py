@@ -1,4 +1,4 @@
-"""Runs the repairs that the checker proposes, and asks again."""
+"""Runs the repairs that the checker proposes, and checks again."""
 
 import os
 import subprocess
@@ -14,8 +14,8 @@ WAITING = 120
 
 
 def proposed(path: Path) -> Optional[str]:
-    """Returns the command that the checker proposes for a lock file, if it lists something that it
-    repairs."""
+    """Returns the command that the checker proposes for a lock file, if it lists something that the
+    command repairs."""
     report = report_on(str(path), None, Wanted(Scope()))
     report.listed = [it for it in report.findings if not it.excuse]
     return None if report.refusal is not None else command_for(report)
@@ -30,9 +30,9 @@ def repair(
     shown: object,
     is_chosen: Callable[[List[Finding]], bool] = lambda _: False,
 ) -> None:
-    """Runs the command that is proposed for a lock file, if one is. What it leaves has to be what
-    the checker says that it doesn't repair, what its own tool refuses, too, or what is listed by
-    choice. It may fail for want of a release in the registry."""
+    """Runs the command that is proposed for a lock file, if there is one. What is listed afterwards
+    has to be something that the checker says it doesn't repair, that its own tool rejects, too, or
+    that is listed by choice. The command may fail if the registry lacks a release."""
     command = proposed(path)
     if command is None:
         return

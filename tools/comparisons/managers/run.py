@@ -1,5 +1,6 @@
-"""Compares check-lock-file with package managers: run.py COUNT SEED [TOOL].., on COUNT worlds of
-npm and on three fifths as many of the others. The status is 1 if something differs but by choice."""
+"""Compares check-lock-file with package managers: run.py COUNT SEED [TOOL].., with COUNT worlds
+for npm and three fifths as many for the others. Exits with 1 if something differs that isn't a
+choice."""
 
 import importlib
 import sys
@@ -9,7 +10,7 @@ from typing import List
 
 
 def main(count: int, seed: int, tools: List[str]) -> int:
-    """Compares the tools. The status."""
+    """Compares the tools. Returns the status."""
     is_same = True
     with tempfile.TemporaryDirectory() as top:
         for tool in tools:

@@ -1,4 +1,4 @@
-"""Random packages and projects of npm and yarn, by a seed."""
+"""Random packages and projects of npm and yarn, from a seed."""
 
 import random
 from typing import Any, Callable, Dict, List, NamedTuple
@@ -14,14 +14,14 @@ KINDS = ("dependencies", "dependencies", "dependencies", "peerDependencies", "op
 
 
 class World(NamedTuple):
-    """The packages of a registry, and the package.json files of a project by their folders."""
+    """The packages of a registry, and the package.json files of a project by their directories."""
 
     releases: Releases
     manifests: Dict[str, Json]
 
 
 class Maker:
-    """Makes worlds. An archive's URL is that of a registry."""
+    """Makes worlds. The URLs of archives are those of a registry."""
 
     def __init__(self, seed: int, archive_at: Callable[[str, str], str], is_npm: bool) -> None:
         self.chance = random.Random(seed)
@@ -29,11 +29,11 @@ class Maker:
         self.releases: Releases = {}
 
     def maybe(self, share: float) -> bool:
-        """Whether something is so, as often as a share has it."""
+        """Returns true with a probability."""
         return self.chance.random() < share
 
     def range_of(self, name: str) -> str:
-        """A range by which a version of a name may be required."""
+        """Returns a range that some version of a name may be required by."""
         version = self.chance.choice(list(self.releases[name]))
         major, minor, _ = version.partition("-")[0].split(".")
         forms = [f"^{version}"] * 4 + [f"~{version}"] * 2 + [version, f">={version}", f"{major}.x"]
@@ -42,7 +42,8 @@ class Maker:
         return self.chance.choice(forms)
 
     def require(self, manifest: Json, name: str) -> None:
-        """Has a package require a name, in one of its kinds, and perhaps under another name."""
+        """Makes a package require a name, as one of its kinds of requirements, and perhaps under
+        another name."""
         kind, spec = self.chance.choice(KINDS), self.range_of(name)
         known_as = name
         if kind == "dependencies" and self.maybe(0.08):
@@ -57,7 +58,7 @@ class Maker:
             manifest.setdefault("peerDependenciesMeta", {})[name] = {"optional": True}
 
     def package(self, name: str, version: str, others: List[str], most: int) -> Json:
-        """A package.json that requires some of other packages."""
+        """Returns a package.json that requires some of the other packages."""
         manifest: Json = {"name": name, "version": version}
         count = min(len(others), self.chance.randint(0, most))
         for other in self.chance.sample(others, count):
@@ -65,7 +66,7 @@ class Maker:
         return manifest
 
     def world(self) -> World:
-        """A world."""
+        """Returns a world."""
         for index, name in enumerate(NAMES[: self.chance.randint(3, len(NAMES))]):
             versions = self.chance.sample(VERSIONS, self.chance.randint(1, 5))
             others = list(NAMES[:index])
@@ -87,7 +88,7 @@ class Maker:
         return World(self.releases, manifests)
 
     def add_workspaces(self, manifests: Dict[str, Json], names: List[str]) -> None:
-        """Adds workspaces, the last of which may require the first."""
+        """Adds workspaces. The last one may require the first."""
         project = manifests[""]
         project.update({"private": True, "workspaces": ["packages/*"]})
         for name in ("one", "two"):
@@ -98,7 +99,7 @@ class Maker:
         manifests["packages/two"].setdefault("dependencies", {})["one"] = spec
 
     def add_overrides(self, project: Json, names: List[str]) -> None:
-        """Adds overrides of npm, or resolutions of yarn, of what the project doesn't require."""
+        """Adds overrides for npm, or resolutions for yarn, of what the project doesn't require."""
         direct = {it for kind in project.values() if isinstance(kind, dict) for it in kind}
         free = [name for name in names if name not in direct]
         for name in self.chance.sample(free, min(len(free), 2)):

@@ -1,8 +1,8 @@
-"""The checker beside yarn 1: worlds that yarn writes lock files of, and edits of manifests and of
-these, which `yarn install --frozen-lockfile` takes or refuses.
+"""Compares the checker with yarn 1: worlds for which yarn writes lock files, and edits of manifests
+and of lock files, which `yarn install --frozen-lockfile` accepts or rejects.
 
-What yarn 1 calls frozen is the project alone: what its workspaces and packages require, and the
-file lacks, it takes from the registry. The checker lists that with --strict alone.
+For yarn 1, only the project is frozen: what its workspaces and packages require, and the file
+lacks, it takes from the registry. The checker lists that only with --strict.
 """
 
 import shutil
@@ -23,13 +23,13 @@ WAITING = 120
 
 
 class Yarn:
-    """Yarn over a registry, in directories below one."""
+    """Yarn with a registry, in directories below another one."""
 
     def __init__(self, top: Path, registry: Registry) -> None:
         self.top, self.registry = top, registry
 
     def is_done(self, folder: Path, *arguments: str) -> bool:
-        """Whether yarn does something in a directory."""
+        """Returns whether a command of yarn succeeds in a directory."""
         flags = ["--non-interactive", "--no-progress", "--silent"]
         ended = subprocess.run(
             ["yarnpkg", *arguments, *flags], cwd=folder, env=environment(self.top),
@@ -39,18 +39,18 @@ class Yarn:
         return ended.returncode == 0
 
     def installs(self, folder: Path, *arguments: str) -> bool:
-        """Whether yarn installs a project."""
+        """Returns whether yarn installs a project."""
         flags = ["--ignore-scripts", f"--registry={self.registry.url}"]
         flags.append(f"--cache-folder={self.top}/cache")
         return self.is_done(folder, "install", *flags, *arguments)
 
     def takes(self, folder: Path) -> bool:
-        """Whether yarn takes a lock file as it is."""
+        """Returns whether yarn accepts a lock file as it is."""
         return self.installs(folder, "--frozen-lockfile")
 
 
 def shown_of(world: World, lock: str) -> Dict[str, Any]:
-    """A world as it is kept."""
+    """Returns a world as it is kept."""
     return {"manifests": world.manifests, "lock": lock}
 
 
@@ -72,12 +72,12 @@ def choice_of(what: str, finding: Finding) -> Optional[str]:
 def compare(
     what: str, folder: Path, world: World, lock: str, yarn: Yarn, found: Differences
 ) -> None:
-    """Compares whether yarn takes a project and whether the checker does."""
+    """Compares whether yarn accepts a project and whether the checker does."""
     shutil.rmtree(folder, ignore_errors=True)
     write_project(folder, world)
     (folder / LOCK).write_text(lock)
     taken = yarn.takes(folder)
-    found.count(f"{what}: yarn {'takes' if taken else 'refuses'} it")
+    found.count(f"{what}: yarn {'accepts' if taken else 'rejects'} it")
     findings = findings_in(folder / LOCK)
     listed = [it for it in findings if not it.excuse]
     choices = {choice_of(what, it) for it in listed}
@@ -87,12 +87,12 @@ def compare(
     elif not taken and not listed and any(it.kind == Missing.kind for it in findings):
         found.choose("the registry doesn't have what is missing", shown_of(world, lock))
     elif taken == bool(listed):
-        who = "refused here, and yarn takes it" if taken else "yarn alone refuses it"
+        who = "rejected here, but yarn accepts it" if taken else "only yarn rejects it"
         found.add(f"{what}: {who}", shown_of(world, lock))
 
 
 def lock_of(folder: Path, world: World, yarn: Yarn) -> Optional[str]:
-    """The lock file that yarn writes; None if it refuses the project."""
+    """Returns the lock file that yarn writes, or None if it rejects the project."""
     write_project(folder, world)
     if not yarn.installs(folder):
         return None
@@ -101,7 +101,7 @@ def lock_of(folder: Path, world: World, yarn: Yarn) -> Optional[str]:
 
 
 def run(top: Path, count: int, seed: int) -> Differences:
-    """Compares so many worlds."""
+    """Compares `count` worlds."""
     found, registry, made = Differences("yarn 1"), Registry(), 0
     for number in range(count * 10):
         if made == count:
@@ -114,7 +114,7 @@ def run(top: Path, count: int, seed: int) -> Differences:
         yarn = Yarn(folder, registry)
         lock = lock_of(folder / "first", world, yarn)
         if lock is None:
-            found.count("worlds that yarn refuses")
+            found.count("worlds that yarn rejects")
             continue
         made += 1
         other = folder / "other"

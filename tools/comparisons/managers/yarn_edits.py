@@ -1,4 +1,5 @@
-"""Edits of a project of yarn: of its package.json files by hand, and of its yarn.lock by damage."""
+"""Edits of a project of yarn: edits of its package.json files as by hand, and damage of its
+yarn.lock."""
 
 import copy
 import re
@@ -10,16 +11,16 @@ from worlds import Maker, World
 KINDS = ("dependencies", "devDependencies", "optionalDependencies")
 
 Edited = Optional[str]
-"""What an edit did, if there was something to edit."""
+"""What an edit changed, or None if there was nothing to edit."""
 
 
 def required_in(manifest: Json) -> List[Tuple[str, str]]:
-    """The kinds and names of what a package.json requires."""
+    """Returns the kinds and names of the requirements of a package.json."""
     return [(kind, name) for kind in KINDS for name in manifest.get(kind, {})]
 
 
 def requirement_changed(world: World, maker: Maker) -> Edited:
-    """Another range."""
+    """Changes the range of a requirement."""
     manifest = maker.chance.choice(list(world.manifests.values()))
     known = [it for it in required_in(manifest) if it[1] in maker.releases]
     if not known:
@@ -30,7 +31,7 @@ def requirement_changed(world: World, maker: Maker) -> Edited:
 
 
 def requirement_added(world: World, maker: Maker) -> Edited:
-    """A requirement more."""
+    """Adds a requirement."""
     manifest = maker.chance.choice(list(world.manifests.values()))
     free = [it for it in maker.releases if it not in {name for _, name in required_in(manifest)}]
     if not free:
@@ -41,7 +42,7 @@ def requirement_added(world: World, maker: Maker) -> Edited:
 
 
 def requirement_removed(world: World, maker: Maker) -> Edited:
-    """A requirement less."""
+    """Removes a requirement."""
     manifest = maker.chance.choice(list(world.manifests.values()))
     known = required_in(manifest)
     if not known:
@@ -52,7 +53,7 @@ def requirement_removed(world: World, maker: Maker) -> Edited:
 
 
 def workspace_added(world: World, maker: Maker) -> Edited:
-    """A workspace more, also as the first."""
+    """Adds a workspace, perhaps the first one."""
     world.manifests[""].update({"private": True, "workspaces": ["packages/*"]})
     others = list(maker.releases)
     world.manifests["packages/more"] = maker.package("more", "1.0.0", others, 2)
@@ -61,7 +62,7 @@ def workspace_added(world: World, maker: Maker) -> Edited:
 
 
 def workspace_renamed(world: World, maker: Maker) -> Edited:
-    """A workspace of another name, which the others may still require by its old one."""
+    """Renames a workspace, which the others may still require by its old name."""
     places = [place for place in world.manifests if place]
     if not places:
         return None
@@ -70,7 +71,7 @@ def workspace_renamed(world: World, maker: Maker) -> Edited:
 
 
 def workspace_removed(world: World, maker: Maker) -> Edited:
-    """A workspace less."""
+    """Removes a workspace."""
     places = [place for place in world.manifests if place]
     if not places:
         return None
@@ -80,7 +81,7 @@ def workspace_removed(world: World, maker: Maker) -> Edited:
 
 
 def workspace_version(world: World, maker: Maker) -> Edited:
-    """Another version of a workspace, which another one may require."""
+    """Changes the version of a workspace, which another one may require."""
     places = [place for place in world.manifests if place]
     if not places:
         return None
@@ -90,7 +91,7 @@ def workspace_version(world: World, maker: Maker) -> Edited:
 
 
 def resolution_added(world: World, maker: Maker) -> Edited:
-    """Another resolution, or one more."""
+    """Adds or changes a resolution."""
     name = maker.chance.choice(list(maker.releases))
     version = maker.chance.choice(list(maker.releases[name]))
     world.manifests[""].setdefault("resolutions", {})[name] = version
@@ -98,7 +99,7 @@ def resolution_added(world: World, maker: Maker) -> Edited:
 
 
 def resolution_removed(world: World, maker: Maker) -> Edited:
-    """A resolution less."""
+    """Removes a resolution."""
     resolutions = world.manifests[""].get("resolutions", {})
     if not resolutions:
         return None
@@ -121,7 +122,7 @@ MANIFEST_EDITS: Dict[str, Callable[[World, Maker], Edited]] = {
 
 
 def edited(world: World, maker: Maker) -> Tuple[str, World]:
-    """A copy of a world with an edit of a package.json, and which it is."""
+    """Returns a copy of a world with a random edit of a package.json, and the name of the edit."""
     while True:
         other = world._replace(manifests=copy.deepcopy(world.manifests))
         what = maker.chance.choice(list(MANIFEST_EDITS))
@@ -136,12 +137,12 @@ ENTRY = re.compile(r"\n\n(?=\S)")
 
 
 def name_in(entry: str) -> str:
-    """The name of the first key of an entry."""
+    """Returns the name in the first key of an entry."""
     return re.split("(?<=.)@", entry.lstrip().lstrip('"'))[0]
 
 
 def damaged(lock: str, maker: Maker) -> Tuple[str, str]:
-    """A damaged copy of a lock file, and what the damage is."""
+    """Returns a damaged copy of a lock file, and the kind of damage."""
     head, *entries = ENTRY.split(lock)
     if not entries:
         return "nothing", lock
@@ -153,12 +154,12 @@ def damaged(lock: str, maker: Maker) -> Tuple[str, str]:
 
 
 def replaced(entries: List[str], index: int, entry: str) -> List[str]:
-    """The entries, of which one is another one."""
+    """Returns the entries with one of them replaced."""
     return [*entries[:index], entry, *entries[index + 1 :]]
 
 
 def of_version(entries: List[str], index: int, name: str, maker: Maker) -> List[str]:
-    """Another version, of which the archive is."""
+    """Changes the version of an entry, together with its archive."""
     version = maker.chance.choice(list(maker.releases[name]))
     entry = re.sub('version "[^"]*"', f'version "{version}"', entries[index], count=1)
     entry = re.sub('resolved "[^"]*"', f'resolved "{maker.archive_at(name, version)}"', entry)
@@ -166,19 +167,19 @@ def of_version(entries: List[str], index: int, name: str, maker: Maker) -> List[
 
 
 def of_archive(entries: List[str], index: int, name: str, maker: Maker) -> List[str]:
-    """Another archive of the same version."""
+    """Changes the archive of an entry, but not its version."""
     url = maker.archive_at(name, maker.chance.choice(list(maker.releases[name])))
     entry = re.sub('resolved "[^"]*"', f'resolved "{url}"', entries[index])
     return replaced(entries, index, re.sub("\n  integrity .*", "", entry))
 
 
 def of_removed(entries: List[str], index: int, _: str, __: Maker) -> List[str]:
-    """An entry less."""
+    """Removes an entry."""
     return [*entries[:index], *entries[index + 1 :]]
 
 
 def of_more(entries: List[str], _: int, __: str, maker: Maker) -> List[str]:
-    """An entry that nobody requires, and whose version its key doesn't have."""
+    """Adds an entry that nothing requires, and whose version doesn't satisfy its key."""
     name = maker.chance.choice(list(maker.releases))
     version = list(maker.releases[name])[0]
     url = maker.archive_at(name, version)
@@ -187,7 +188,7 @@ def of_more(entries: List[str], _: int, __: str, maker: Maker) -> List[str]:
 
 
 def of_range(entries: List[str], index: int, name: str, maker: Maker) -> List[str]:
-    """Another range of what a package requires."""
+    """Changes the range of a requirement of a package."""
     lines = entries[index].split("\n")
     ranges = [at for at, line in enumerate(lines) if line.startswith("    ")]
     if not ranges:

@@ -1,12 +1,12 @@
-/* Raises the requirements of standard input by the example in C: a range, a version and a dialect,
- * each with a zero byte after it. It writes for each the new range, `!none` or `!invalid`, and a
- * zero byte. */
+/* Raises requirements with the example in C. Standard input has a range, a version and a
+ * dialect, each followed by a zero byte. For each case this writes the new range, `!none` or
+ * `!invalid`, and a zero byte. */
 #define _POSIX_C_SOURCE 200809L
 #define main main_of_example
 #include "raise-requirement.c"
 #undef main
 
-/* Reads what is before the next zero byte. */
+/* Reads up to the next zero byte. */
 static bool read_field(char **field, size_t *capacity) {
     return getdelim(field, capacity, '\0', stdin) >= 0;
 }

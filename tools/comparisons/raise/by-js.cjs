@@ -1,13 +1,13 @@
-// Raises the requirements of standard input by the example in JavaScript: a range, a version and a
-// dialect, each with a zero byte after it. It writes for each the new range, `!none` or `!invalid`,
-// and a zero byte. `raise-requirement.cjs` is beside it.
+// Raises requirements with the example in JavaScript, raise-requirement.cjs, which has to be in
+// this directory. Standard input has a range, a version and a dialect, each followed by a zero
+// byte. For each case this writes the new range, `!none` or `!invalid`, and a zero byte.
 'use strict'
 
 const { readFileSync, writeFileSync } = require('fs')
 const { SemverError } = require('semver-parser-proved')
 const { raised } = require('./raise-requirement.cjs')
 
-// What is written for a case.
+// Returns what is written for a case.
 function result (range, version, dialect) {
   try {
     return raised(range, version, dialect) ?? '!none'

@@ -1,6 +1,6 @@
-"""Raises the requirements of standard input by the example in Python: a range, a version and a
-dialect, each with a zero byte after it. It writes for each the new range, `!none` or `!invalid`,
-and a zero byte.
+"""Raises requirements with the example in Python. Standard input has a range, a version and a
+dialect, each followed by a zero byte. For each case this writes the new range, `!none` or
+`!invalid`, and a zero byte.
 
     PYTHONPATH=python:docs/examples/python python3 by-python.py
 """

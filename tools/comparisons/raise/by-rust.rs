@@ -1,5 +1,5 @@
-//! Raises the requirements of standard input by the example in Rust: a range, a version and a
-//! dialect, each with a zero byte after it. It writes for each the new range, `!none` or
+//! Raises requirements with the example in Rust. Standard input has a range, a version and a
+//! dialect, each followed by a zero byte. For each case this writes the new range, `!none` or
 //! `!invalid`, and a zero byte.
 
 #[allow(dead_code)]

@@ -1,22 +1,22 @@
-// Compares the examples that raise a requirement with node-semver and Cargo's crate semver:
+// Compares the examples that raise a requirement with node-semver and with Cargo's crate semver:
 //
 //     node compare.js CARGO COUNT SEED LANGUAGE=COMMAND..
 //
-// makes COUNT random requirements and a version for each. A requirement is made of pieces: what is
-// before the version of its last term, that version's parts, and what is after it. So it is known
-// what the requirement is with another version there, without reading it. Whether this, and the
-// requirement itself, contain the version is what node-semver says in npm's dialect, and in Cargo's
-// the program CARGO, satisfied-by-cargo-semver. Each example has to return
+// makes COUNT random requirements, each with a version. A requirement is made of pieces: what is
+// before the version of its last term, the parts of that version, and what is after it. So the
+// requirement with another version there is known without parsing. Whether these two requirements
+// contain the version is determined by node-semver in npm's dialect, and in Cargo's by the program
+// CARGO, satisfied-by-cargo-semver. Each example has to return
 //
-// - that the input is invalid, if the tool says so;
-// - the requirement itself, if it contains the version;
-// - else the one with the other version, if the operator of the last term is none, `=`, `~` or `^`,
-//   and the tool says that it contains the version;
-// - else that there is none.
+// - that the input is invalid, if the tool says so
+// - the requirement itself, if it contains the version
+// - otherwise the one with the other version, if the last term has no operator, `=`, `~` or `^`,
+//   and the tool says that it contains the version
+// - otherwise that there is none
 //
-// In the dialects of the crate no tool says what is contained: there all examples have to return
-// the same, and it has to be one of these. It prints the first difference, and ends with status 1
-// then.
+// In the crate's dialects no tool determines what is contained. There all examples have to return
+// the same, and it has to be one of these results. It prints the first difference, and then exits
+// with 1.
 'use strict'
 
 const { spawnSync } = require('child_process')
@@ -45,8 +45,8 @@ const number = () => random.of([0, 0, 1, 1, 2, 2, 3, 4, 10])
 const list = (lengths, make) => Array.from({ length: random.of(lengths) }, make)
 const identifiers = () => list([1, 1, 2], () => random.of(IDENTIFIERS)).join('.')
 
-// The components of a version in a range, as they are written. In Cargo's dialect only wildcards
-// follow one, and the first component is a number.
+// The components of a version in a range, as they are written. In Cargo's dialect a wildcard is
+// followed only by wildcards, and the first component is a number.
 function components (dialect) {
   const wildcard = () => random.of(['x', '*', 'X'])
   const parts = list([1, 2, 2, 3, 3, 3], () => random.below(6) ? String(number()) : wildcard())
@@ -56,7 +56,7 @@ function components (dialect) {
   return parts.map((it, at) => first >= 0 && at > first && isNumber(it) ? wildcard() : it)
 }
 
-// A version in a range: `v`, its components, and what follows three of them.
+// A version in a range: `v`, its components, and what follows if there are three of them.
 function partial (dialect) {
   const parts = components(dialect)
   const isWhole = parts.length === 3 && (!isOfCargo(dialect) || parts.every(isNumber))
@@ -70,7 +70,7 @@ function partial (dialect) {
 
 const text = ({ v, parts, pre, build }) => v + parts.join('.') + pre + build
 
-// A term of which nothing else is to be known.
+// A term that isn't the last one, so nothing else has to be known about it.
 function term (dialect) {
   const operators = ['', '=', '<', '<=', '<=', '>', '>=', '>=', '>=', '~', '^', '^']
   return random.of(operators) + perhaps(dialect) + text(partial(dialect))
@@ -80,7 +80,7 @@ const hyphen = (dialect) => `${text(partial(dialect))}${blanks(dialect)}-${blank
 const bars = (dialect) => `${perhaps(dialect)}||${perhaps(dialect)}`
 const comma = (dialect) => `${perhaps(dialect)},${perhaps(dialect)}`
 
-// What is before the last range, with its `||`, and before the last term in this.
+// What is before the last range, with its `||`, and before the last term in that range.
 function head (dialect) {
   const separator = isOfCargo(dialect) ? comma : blanks
   const range = () => random.below(6)
@@ -109,7 +109,7 @@ function requirement (dialect) {
 
 // ---- versions
 
-// A version, often near the one that is written in the range.
+// A version, often near the one in the range.
 function versionNear ({ parts, pre }) {
   const isNear = (at) => isNumber(parts[at] ?? '') && random.below(3)
   const near = (at) => isNear(at) ? Number(parts[at]) + random.of([0, 0, 1]) : number()
@@ -118,7 +118,7 @@ function versionNear ({ parts, pre }) {
   return { numbers: [0, 1, 2].map(near), pre: random.of(pres), build }
 }
 
-// The version of a range with the numbers of another one.
+// The version in a range with the numbers of another version.
 function replaced ({ v, parts }, { numbers, pre }) {
   const isExact = parts.length === 3 && parts.every(isNumber)
   const components = parts.map((it, at) => isNumber(it) ? numbers[at] : it)
@@ -150,7 +150,7 @@ function randomCase () {
   return one
 }
 
-// ---- what the tools say: true, false, or null if the range or the version is invalid
+// ---- what the tools return: true, false, or null if the range or the version is invalid
 
 function byNodeSemver ([range, version]) {
   if (semver.validRange(range) === null || semver.valid(version) === null) return null
@@ -167,11 +167,11 @@ function run (command, values) {
 
 function byCargo (pairs) {
   const answers = run(cargo, pairs.flat())
-  if (answers.length !== pairs.length) throw new Error(`${cargo} wrote ${answers.length} answers`)
+  if (answers.length !== pairs.length) throw new Error(`${cargo} wrote ${answers.length} results`)
   return [...answers].map((it) => it === '!' ? null : it === 'y')
 }
 
-// Whether the range, and the raised one, contain the version.
+// Whether the range and the raised range contain the version.
 function contained (cases) {
   const both = ({ range, raised }) => [range, raised ?? range]
   const pairs = cases.flatMap((it) => both(it).map((range) => [range, it.version]))
@@ -207,7 +207,7 @@ function resultsOf (command, cases) {
   return [name, found]
 }
 
-// What is right for a case, of which the examples returned these lines.
+// Compares the results of the examples for a case with the expected one.
 function compareCase (one, answers, lines) {
   const isOfTool = !one.dialect.startsWith('crate')
   const right = isOfTool ? wanted(one, answers) : lines[0][1]

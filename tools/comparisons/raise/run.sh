@@ -1,5 +1,6 @@
 # Sourced by tools/compare.sh: compares the examples that raise a requirement with node-semver and
-# Cargo's crate semver. Each example is built with the program beside this that includes it.
+# with Cargo's crate semver. Each example is built into a program of this directory that includes
+# it.
 work=$(mktemp -d)
 trap 'rm -rf "$work"' EXIT
 trap 'exit 2' HUP INT TERM

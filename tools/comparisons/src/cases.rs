@@ -14,11 +14,11 @@ pub enum Kind {
     Versions,
     /// A whole text as a range set in Cargo mode.
     Cargo,
-    /// The same in npm mode.
+    /// A whole text as a range set in npm mode.
     Npm,
     /// A whole text as a range set with exact bounds in Cargo mode, as it prints.
     CargoExact,
-    /// The same in npm mode.
+    /// A whole text as a range set with exact bounds in npm mode, as it prints.
     NpmExact,
 }
 
@@ -26,7 +26,7 @@ impl Kind {
     pub const ALL: [Kind; 7] =
         [Kind::Tokens, Kind::Steps, Kind::Versions, Kind::Cargo, Kind::Npm, Kind::CargoExact, Kind::NpmExact];
 
-    /// Its name in what is printed.
+    /// Returns the name that is printed.
     pub fn name(self) -> &'static str {
         match self {
             Kind::Tokens => "tokens",
@@ -39,7 +39,7 @@ impl Kind {
         }
     }
 
-    /// Its name in a line of `replayed_cases`.
+    /// Returns the name in a line of `replayed_cases`.
     pub fn call(self) -> &'static str {
         match self {
             Kind::Tokens => "lex",
@@ -62,12 +62,12 @@ pub const STEPS: [&str; 8] =
 pub struct Case {
     pub kind: Kind,
     pub text: String,
-    /// The calls of a parser; none for the other kinds.
+    /// The calls of a parser; empty for the other kinds.
     pub steps: Vec<&'static str>,
 }
 
 impl Case {
-    /// The cases with a step or a piece of the text less, longer pieces first.
+    /// Returns the cases without one step or without a piece of the text, longer pieces first.
     pub fn smaller(&self) -> Vec<Case> {
         let mut all = Vec::new();
         for step in 0..self.steps.len() {
@@ -87,7 +87,7 @@ impl Case {
         all
     }
 
-    /// Its line for `replayed_cases`.
+    /// Returns the line for `replayed_cases`.
     pub fn line(&self) -> String {
         let text = escaped(&self.text);
         let steps = if self.steps.is_empty() { String::new() } else { format!("\t{}", self.steps.join(",")) };

@@ -1,10 +1,12 @@
-//! The known departures of the real crate, undone: what the answer here has to be, from the crate's own.
+//! Undoes the known departures of the original crate: turns the crate's result into the expected
+//! one.
 //!
-//! The lexer's error that is given again, a comma and the panics at numbers are undone in the crate's answer. The other departures of the
-//! range grammar are refusals, or answers that don't tell a build from a pre-release; so they are undone in the text. After three
-//! components the build is taken away, and each part of a pre-release that begins with a digit and isn't a canonical decimal is marked
-//! by letters in front, which the crate then keeps as a text. What the answer to that text keeps so marked is then kept by the rule
-//! written in docs/CRATE.md.
+//! Three departures are undone in the crate's result: the lexer's error that is returned again, a
+//! comma, and the panics at numbers. The other departures in ranges are errors, or results in which
+//! a build looks like a pre-release, so they are undone in the text. After three components the
+//! build is removed. Each part of a pre-release that begins with a digit and isn't a canonical
+//! decimal gets letters in front, since the crate then keeps it as a text. In the result for that
+//! text, such a part is replaced by what the rule in docs/CRATE.md says.
 
 use crate::cases::{Case, Kind};
 use crate::exact;
@@ -20,16 +22,16 @@ const DIGIT_FIRST: &str = "a part that begins with a digit and is no canonical d
 const NUMBER: &str = "a panic at a number past 64 bits";
 const BOUND: &str = "a panic at a raised bound past 64 bits";
 
-/// What parts the words of a range text.
+/// The characters between the words of a range text.
 const SEPARATORS: [char; 3] = [' ', '\t', '|'];
 
-/// What the answer here has to be, and the departures for which it isn't the crate's.
+/// The expected result, and the departures because of which it isn't the crate's.
 pub struct Expected {
     pub answer: String,
     pub departures: Vec<&'static str>,
 }
 
-/// What the answer to a case has to be.
+/// Returns the expected result for a case.
 pub fn expected(case: &Case) -> Expected {
     match case.kind {
         Kind::Cargo => range(&case.text, Compat::Cargo),
@@ -40,7 +42,7 @@ pub fn expected(case: &Case) -> Expected {
     }
 }
 
-/// The error once, and then nothing.
+/// Keeps the error once, and nothing after it.
 fn without_repeats(answer: &str) -> Expected {
     match answer.strip_suffix(ERROR_AGAIN) {
         Some(items) => Expected { answer: format!("{items}end"), departures: vec![AGAIN] },
@@ -48,13 +50,14 @@ fn without_repeats(answer: &str) -> Expected {
     }
 }
 
-/// What the set with exact bounds has to print, by the answer with the bounds as they are.
+/// Returns what the set with exact bounds has to print, from the result with the bounds as they
+/// are.
 fn exact(text: &str, compat: Compat) -> Expected {
     let Expected { answer, departures } = range(text, compat);
     Expected { answer: exact::printed(text, &answer), departures }
 }
 
-/// What the answer to a range text has to be.
+/// Returns the expected result for a range text.
 fn range(text: &str, compat: Compat) -> Expected {
     let answered = ranges::read(text, compat);
     if text.contains(',') {
@@ -72,7 +75,8 @@ fn range(text: &str, compat: Compat) -> Expected {
     Expected { answer: answer.here(), departures }
 }
 
-/// No range text has a comma. The crate passes over one that it takes: its answer is that to the text without commas.
+/// Returns the expected result for a text with a comma, which is never a range. If the crate
+/// accepts the comma, it ignores it: its result is the one for the text without commas.
 fn with_comma(text: &str, compat: Compat, answered: &Answer) -> Expected {
     if matches!(answered, Answer::Refused) {
         return Expected { answer: answered.here(), departures: Vec::new() };
@@ -85,7 +89,7 @@ fn with_comma(text: &str, compat: Compat, answered: &Answer) -> Expected {
 /// A text without the departures that its parts could show.
 struct Undone {
     text: String,
-    /// What marks a part, and stands nowhere else in the text; empty where no part is marked.
+    /// What marks a part, and is nowhere else in the text. Empty if no part is marked.
     mark: String,
     departures: Vec<&'static str>,
 }
@@ -105,7 +109,8 @@ fn undone(text: &str) -> Undone {
 }
 
 impl Undone {
-    /// Adds a word. One whose qualifier isn't in the grammar, or doesn't stand after three components, is left as it is.
+    /// Adds a word. It is left as it is if its qualifier isn't in the grammar, or isn't after three
+    /// components.
     fn push_word(&mut self, word: &str, mark: &str) {
         let at = word.find(['-', '+']).unwrap_or(word.len());
         let (numbers, qualifier) = word.split_at(at);
@@ -125,7 +130,7 @@ impl Undone {
         self.push_pre(pre, mark);
     }
 
-    /// Adds a pre-release with its sign, and marks the parts that the crate would refuse.
+    /// Adds a pre-release with its sign, and marks the parts that the crate would reject.
     fn push_pre(&mut self, pre: &str, mark: &str) {
         let parts = match pre.strip_prefix('-') {
             Some(parts) => parts,
@@ -153,7 +158,8 @@ fn is_canonical(part: &str) -> bool {
     part.bytes().all(|b| b.is_ascii_digit()) && (part == "0" || !part.starts_with('0'))
 }
 
-/// Keeps each marked part as its rule says: as a number where it is digits alone and its value is below 2^64, else as its text.
+/// Replaces each marked part by what its rule says: a number if it has only digits and its value is
+/// below 2^64, otherwise its text.
 fn unmark(set: &mut RangeSet, mark: &str) {
     if mark.is_empty() {
         return;

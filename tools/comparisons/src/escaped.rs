@@ -1,6 +1,6 @@
-//! Texts as a line of `replayed_cases` has them.
+//! Texts in a line of `replayed_cases`.
 
-/// A text without the characters that end a field or a line, or begin an escape.
+/// Escapes the characters that end a field or a line, or begin an escape.
 pub fn escaped(text: &str) -> String {
     text.replace('\\', "\\\\").replace('\n', "\\n").replace('\r', "\\r").replace('\t', "\\t")
 }

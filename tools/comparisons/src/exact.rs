@@ -1,7 +1,8 @@
-//! What a set with exact bounds prints, from the fields of the set whose bounds are as they are: a bound that is raised gets the
-//! pre-release `0`, and one that the text states stays. Which is which is told by the signs of the text.
+//! Determines what a set with exact bounds prints, from the fields of the set with other bounds. A
+//! bound that is raised gets the pre-release `0`, and one that the text states stays. The signs in
+//! the text show which is which.
 
-/// What is printed for a text whose set has these fields, or the sentence of its error.
+/// Returns what is printed for a text whose set has these fields, or the message of its error.
 pub fn printed(text: &str, fields: &str) -> String {
     match fields {
         "NotARange" => return "not a range".to_string(),
@@ -14,7 +15,8 @@ pub fn printed(text: &str, fields: &str) -> String {
     ranges.join(" || ")
 }
 
-/// A comparator as it prints, its sign, and whether its version is above 0.0.0, as every raised bound is.
+/// A comparator as it prints, its sign, and whether its version is above 0.0.0, as every raised
+/// bound is.
 struct Comparator {
     text: String,
     sign: String,
@@ -32,7 +34,7 @@ fn range(text: &str, fields: &str) -> String {
     texts.join(" ")
 }
 
-/// A comparator from its fields, up to the bracket that ends them.
+/// Parses a comparator from its fields, up to the bracket that ends them.
 fn comparator(field: &str) -> Comparator {
     let (head, identifiers) = field.trim_start().split_once('[').expect("a bracket follows the numbers");
     let identifiers: Vec<&str> = identifiers
@@ -48,7 +50,7 @@ fn comparator(field: &str) -> Comparator {
     }
 }
 
-/// Which comparators are raised bounds.
+/// Returns which comparators are raised bounds.
 fn raised(text: &str, comparators: &[Comparator]) -> Vec<bool> {
     let is_bound = |comparator: &Comparator| comparator.sign == "<" && comparator.is_above_zero;
     if text.split_whitespace().any(|word| word == "-") {
@@ -71,7 +73,7 @@ fn raised(text: &str, comparators: &[Comparator]) -> Vec<bool> {
     raised
 }
 
-/// The sign of each simple, and whether its partial states nothing.
+/// Returns the sign of each simple range, and whether its partial version states nothing.
 fn simples(text: &str) -> Vec<(String, bool)> {
     let mut simples = Vec::new();
     let mut sign = String::new();

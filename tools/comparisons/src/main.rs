@@ -1,8 +1,8 @@
-//! Compares the program of this repository with the real crate on random texts.
+//! Compares this repository's program with the original crate on random texts.
 //!
-//! `compare PROGRAM COUNT SEED`: PROGRAM is the built `replayed_cases`. For each kind of case it prints how many were compared
-//! and how often each known departure of the crate occurred, or the first other difference in its smallest form, and then ends
-//! with status 1.
+//! `compare PROGRAM COUNT SEED`: PROGRAM is the built `replayed_cases`. For each kind of case it
+//! prints how many were compared and how often each known departure of the crate occurred. At the
+//! first other difference it prints its smallest form, and exits with 1.
 
 mod cases;
 mod departures;
@@ -21,7 +21,7 @@ use random::Random;
 use std::collections::BTreeMap;
 use std::process::ExitCode;
 
-/// How many cases go to the program at once.
+/// How many cases are passed to the program at once.
 const BATCH: usize = 20_000;
 
 fn main() -> ExitCode {
@@ -46,7 +46,7 @@ fn main() -> ExitCode {
     ExitCode::SUCCESS
 }
 
-/// Compares so many cases of a kind, and tells whether there was no difference but the known ones.
+/// Compares `count` cases of a kind. Returns whether there was no difference except the known ones.
 fn compare(program: &str, kind: Kind, count: usize, seed: u64) -> bool {
     let mut random = Random::new(seed);
     let mut occurred: BTreeMap<&'static str, usize> = BTreeMap::new();
@@ -72,7 +72,7 @@ fn compare(program: &str, kind: Kind, count: usize, seed: u64) -> bool {
     true
 }
 
-/// Takes characters and calls out while a difference stays, and prints what is left.
+/// Removes characters and calls as long as there is a difference, and prints what is left.
 fn report(program: &str, case: &Case) {
     let mut smallest = case.clone();
     loop {

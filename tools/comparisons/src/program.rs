@@ -4,7 +4,7 @@ use crate::cases::Case;
 use std::io::Write;
 use std::process::{Command, Stdio};
 
-/// What the program answers to each case.
+/// Returns the program's result for each case.
 pub fn answers(program: &str, cases: &[Case]) -> Vec<String> {
     let mut child = Command::new(program)
         .stdin(Stdio::piped())
@@ -20,8 +20,8 @@ pub fn answers(program: &str, cases: &[Case]) -> Vec<String> {
     let output = String::from_utf8(output.stdout).expect("it writes text");
     let answers: Vec<String> = output
         .split_terminator('\n')
-        .map(|line| line.strip_prefix("-: ").expect("an answer begins with the case's name").to_string())
+        .map(|line| line.strip_prefix("-: ").expect("a result begins with the case's name").to_string())
         .collect();
-    assert_eq!(answers.len(), cases.len(), "one answer a case");
+    assert_eq!(answers.len(), cases.len(), "one result for each case");
     answers
 }

@@ -1,20 +1,20 @@
-//! The range sets of the real crate.
+//! The range sets of the original crate.
 
 use semver_parser::{Comparator, Compat, Identifier, Op, Range, RangeSet};
 use std::panic::{catch_unwind, resume_unwind};
 
-/// What the crate makes of a range text.
+/// The result of the crate for a range text.
 pub enum Answer {
     Set(RangeSet),
-    /// It isn't in the crate's grammar.
+    /// The text isn't in the crate's grammar.
     Refused,
-    /// The grammar is met, and a number doesn't fit 64 bits.
+    /// The text is in the grammar, but a number doesn't fit 64 bits.
     NumberPanic,
-    /// The grammar is met, and a bound that is raised by one doesn't fit 64 bits.
+    /// The text is in the grammar, but a bound that is raised by one doesn't fit 64 bits.
     BoundPanic,
 }
 
-/// Reads a text by the crate.
+/// Parses a text with the crate.
 pub fn read(text: &str, compat: Compat) -> Answer {
     match catch_unwind(|| RangeSet::parse(text, compat)) {
         Ok(Ok(set)) => Answer::Set(set),
@@ -37,7 +37,7 @@ pub fn read(text: &str, compat: Compat) -> Answer {
 }
 
 impl Answer {
-    /// What the crate answered.
+    /// Returns the crate's result as text.
     pub fn text(&self) -> String {
         match self {
             Answer::Set(set) => set_text(set),
@@ -47,7 +47,7 @@ impl Answer {
         }
     }
 
-    /// The answer here that stands for it.
+    /// Returns the result of this repository that corresponds to it.
     pub fn here(&self) -> String {
         match self {
             Answer::Set(set) => set_text(set),
@@ -57,7 +57,7 @@ impl Answer {
     }
 }
 
-/// The fields of a set, as the program of this repository prints them.
+/// Returns the fields of a set, as this repository's program prints them.
 fn set_text(set: &RangeSet) -> String {
     let ranges: Vec<String> = set.ranges.iter().map(|range| range_text(range, set.compat)).collect();
     format!("{:?}{}", set.compat, ranges.join(" ||"))

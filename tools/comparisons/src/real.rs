@@ -1,4 +1,4 @@
-//! The answers of the real crate, as the program of this repository prints its own.
+//! The results of the original crate, printed as this repository's program prints its own.
 
 use crate::cases::{Case, Kind};
 use crate::ranges;
@@ -7,10 +7,10 @@ use semver_parser::parser::{Error, Parser};
 use semver_parser::version::{self, Identifier, Version};
 use semver_parser::Compat;
 
-/// What stands after the tokens where the crate gives the lexer's error again at two further calls.
+/// Follows the tokens if the crate returns the lexer's error again at two further calls.
 pub const ERROR_AGAIN: &str = "and again";
 
-/// What the crate answers to a case.
+/// Returns the crate's result for a case.
 pub fn answer(case: &Case) -> String {
     match case.kind {
         Kind::Tokens => lexed(&case.text),
@@ -21,7 +21,7 @@ pub fn answer(case: &Case) -> String {
     }
 }
 
-/// The items up to the end or the first error, and then what two further calls give.
+/// Returns the items up to the end or the first error, and then the results of two further calls.
 fn lexed(text: &str) -> String {
     let mut lexer = Lexer::new(text);
     let mut items = Vec::new();
@@ -46,7 +46,7 @@ fn lexed(text: &str) -> String {
     items.join(" ")
 }
 
-/// What a parser of the text answers to each call, one after the other.
+/// Returns the results of a parser of the text, one call after the other.
 fn stepped(text: &str, steps: &[&str]) -> String {
     let mut parser = match Parser::new(text) {
         Ok(parser) => parser,
@@ -105,7 +105,7 @@ fn token_text(token: &Token) -> String {
     }
 }
 
-/// The numbers of a version, and each identifier by its kind and value.
+/// Returns the numbers of a version, and each identifier by its kind and value.
 fn fields(version: &Version) -> String {
     let part = |identifiers: &[Identifier]| identifiers.iter().map(identifier_text).collect::<Vec<_>>().join(" ");
     let (major, minor, patch) = (version.major, version.minor, version.patch);

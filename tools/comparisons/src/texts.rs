@@ -1,4 +1,5 @@
-//! Random cases: texts from the grammars of versions and ranges, most of them with something changed, and lists of tokens.
+//! Random cases: texts from the grammars of versions and ranges, most of them with a change, and
+//! lists of tokens.
 
 use crate::cases::{Case, Kind, STEPS};
 use crate::random::Random;
@@ -6,7 +7,7 @@ use crate::random::Random;
 /// A number of 40 digits.
 const LONG: &str = "1000000000000000000000000000000000000007";
 
-/// A case of a kind.
+/// Returns a case of a kind.
 pub fn case(kind: Kind, random: &mut Random) -> Case {
     let mut text = match kind {
         Kind::Tokens => match random.below(3) {
@@ -35,7 +36,7 @@ pub fn case(kind: Kind, random: &mut Random) -> Case {
     Case { kind, text, steps }
 }
 
-/// Calls of a parser: some at random, some in the order that a version has.
+/// Returns calls of a parser: some at random, some in the order of a version.
 fn steps(random: &mut Random) -> Vec<&'static str> {
     let mut steps = match random.below(3) {
         0 => vec!["numeric", "dot_numeric", "dot_component"],
@@ -49,7 +50,7 @@ fn steps(random: &mut Random) -> Vec<&'static str> {
     steps
 }
 
-/// Takes a character out, or puts a few in.
+/// Removes a character, or inserts a few.
 fn change(random: &mut Random, text: &mut String) {
     const NEW: &[&str] = &[
         "", " ", "\t", "\n", "\r", ".", "-", "+", "|", "||", "0", "1", "01", "x", "X", "*", "a", "<", ">", "=", "~", "^", ",", ", ",
@@ -66,7 +67,7 @@ fn change(random: &mut Random, text: &mut String) {
     }
 }
 
-/// Takes a piece of the text, and puts it somewhere else or there twice.
+/// Moves a piece of the text, or repeats it elsewhere.
 fn move_a_piece(random: &mut Random, text: &mut String) {
     let (one, other) = (place(random, text), place(random, text));
     let (start, end) = (one.min(other), one.max(other));
@@ -78,19 +79,19 @@ fn move_a_piece(random: &mut Random, text: &mut String) {
     text.insert_str(at, &piece);
 }
 
-/// A place between two characters.
+/// Returns an offset between two characters.
 fn place(random: &mut Random, text: &str) -> usize {
     let places: Vec<usize> = text.char_indices().map(|(i, _)| i).chain([text.len()]).collect();
     places[random.below(places.len())]
 }
 
-/// The text with an identifier of hundreds of runs after it.
+/// Returns the text followed by an identifier with hundreds of hyphens.
 fn many_hyphens(random: &mut Random, text: &str) -> String {
     let runs = vec![random.pick(&["a", "0", "1", "01"]); 250 + random.below(20)];
     format!("{text}{}{}", random.pick(&["", "-", "-", "+", "."]), runs.join("-"))
 }
 
-/// Signs, runs and white space in any order.
+/// Returns signs, alphanumerics and white space in any order.
 fn tokens(random: &mut Random) -> String {
     const PIECES: &[&str] = &[
         "=", ">", "<", "<=", ">=", "^", "~", "*", ".", ",", "-", "+", "||", "|", " ", "\t\r\n ", "0", "1", "7", "42", "00", "01", "1a", "a1",

@@ -1,11 +1,11 @@
-//! Compares requirements as Cargo reads them with `VersionReq` of the crate `semver`: whether a text
-//! is read, which releases meet what it is rewritten to, and which versions it means, releases and
-//! pre-releases at and round the numbers that it states.
+//! Compares requirements in Cargo's dialect with `VersionReq` of the crate `semver`: whether a text
+//! is accepted, which releases satisfy its comparators, and which versions it matches: releases and
+//! pre-releases at and around the numbers that it states.
 //!
-//! `requirements-with-cargo-semver PROGRAM COUNT SEED`, where PROGRAM is the built `replayed_cases`,
-//! makes COUNT texts, by the grammar and changed at one place. Their numbers stay small, so that none
-//! is too large. `requirements-with-cargo-semver PROGRAM --texts TEXTS VERSIONS` takes the lines of
-//! two files. It prints the first difference, and then ends with status 1.
+//! `requirements-with-cargo-semver PROGRAM COUNT SEED`, where PROGRAM is the built
+//! `replayed_cases`, makes COUNT texts, by the grammar and with one change. Their numbers stay
+//! small, so that none is too large. `requirements-with-cargo-semver PROGRAM --texts TEXTS
+//! VERSIONS` takes the lines of two files. It prints the first difference, and then exits with 1.
 
 #[path = "../escaped.rs"]
 mod escaped;
@@ -37,7 +37,8 @@ fn simple(random: &mut Random) -> String {
     format!("{before}{}{gap}{}{qualifier}{after}", random.pick(&SIGNS), numbers.join("."))
 }
 
-/// Comparators that state nearly the same numbers, and of three numbers most often a pre-release.
+/// Returns comparators that state nearly the same numbers. Those with three mostly have a
+/// pre-release.
 fn related(random: &mut Random) -> String {
     let numbers = [(); 3].map(|()| NUMBERS[random.below(NUMBERS.len())]);
     let comparators = (0..2 + random.below(2)).map(|_| {
@@ -67,7 +68,7 @@ fn text(random: &mut Random) -> String {
     }
 }
 
-/// Whether a release meets a printed set of one range, by its numbers.
+/// Returns whether a release satisfies a printed set of one range, by its numbers.
 fn meets(printed: &str, release: &Version) -> bool {
     printed.split(' ').all(|comparator| {
         let (sign, bound) = comparator.split_at(comparator.bytes().take_while(|b| !b.is_ascii_digit()).count());
@@ -82,8 +83,8 @@ fn meets(printed: &str, release: &Version) -> bool {
     })
 }
 
-/// The versions that are asked of a text: of the numbers that each comparator states, filled up at random, and of others, with
-/// pre-releases and without.
+/// Returns the versions to match a text with: the numbers that each comparator states, completed at
+/// random, and others, with and without pre-releases.
 fn asked(text: &str, random: &mut Random) -> Vec<Version> {
     let mut asked = Vec::new();
     for comparator in text.split(',') {
@@ -108,7 +109,7 @@ fn version(numbers: &[u64], pre: &str) -> Version {
     Version { pre, ..Version::new(numbers[0], numbers[1], numbers[2]) }
 }
 
-/// What the program answers to each call with its text and versions.
+/// Returns the program's result for each call with its text and versions.
 fn answers(program: &str, calls: &[String]) -> Vec<String> {
     let mut child =
         Command::new(program).stdin(Stdio::piped()).stdout(Stdio::piped()).spawn().expect("the program runs");
@@ -119,12 +120,12 @@ fn answers(program: &str, calls: &[String]) -> Vec<String> {
     writer.join().expect("all calls were written");
     let output = String::from_utf8(output.stdout).expect("it writes text");
     let answers: Vec<String> =
-        output.split_terminator('\n').map(|line| line.strip_prefix("-: ").expect("an answer begins with the name").to_string()).collect();
-    assert_eq!(answers.len(), calls.len(), "one answer a call");
+        output.split_terminator('\n').map(|line| line.strip_prefix("-: ").expect("a result begins with the name").to_string()).collect();
+    assert_eq!(answers.len(), calls.len(), "one result for each call");
     answers
 }
 
-/// The texts, and the versions that are asked of each: those of two files, or made.
+/// Returns the texts, and the versions to match each with: from two files, or random.
 fn questioned(count: &str, second: &str, versions: Option<&String>) -> (Vec<String>, Vec<Vec<Version>>) {
     if let Some(versions) = versions {
         let texts = lines(second);
@@ -178,11 +179,11 @@ fn main() -> ExitCode {
             }
         };
         if !same {
-            println!("{text:?}: {rewritten}, {meant}, and otherwise in semver, asked of {}", questions[at]);
+            println!("{text:?}: {rewritten}, {meant}, but not so in semver, matched with {}", questions[at]);
             return ExitCode::FAILURE;
         }
     }
-    println!("{count} texts, of which {read} are read: no difference of {} releases by their comparators,", releases.len());
-    println!("nor of the versions that each was asked about, of which {met} were meant, {pre_releases} of them pre-releases");
+    println!("{count} texts, {read} of them accepted: no difference of {} releases by their comparators,", releases.len());
+    println!("nor of the versions that each was matched with; {met} matched, {pre_releases} of them pre-releases");
     ExitCode::SUCCESS
 }

@@ -1,7 +1,7 @@
-//! Whether Cargo's `semver` says that a version satisfies a requirement:
-//! `satisfied-by-cargo-semver` reads pairs of a requirement and a version, each with a zero byte
-//! after it, from standard input, and writes a character for each: `y`, `n`, or `!` if one of the
-//! two is invalid.
+//! Prints whether a version satisfies a requirement, by Cargo's `semver`.
+//! `satisfied-by-cargo-semver` reads pairs of a requirement and a version, each followed by a zero
+//! byte, from standard input, and writes a character for each: `y`, `n`, or `!` if one of the two
+//! is invalid.
 
 use semver::{Version, VersionReq};
 use std::io::{self, Read};

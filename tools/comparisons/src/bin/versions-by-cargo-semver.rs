@@ -1,12 +1,13 @@
-//! Reads versions with `Version::parse` of the crate `semver`: for each line of standard input, with
-//! the escapes `\n`, `\r`, `\t` and `\\`, it writes `none`, or the numbers, the pre-release after `-`
-//! and the build after `+`, separated by spaces. Of a line that begins with a requirement and a tab
-//! it writes whether `VersionReq::matches` holds, or `none` where one of them isn't read.
+//! Parses versions with `Version::parse` of the crate `semver`. For each line of standard input,
+//! with the escapes `\n`, `\r`, `\t` and `\\`, it writes `none`, or the numbers, the pre-release
+//! after `-` and the build after `+`, separated by spaces. For a line that begins with a
+//! requirement and a tab it writes whether `VersionReq::matches` holds, or `none` if either is
+//! invalid.
 
 use semver::{Version, VersionReq};
 use std::io::{BufRead, BufWriter, Write};
 
-/// The text of a line, as a field of `replayed_cases` has it.
+/// Returns the text of a line, which has the escapes of a field of `replayed_cases`.
 fn expanded(line: &str) -> String {
     let mut characters = line.chars();
     let mut text = String::new();

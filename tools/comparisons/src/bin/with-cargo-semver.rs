@@ -1,9 +1,12 @@
-//! Compares which versions a range means here, pre-releases as stated, with what Cargo's `semver` takes.
+//! Compares which versions a range matches here, by the default rule for pre-releases, with Cargo's
+//! `semver`.
 //!
-//! `with-cargo-semver PROGRAM COUNT SEED`: PROGRAM is the built `replayed_cases`. It makes COUNT pairs of a range of one to three
-//! simples, in Cargo mode, and a version near one of them. Where `semver` is known to mean something else, each simple is turned into
-//! ones that it reads as the simple is meant here; which pre-releases count beside these is left to it (`VersionReq::matches`). It
-//! prints how often each departure changed an answer, or the first other difference, and then ends with status 1.
+//! `with-cargo-semver PROGRAM COUNT SEED`: PROGRAM is the built `replayed_cases`. It makes COUNT
+//! pairs of a range of one to three simple ranges, in Cargo mode, and a version near one of them.
+//! If `semver` is known to read a simple range differently, that is turned into ones that `semver`
+//! reads as it is meant here. Which pre-releases count next to these is left to
+//! `VersionReq::matches`. It prints how often each departure changed a result; at the first other
+//! difference it prints that, and exits with 1.
 
 #[allow(dead_code)]
 #[path = "../random.rs"]
@@ -15,7 +18,7 @@ use std::collections::BTreeMap;
 use std::io::Write;
 use std::process::{Command, ExitCode, Stdio};
 
-/// How many versions go with a range.
+/// How many versions are matched with a range.
 const VERSIONS: usize = 8;
 
 const SIGNS: [&str; 10] = ["", "=", "<", "<=", ">", ">=", "~", "^", "^", "^"];
@@ -26,7 +29,7 @@ const NOTHING: &str = "nothing stated stands by itself there, or is refused";
 const GREATER: &str = "`>` with one or two numbers begins with the next ones";
 const PARTIAL: &str = "one or two numbers take no pre-release in that another simple states, but for carets those of the bound";
 
-/// A simple: its operator, what it states, and its pre-release.
+/// A simple range: its operator, what it states, and its pre-release.
 struct Simple {
     sign: &'static str,
     stated: Vec<u64>,
@@ -42,7 +45,7 @@ impl Simple {
         Simple { sign: SIGNS[random.below(10)], stated, pre }
     }
 
-    /// Its text here.
+    /// Returns its text here.
     fn text(&self) -> String {
         let mut numbers: Vec<String> = self.stated.iter().map(u64::to_string).collect();
         if numbers.len() < 3 {
@@ -51,7 +54,7 @@ impl Simple {
         format!("{}{}{}", self.sign, numbers.join("."), tail(self.pre))
     }
 
-    /// The zero-filled version.
+    /// Returns the version, completed with zeros.
     fn filled(&self) -> String {
         version_text(&self.numbers(), self.pre)
     }
@@ -61,7 +64,7 @@ impl Simple {
         [number(0), number(1), number(2)]
     }
 
-    /// The bound that is raised at this many numbers, exactly.
+    /// Returns the exact bound that is raised at this many numbers.
     fn below(&self, count: usize) -> String {
         let mut numbers = self.numbers();
         numbers[count - 1] += 1;
@@ -69,7 +72,7 @@ impl Simple {
         format!("<{}", version_text(&numbers, "0"))
     }
 
-    /// What means the same to `semver`, and why its own text doesn't.
+    /// Returns what means the same in `semver`, and why its own text doesn't.
     fn undone(&self) -> (Vec<String>, Option<&'static str>) {
         let lower = format!(">={}", self.filled());
         let count = self.stated.len();
@@ -89,7 +92,7 @@ impl Simple {
         }
     }
 
-    /// A version near it.
+    /// Returns a version near it.
     fn near(&self, random: &mut Random) -> String {
         let mut numbers = self.numbers();
         let place = random.below(6);
@@ -137,7 +140,7 @@ impl Case {
         format!("-\tstated-cargo\t{}\t{}\n", self.joined(" "), self.versions.join(" "))
     }
 
-    /// Compares what the program kept, and counts departures. It answers the first other difference.
+    /// Compares what the program kept, and counts departures. Returns the first other difference.
     fn differs(&self, kept: &str, occurred: &mut BTreeMap<&'static str, usize>) -> Option<String> {
         let kept: Vec<&str> = kept.trim_start_matches("-: ").split(' ').collect();
         let undone: Vec<(Vec<String>, Option<&'static str>)> = self.simples.iter().map(Simple::undone).collect();
@@ -153,7 +156,7 @@ impl Case {
             if !own.as_ref().is_ok_and(|own| own.matches(&version) == answer) {
                 let known: Vec<&'static str> = undone.iter().filter_map(|(_, departure)| *departure).collect();
                 if known.is_empty() {
-                    return Some(format!("{:?} and {text}: answered here {answer}, for no known reason", self.joined(" ")));
+                    return Some(format!("{:?} and {text}: here {answer}, for no known reason", self.joined(" ")));
                 }
                 for departure in known {
                     *occurred.entry(departure).or_default() += 1;
@@ -188,7 +191,7 @@ fn main() -> ExitCode {
     let cases: Vec<Case> = (0..count / VERSIONS).map(|_| Case::made(&mut random)).collect();
     let mut occurred = BTreeMap::new();
     let kept = answers(&arguments[0], &cases);
-    assert_eq!(kept.lines().count(), cases.len(), "one answer a case");
+    assert_eq!(kept.lines().count(), cases.len(), "one result for each case");
     for (case, kept) in cases.iter().zip(kept.lines()) {
         if let Some(difference) = case.differs(kept, &mut occurred) {
             println!("differ: {difference}");
