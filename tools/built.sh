@@ -1,16 +1,18 @@
-# What the Makefile, ./semver-parser and the tests share. Each sets `top` first, the directory of the
-# repository by its whole path, and then reads this file, which has `cd` look in no others.
+# Shared by the Makefile, ./semver-parser and the tests. Before they source this file, they set
+# `top` to the absolute path of the repository. The file unsets CDPATH, so that `cd` doesn't look
+# elsewhere.
 unset CDPATH
-# A folder for temporary files, what isn't whole yet, and whether a command runs beside the script.
+# The directory for temporary files, a file that isn't complete yet, and whether a command runs in
+# the background.
 work='' half='' running=''
 
-# refuse WHY..: says why in one line, and ends with status 2.
+# refuse WHY..: prints why in one line, and exits with 2.
 refuse() {
     echo "${self:-${0##*/}}: $*" >&2
     exit 2
 }
 
-# begin: makes the folder `work`, and has all let go of when the script ends or is stopped.
+# begin: makes the directory `work`. It is removed when the script ends or is stopped.
 begin() {
     trap let_go EXIT
     for signal in HUP INT PIPE TERM; do
@@ -33,19 +35,19 @@ beside() {
     return "$beside"
 }
 
-# again GOAL..: has make make something, by the variables of the environment.
+# again GOAL..: runs make for goals, with the variables of the environment.
 again() {
     beside env MAKEFLAGS= make -s --no-print-directory -C "$top" "$@"
 }
 
-# is_built FILE: whether nothing of the sources in Rust is newer than what cargo built of them.
+# is_built FILE: returns whether no source in Rust is newer than a file that cargo built.
 is_built() {
     [ -s "$1" ] && newer=$(find "$top/Cargo.toml" "$top/rust" -name target -prune -o \
         -type f ! -name Cargo.lock -newer "$1" -print 2> /dev/null) && [ -z "$newer" ]
 }
 
-# build ARGUMENT..: has cargo build what the arguments say. The files don't depend on the
-# directories of the repository and of the toolchain: their paths aren't in them.
+# build ARGUMENT..: runs cargo build with the arguments. The files that it makes don't contain the
+# paths of the repository and of the toolchain, so they don't depend on these.
 build() {
     may_ask || return 0
     may_cargo
@@ -60,19 +62,20 @@ may_cargo() {
     command -v cargo > /dev/null || refuse 'needs the command cargo, 1.79 or later (rustup, or from Debian 13 on: apt-get install cargo)'
 }
 
-# may_ask: whether cargo may write to the repository. If not, what isn't built is refused.
+# may_ask: returns whether cargo may write to the repository. If not, and if something isn't built,
+# exits.
 may_ask() {
     is_owner && [ -w "$top" ] || is_built "$top/out/cargo/release/semver-parser" ||
         may_build 'the Rust crate'
     is_owner && [ -w "$top" ]
 }
 
-# Root builds nothing in a checkout of another user.
+# is_owner: returns false for root in another user's checkout, where root must not build anything.
 is_owner() {
     [ "$(id -u)" != 0 ] || [ -O "$top" ]
 }
 
-# may_build NAME: refuses a build that can't be, or would leave files of root among another user's.
+# may_build NAME: exits if a build isn't possible, or would leave root's files among another user's.
 may_build() {
     is_owner || refuse "$1 isn't built, and root builds nothing in a" \
         'checkout of another user: run make as its owner, then sudo make install'
@@ -82,7 +85,8 @@ may_build() {
     done
 }
 
-# may_write FOLDER: refuses a folder if it, or the nearest one that is there, may not be written to.
+# may_write DIRECTORY: exits if a directory, or the nearest one above it that exists, isn't
+# writable.
 may_write() {
     nearest=$1
     while [ ! -e "$nearest" ]; do nearest=$(dirname -- "$nearest"); done
@@ -90,16 +94,17 @@ may_write() {
     [ -w "$nearest" ] || refuse "cannot write to $nearest"
 }
 
-# put TREE PATH: copies a file or a link of a tree into the folder `to`, under another name first.
+# put TREE PATH: copies a file or link of a tree into the directory `to`, under a temporary name
+# first.
 put() {
     half=$to/${2%/*}/.${2##*/}.$$
     { cp -P -- "$1/$2" "$half" && mv -fT -- "$half" "$to/$2"; } 2> /dev/null ||
         refuse "cannot write $to/$2"
 }
 
-# put_all TREE: puts all files of a tree into the folder `to`, and first a record: a line for each
-# file, one with a slash at its end for each folder that is made, and those of an earlier record. So
-# `remove_all` removes nothing else, also if the files of an older version were others.
+# put_all TREE: copies all files of a tree into the directory `to`. First it writes a record: a line
+# for each file, a line that ends with a slash for each directory that is made, and the lines of an
+# earlier record. So `remove_all` removes nothing else, even if an older version had other files.
 record=share/semver-parser/installed
 put_all() {
     mkdir -p "$1/${record%/*}" && : > "$1/$record"
@@ -121,7 +126,8 @@ put_all() {
     done < "$work/files"
 }
 
-# remove_all: removes the files of the record, what python3 keeps of them, and folders empty then.
+# remove_all: removes the files in the record, Python's caches of them, and directories that become
+# empty.
 remove_all() {
     [ -f "$to/$record" ] || refuse "nothing is installed under $to"
     LC_ALL=C sort -r "$to/$record" > "$work/record"
@@ -137,9 +143,8 @@ remove_all() {
     done
 }
 
-# say_what_to_set LIBRARIES PACKAGES: if the system doesn't look below PREFIX, writes the commands
-# after which a shell finds the programs, a compiler the header and the library, and python3 the
-# package.
+# say_what_to_set LIBRARIES PACKAGES: if the system doesn't search PREFIX, prints the commands that
+# make a shell find the programs, a compiler the header and the library, and python3 the package.
 say_what_to_set() {
     libraries=$PREFIX/$1 packages=$PREFIX/$2
     {
@@ -155,13 +160,13 @@ say_what_to_set() {
     cat "$work/to-set"
 }
 
-# sets VARIABLE DIRECTORY: writes the command that puts a directory first in a variable.
+# sets VARIABLE DIRECTORY: prints the command that puts a directory first in a variable.
 sets() {
     directory=$(printf '%s\n' "$2" | sed "/[^A-Za-z0-9/._-]/{ s/'/'\\\\''/g; s/.*/'&'/; }")
     printf '    export %s=%s"${%s:+:$%s}"\n' "$1" "$directory" "$1" "$1"
 }
 
-# loads_from DIRECTORY: whether a program that starts now gets the shared library from there.
+# loads_from DIRECTORY: returns whether a new process would load the shared library from there.
 loads_from() {
     case :${LD_LIBRARY_PATH-}: in *":$1:"*) return ;; esac
     PATH=$PATH:/usr/sbin:/sbin ldconfig -p 2> /dev/null | grep -qF " => $1/libsemver_parser.so."

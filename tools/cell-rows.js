@@ -1,11 +1,11 @@
-// Writes the rows of each form of a term in crates/replayed_cases anew, as npm and Cargo read it:
-// `node tools/cell-rows.js JUDGE`, where JUDGE is the built `versions-by-cargo-semver` of
-// tools/comparisons, and NODE_PATH names the directory with npm's own modules
-// (`$(npm root -g)/npm/node_modules`).
+// Writes the rows for each form of a term in crates/replayed_cases anew, as npm and Cargo read it:
+// `node tools/cell-rows.js JUDGE`. JUDGE is the built `versions-by-cargo-semver` of
+// tools/comparisons, and NODE_PATH has to name the directory with npm's own modules (`$(npm root
+// -g)/npm/node_modules`).
 //
-// What is expected comes from node-semver, by default and with `includePrerelease`, and from the crate
-// `semver`. Each operator is written before none, one, two and three numbers, with zeros and with a
-// pre-release, and each such range is matched with the versions at and around its bounds.
+// The expected results come from node-semver, by default and with `includePrerelease`, and from the
+// crate `semver`. Each operator is combined with zero to three numbers, with zeros and with a
+// pre-release. Each such range is matched with the versions at and around its bounds.
 'use strict'
 
 const { execFileSync } = require('child_process')
@@ -41,7 +41,7 @@ function byNpm (range, call, options) {
   return row(NAMES[0], call, range, matches)
 }
 
-// Each range is asked of the judge with each version.
+// Matches each range with each version by the program.
 function byCargo (judge, ranges) {
   const input = ranges.flatMap((range) => VERSIONS.map((version) => `${range}\t${version}`)).join('\n')
   const said = execFileSync(judge, { input }).toString().split('\n')

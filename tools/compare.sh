@@ -1,70 +1,76 @@
 #!/bin/sh
 # Compares what texts mean here with what they mean elsewhere, on COUNT random cases of each kind:
-# tools/compare.sh WITH [COUNT] [SEED], where WITH is
-# - crate: the Rust crate semver-parser, on everything that it reads (needs cargo and Debian's
-#   librust-semver-parser-dev);
-# - cargo: Cargo's crate semver, which pre-releases a range takes as stated, and what requirements
-#   mean (cargo, librust-semver-dev and librust-semver-parser-dev);
-# - node: node-semver, which versions a range means in npm mode, and its intersects, subset and
-#   minVersion (nodejs and node-semver);
-# - npm: node-semver as npm ships it, what npm's dialect takes and means, and how it reads the
-#   ranges of sets (npm);
-# - versions: both tools, which texts are versions, and which of them ranges take in (npm, cargo and
-#   librust-semver-dev);
-# - real: both, on the texts of COUNT of Debian's node-* packages and of as many librust-* packages,
-#   against every version that these have (npm, cargo, librust-semver-dev, python3, and a network);
-# - grid: brute force over a grid of versions, what sets of versions say of two ranges (python3);
-# - lines: the definitions in Python, what release-filter writes of COUNT texts of lines, each cut
-#   into pieces in 100 ways (python3);
-# - version-places: brute force with node-semver as npm ships it, and grammars, where and why a string
-#   is an invalid version, in each dialect (npm);
-# - erased: the kit's build with cargo's, what the table of cases and release-filter write of COUNT
-#   random rows and lines, in each dialect and by each rule (python3, cargo);
-# - crate-tests: the Rust crate's own tests and examples, against rust/ (cargo and
-#   librust-semver-parser-dev);
-# - semver-suite: Cargo's crate semver 1.0.14, its own tests, with a shim for its names over rust/ by
-#   Dialect::Cargo: which assertions fail (cargo, python3 and librust-semver-dev);
-# - targets: rows, library tests and refused requests of rust/ on i686, and on aarch64 by qemu, and
-#   cargo check for each other target that is there (cargo, Debian's rustc-web, its std for these, gcc
-#   for both, libc6-i386 and qemu-user);
-# - js: node-semver as npm ships it, each call of it that the JavaScript package has (npm, and what
-#   rust/wasm/build.sh needs);
-# - node-suite [--show]: node-semver 7.6.1, its own tests, by a shim for tap, against the JavaScript
-#   package: which assertions fail (apt-get with its network, node, and what rust/wasm/build.sh needs);
-# - npm-on-it: npm itself with the JavaScript package in the place of semver, what its commands write
-#   of COUNT projects (as js, and python3);
-# - locks FILE..: node-semver, what check-lock-file lists of changed copies of lock files of yarn and
-#   npm, and of what cargo metadata writes, of which it lists nothing (npm, and the library, installed
-#   or named by SEMVER_PARSER_LIBRARY);
-# - managers: npm, Debian's yarn 1 and Cargo themselves, what check-lock-file lists of lock files that
-#   they write for COUNT random projects, and of projects with edited manifests and damaged lock files,
-#   beside whether the tool's own frozen install takes these (npm, yarnpkg, cargo, python3, and the
-#   library as for locks);
-# - damaged-locks: check-lock-file and compare-requirements, which end with status 0, 1 or 2 on COUNT
-#   damaged copies of the files of python/cases (python3 with PyYAML, and the library as for locks);
-# - real-locks [NAME..]: npm, of what check-lock-file lists of the lock files in Debian's source packages
-#   of these names (apt with its network, npm, and the library as for locks);
-# - places: brute force over all texts of up to COUNT characters, where a refused range stops being
-#   one (python3);
+# tools/compare.sh WITH [COUNT] [SEED]. WITH is one of the following; what it needs is in
+# parentheses.
+#
+# - crate: the original Rust crate semver-parser, everything that it parses (cargo and Debian's
+#   librust-semver-parser-dev)
+# - cargo: Cargo's crate semver, which pre-releases a range contains by default, and which versions
+#   requirements contain (cargo, librust-semver-dev and librust-semver-parser-dev)
+# - node: node-semver, which versions a range contains in npm mode, and its intersects, subset and
+#   minVersion (nodejs and node-semver)
+# - npm: node-semver as npm ships it, which ranges npm's dialect accepts, which versions they
+#   contain, and how node-semver reads the ranges that sets are printed as (npm)
+# - versions: both tools, which texts are versions, and which versions are in ranges (npm, cargo and
+#   librust-semver-dev)
+# - real: both tools, with the texts of COUNT of Debian's node-* packages and of as many librust-*
+#   packages, and every version in these (npm, cargo, librust-semver-dev, python3, and a network)
+# - grid: brute force with a grid of versions, what sets of versions return for two ranges (python3)
+# - lines: the definitions in Python, what release-filter writes for COUNT texts of lines, each cut
+#   into pieces in 100 ways (python3)
+# - version-places: brute force with node-semver as npm ships it, and with grammars, where and why a
+#   string is an invalid version, in each dialect (npm)
+# - erased: the kit's build and cargo's, what the table of cases and release-filter write for COUNT
+#   random rows and lines, in each dialect and by each rule (python3, cargo)
+# - crate-tests: the tests and examples of the original Rust crate, run with rust/ (cargo and
+#   librust-semver-parser-dev)
+# - semver-suite: the tests of Cargo's crate semver 1.0.14, run with rust/ and Dialect::Cargo by a
+#   shim with semver's names: which assertions fail (cargo, python3 and librust-semver-dev)
+# - targets: the rows, the library tests and the tests of failing allocations of rust/ on i686, and
+#   on aarch64 with qemu, and cargo check for each other target that is installed (cargo, Debian's
+#   rustc-web, its std for these, gcc for both, libc6-i386 and qemu-user)
+# - js: node-semver as npm ships it, each of its calls that the JavaScript package has (npm, and
+#   what rust/wasm/build.sh needs)
+# - node-suite [--show]: the tests of node-semver 7.6.1, run with the JavaScript package by a shim
+#   for tap: which assertions fail (apt-get with its network, node, and what rust/wasm/build.sh
+#   needs)
+# - npm-on-it: npm with the JavaScript package instead of semver, what its commands write for COUNT
+#   projects (the same as for js, and python3)
+# - locks FILE..: node-semver, what check-lock-file lists for changed copies of lock files of yarn
+#   and npm, and of the output of cargo metadata, for which it lists nothing (npm, and the library,
+#   installed or named by SEMVER_PARSER_LIBRARY)
+# - managers: npm, Debian's yarn 1 and Cargo themselves, what check-lock-file lists for lock files
+#   that they write for COUNT random projects, and for projects with edited manifests and damaged
+#   lock files, compared with whether the tool's own frozen install accepts these (npm, yarnpkg,
+#   cargo, python3, and the library as for locks)
+# - damaged-locks: check-lock-file and compare-requirements, which have to exit with 0, 1 or 2 for
+#   COUNT damaged copies of the files in python/cases (python3 with PyYAML, and the library as for
+#   locks)
+# - real-locks [NAME..]: npm, what check-lock-file lists for the lock files in Debian's source
+#   packages of these names (apt with its network, npm, and the library as for locks)
+# - places: brute force with all texts of up to COUNT characters, the offset at which a string stops
+#   being a range (python3)
 # - raise: node-semver as npm ships it and Cargo's crate semver, what the examples that raise a
-#   requirement return of COUNT random ones that are made of known pieces, in each language (npm, cargo,
-#   librust-semver-dev, gcc, python3, and what rust/wasm/build.sh needs);
-# - order: a fresh process, what each of COUNT random calls, 2000 or more, returns after others: calls
-#   of the JavaScript package, of the Python package by several threads, too, and of the C functions
-#   (node, what rust/wasm/build.sh needs, python3 and gcc).
-# It is beside the gate.
+#   requirement return for COUNT random ones that are made of known pieces, in each language (npm,
+#   cargo, librust-semver-dev, gcc, python3, and what rust/wasm/build.sh needs)
+# - order: a new process, what each of COUNT random calls, at least 2000, returns after other calls:
+#   calls of the JavaScript package, of the Python package, also by several threads, and of the C
+#   functions (node, what rust/wasm/build.sh needs, python3 and gcc)
+#
+# It isn't part of the gate.
 set -eu
 cd "$(dirname "$0")/.."
 cases=crates/replayed_cases/out/replayed_cases
 seed=${3:-1}
 
-# every PREFIX COUNT: the names of so many of Debian's packages, one now and then in their order.
+# every PREFIX COUNT: prints the names of COUNT of Debian's packages, at equal distances in their
+# order.
 every() {
     apt-cache pkgnames "$1" | LC_ALL=C sort > "$packages/names"
     awk -v step="$(($(wc -l < "$packages/names") / $2))" 'NR % step == 0' "$packages/names" | head -n "$2"
 }
 
-# build: builds the cargo project in this folder over Debian's packages of Rust crates, without a
+# build: builds the cargo project in this directory with Debian's packages of Rust crates, without a
 # registry.
 build() {
     cargo build --quiet --release --offline --config 'source.crates-io.replace-with="debian"' \
@@ -158,7 +164,7 @@ crate | cargo | node | npm | versions | real | grid | lines | places | version-p
     ;;
 esac
 
-# The program of cases, proved and built.
+# The program of cases, as the kit proves and builds it.
 (cd crates/replayed_cases && rt run < /dev/null > /dev/null)
 case $1 in
 crate)

@@ -1,9 +1,10 @@
 #!/usr/bin/env python3
-"""Draws docs/boundaries.svg: one line of versions, and the boundaries of a range on it for each rule for pre-releases.
+"""Draws docs/boundaries.svg: for each rule for pre-releases, a line of versions with the boundaries
+of a range.
 
 tools/draw-boundaries.py COMPARE_RANGES > docs/boundaries.svg
 
-The argument is the program compare-ranges, which says where the boundaries are.
+The argument is the program compare-ranges, which determines the boundaries.
 """
 
 import json
@@ -20,7 +21,8 @@ LEFT, STEP, TOP, HIGH = 190, 84, 64, 56
 
 
 def boundaries(field, *options):
-    """The bounds of what the program prints, in ascending order: of each interval its beginning and its end."""
+    """Returns the bounds that the program prints, in ascending order: the beginning and end of each
+    interval."""
     command = [sys.argv[1], "--dialect", "npm", "--json", *options, RANGE]
     printed = json.loads(subprocess.run(command, capture_output=True, text=True, check=True).stdout)[field]
     bounds = [bound for interval in printed.split(" || ") for bound in interval.split(" ")]
@@ -45,7 +47,8 @@ def line(x, y, to, color, width):
 
 
 def row(y, name, found, at, end):
-    """The elements of one row: its name, the line, the intervals on it, and a circle at each boundary."""
+    """Returns the elements of one row: its name, the line, the intervals on it, and a circle at
+    each boundary."""
     parts = [text(10, y + 5, name, "start"), line(LEFT, y, end, "#999", 1)]
     parts += [line(at[start], y, at[stop], "#1f6f8b", 7) for start, stop in zip(found[::2], found[1::2])]
     fills = ["#1f6f8b", "#fff"] * (len(found) // 2)

@@ -1,9 +1,10 @@
 #!/usr/bin/env python3
-"""Writes rust/src/proved (or the directory that is given) from crates/*/src: plain Rust of proved
-Rattle, without its contracts. docs/ERASURE.md has the rules; `Rule N` below is that of its table. A
-crate becomes a module of one Rust crate, and rust/src/rattle_std.rs stands for Rattle's std. At a
-word that no rule knows it stops, with file and line, and writes nothing. tools/rattle_source.py
-reads the sources, and tools/erase_stops.py has most of what stops it."""
+"""Writes rust/src/proved, or another directory, from crates/*/src: the plain Rust of the proved
+Rattle, without its contracts. docs/ERASURE.md has the rules; `Rule N` below is a rule of its table.
+Each crate becomes a module of one Rust crate, and rust/src/rattle_std.rs stands for Rattle's std.
+At a word that no rule knows it stops, prints file and line, and writes nothing.
+tools/rattle_source.py reads the sources, and tools/erase_stops.py has most of the checks that stop
+it."""
 import glob
 import os
 import re
@@ -16,29 +17,30 @@ from erase_stops import (DERIVES, MACROS, PREFIX, SAME_ATTRIBUTES, SAME_CALLS, a
                          check, check_message, check_use, crate_of_laws, does_nothing, stops,
                          tidied)
 
-# Crates that hold laws alone.
+# Crates that have only laws.
 NOT_ERASED = {'result_laws'}
 
 # Rule 12. Methods and functions of std that return a `Result` in Rattle because they allocate, by
 # the number of arguments without the allocator. They get the prefix, and are in rattle_std.
 METHODS = {('push', 1), ('push_str', 1), ('extend_from_slice', 1), ('reserve_exact', 1),
            ('clone', 0)}
-# This only if an allocator was passed: without one it is another method.
+# These only if an allocator is passed; without one it is another method.
 METHODS_IN = {('to_string', 0)}
 FUNCTIONS = {('Vec', 'with_capacity'), ('Vec', 'from_slice'), ('Vec', 'from_elem'),
              ('String', 'with_capacity'), ('String', 'from_str')}
-# Rule 14. What only Rust's std has, and not its core.
+# Rule 14. Names that are in std but not in core.
 OF_STD = (r'\bstd :: (\{ [^}]*)?\b(io|env|fs|process|rt)\b'
           r'|\b(HostRuntime|AllocGlobal|Eprint|Print)\b')
 
 ALLOCATORS = [['alloc'], ['rt', '.', 'alloc', '(', ')']]
-# Rule 7. What leaves a function or a loop is no argument.
+# Rule 7. An expression that leaves a function or a loop can't be an argument.
 LEAVING = {'break', 'continue', 'return'}
 
 
 # ---------------------------------------------------------------- attributes
 def skip_attributes(code, i):
-    """Where an item or variant begins after its attributes and `pub`, and its `#[error(..)]`."""
+    """Returns the index of an item or variant after its attributes and `pub`, and its
+    `#[error(..)]`."""
     message = None
     while code.text(code.at(i)) in ('#', 'pub'):
         i = code.at(i)
@@ -55,7 +57,8 @@ def skip_attributes(code, i):
 
 
 def cases(code, i, message):
-    """Each case of a struct or enum: path, names and types of fields, if named, and message."""
+    """Returns each case of a struct or enum: path, names and types of fields, whether these are
+    named, and message."""
     name, body = code.text(code.after(i)), code.after(code.after(i))
     if code.text(body) not in ('{', '('):
         code.stop(body, 'a derive on a generic type')
@@ -83,7 +86,7 @@ def pattern(path, names, named):
 
 
 def displayed(code, i, name, found):
-    """Rule 10: what `derive(Error)` writes: a sentence for each case."""
+    """Rule 10: returns what `derive(Error)` stands for: a message for each case."""
     arms = ''
     for path, members, named, message in found:
         check_message(code, i, [member for member, _ in members], message)
@@ -99,7 +102,7 @@ def displayed(code, i, name, found):
 
 
 def cloned(name, found, copied):
-    """Rule 11: a clone, field by field, that returns an error if an allocation fails."""
+    """Rule 11: returns a clone, field by field, that returns an error if an allocation fails."""
     arms = ''
     for path, members, named, _ in found:
         made = [f'*{n}' if len(kind) == 1 and kind[0] in copied else f'{n}.{PREFIX}clone()?'
@@ -113,7 +116,7 @@ def cloned(name, found, copied):
 
 
 def attributes(code, copied):
-    """Rule 4: `tactic` goes. Rules 5, 10 and 11: derives that Rust hasn't are written out."""
+    """Rule 4 removes `tactic`. Rules 5, 10 and 11 replace the derives that Rust doesn't have."""
     for i, token in enumerate(code.t):
         if (token.kind, token.text) != ('sign', '#'):
             continue
@@ -140,7 +143,7 @@ def attributes(code, copied):
 
 
 def write_derives(code, i, names, copied):
-    """Writes what `Error` and `Clone` stand for after the item at `i`."""
+    """Appends the implementations of `Error` and `Clone` to the item at `i`."""
     if not ('Error' in names or ('Clone' in names and 'Copy' not in names)):
         return
     at, message = skip_attributes(code, i)
@@ -151,7 +154,7 @@ def write_derives(code, i, names, copied):
 
 
 def copied_types(code):
-    """The types that derive `Copy`."""
+    """Yields the types that derive `Copy`."""
     for places in code.find('derive', '('):
         if ['Copy'] in [code.words(*part) for part in code.parts(places[1])]:
             at, _ = skip_attributes(code, code.after(code.close(places[1])) + 1)
@@ -160,7 +163,7 @@ def copied_types(code):
 
 # ---------------------------------------------------------------- items
 def models(code):
-    """Rule 3: `impl Model` goes."""
+    """Rule 3: removes `impl Model`."""
     for (i,) in code.find('impl'):
         j = code.after(i)
         j = code.after(code.close(j)) if code.text(j) == '<' else j
@@ -172,7 +175,7 @@ def models(code):
 
 
 def uses(code, crates):
-    """Rules 3, 6, 7 and 10: names that have no meaning in Rust go from imports."""
+    """Rules 3, 6, 7 and 10: removes names from imports that have no meaning in Rust."""
     gone = {'Model', 'Global', 'laws'}
     for (i,) in code.find('use'):
         end = code.find_from(i, ';')
@@ -193,7 +196,7 @@ def uses(code, crates):
 
 
 def laws(code, files):
-    """Rule 7: the module `laws`, and the calls of its functions, which do nothing."""
+    """Rule 7: removes the module `laws` and the calls of its functions, which do nothing."""
     for places in code.find('mod', 'laws', ';'):
         if code.module != 'lib' or code.crate not in files:
             code.stop(places[0], 'laws that are not in the file laws.rt of a crate')
@@ -218,7 +221,8 @@ def laws(code, files):
 
 
 def visible(code):
-    """Rule 8: what has a `requires` is `pub(crate)`. Rule 17: another file calls `main`."""
+    """Rule 8: makes a function with a `requires` `pub(crate)`. Rule 17: makes `main` callable from
+    another file."""
     for (i,) in code.find('fn'):
         before = code.before(i)
         if code.t[i].owes and code.text(before) == 'pub':
@@ -231,7 +235,7 @@ def visible(code):
 
 
 def is_method(code, name):
-    """Whether the function of this name has a `self`."""
+    """Returns whether the function of this name has a `self`."""
     opened = code.after(name)
     opened = code.after(code.close(opened)) if code.text(opened) == '<' else opened
     parts = code.parts(opened)
@@ -239,7 +243,8 @@ def is_method(code, name):
 
 
 def names_for_rust(code, codes):
-    """Rule 9: the names that functions have in Rust, by type (none for methods) and name."""
+    """Rule 9: yields the names that functions have in Rust, by type (empty for methods) and
+    name."""
     for i, token in enumerate(code.t):
         if not token.text.startswith('// In Rust:'):
             continue
@@ -260,10 +265,10 @@ def names_for_rust(code, codes):
 
 # ---------------------------------------------------------------- signatures and calls
 def bounds(code):
-    """Rule 5: the bound `Drop` goes, which each type of Rust has."""
+    """Rule 5: removes the bound `Drop`, which every type in Rust satisfies."""
     for colon, drop in code.find(':', 'Drop'):
         if code.text(code.before(code.before(colon))) == 'trait':
-            code.t[drop].text = 'Sized'  # as each type is that is `Drop`
+            code.t[drop].text = 'Sized'  # every type that is `Drop` is also `Sized`
         elif code.text(code.after(drop)) != '+':
             code.drop(colon, drop + 1)
     for plus, drop in code.find('+', 'Drop'):
@@ -271,7 +276,7 @@ def bounds(code):
 
 
 def formatters(code):
-    """Rule 15: `Formatter<W>` with `W: fmt::Write` is Rust's `Formatter<'_>`."""
+    """Rule 15: replaces `Formatter<W>` with `W: fmt::Write` by Rust's `Formatter<'_>`."""
     for places in code.find('Formatter', '<', 'W', '>'):
         code.t[places[2]].text = "'_"
         opened = code.after(code.after(max(p[0] for p in code.find('fn') if p[0] < places[0])))
@@ -285,7 +290,7 @@ def formatters(code):
 
 
 def calls(code, names, defined):
-    """Rule 6: allocators go, as parameters and arguments. Rules 9 and 12: what is renamed."""
+    """Rule 6: removes allocators, as parameters and arguments. Rules 9 and 12: renames calls."""
     for i, token in enumerate(code.t):
         callee = code.t[code.before(i) or 0]
         if (token.kind, token.text) != ('sign', '(') or callee.text in NO_CALLEES or (
@@ -318,7 +323,7 @@ def calls(code, names, defined):
 
 
 def macros(code):
-    """Rule 13: macros that allocate or print are those of rattle_std."""
+    """Rule 13: uses the macros of rattle_std for those that allocate or print."""
     for name in MACROS:
         for places in code.find(name, '!'):
             code.t[places[0]].text = f'crate::rattle_std::{PREFIX}{name}'
@@ -334,7 +339,8 @@ def macros(code):
 
 
 def roots(code, crates):
-    """Rule 16: where paths begin. A crate is a module, and `std` is rattle_std."""
+    """Rule 16: changes where paths begin. A crate becomes a module, and `std` becomes
+    rattle_std."""
     for i, token in enumerate(code.t):
         if token.kind == 'doc':
             token.text = token.text.replace('](crate::', f'](crate::proved::{code.crate}::')
@@ -352,12 +358,12 @@ def roots(code, crates):
 
 
 def needs_std(code):
-    """Whether a file names what only Rust's std has."""
+    """Returns whether a file names something that is in std but not in core."""
     return re.search(OF_STD, ' '.join(code.words(0, len(code.t)))) is not None
 
 
 def imports(code):
-    """The files that each `use` may begin with, as (crate, module)."""
+    """Yields the files that each `use` may begin with, as (crate, module)."""
     for (i,) in code.find('use'):
         first, *rest = [w for w in code.words(i + 1, code.find_from(i, ';')) if w.isidentifier()]
         inner = code.module.split('/')[:-1] if first == 'super' else []
@@ -368,7 +374,8 @@ def imports(code):
 
 
 def of_std(codes):
-    """Rule 14: the files, as (crate, module), that name std or import from one that does."""
+    """Rule 14: returns the files, as (crate, module), that name std or import from a file that
+    does."""
     needing = {(code.crate, code.module) for code in codes if needs_std(code)}
     while True:
         more = {(code.crate, code.module) for code in codes if needing & set(imports(code))}
@@ -378,7 +385,7 @@ def of_std(codes):
 
 
 def layout(code, of_std):
-    """Rule 18: the text of a file, after its first lines."""
+    """Rule 18: returns the text of a file with its first lines."""
     text = ''.join(token.text for token in code.t
                    if not re.match(r'// (Determined by|In Rust): ', token.text))
     text = tidied(text)
@@ -389,7 +396,7 @@ def layout(code, of_std):
 
 
 def root_of(crates):
-    """The module of all crates. Programs are modules of it only if they are tested."""
+    """Returns the module of all crates. It has programs only for tests."""
     text = ('// Made by tools/erase.py from crates.txt; not edited by hand.\n'
             '//! What is proved, as plain Rust: each crate of `crates/` without its contracts.\n'
             '#![allow(clippy::complexity, clippy::style, missing_docs, private_bounds, unused)]\n'
@@ -400,7 +407,7 @@ def root_of(crates):
 
 
 def files(name):
-    """The files of a crate, but for its laws."""
+    """Yields the files of a crate except its laws."""
     root = f'crates/{name}/src'
     for path in sorted(glob.glob(f'{TOP}/{root}/**/*.rt', recursive=True)):
         module = os.path.relpath(path, f'{TOP}/{root}')[:-len('.rt')]
@@ -409,14 +416,14 @@ def files(name):
 
 
 def law_files(crates):
-    """The laws of each crate that has some."""
+    """Returns the laws of each crate that has some."""
     paths = {name: f'crates/{name}/src/laws.rt' for name in crates}
     return {name: Code(name, 'laws', path) for name, path in paths.items()
             if os.path.exists(f'{TOP}/{path}')}
 
 
 def erase():
-    """Each file of the result, with its text."""
+    """Returns each file of the result with its text."""
     crates = re.findall(r'^(\w+)[^:#\n]*:', open(f'{TOP}/crates.txt').read(), re.M)
     crates = [name for name in crates if name not in NOT_ERASED]
     missing = [name for name in crates if not list(files(name))]

@@ -1,11 +1,11 @@
-"""What stops tools/erase.py: words, names and forms of Rattle that no rule is about, and what it
-knows of std. docs/ERASURE.md has a row for each function of std."""
+"""What stops tools/erase.py: words, names and forms of Rattle that no rule covers, and the lists of
+what it knows of std. docs/ERASURE.md has a row for each function of std."""
 import re
 
 from rattle_source import NO_CALLEES, OPEN, begins_item
 
-# What means the same in both languages, and is left as it is; any other call of std, macro or
-# attribute stops the run. Of these types and modules of std each function is listed.
+# Names that mean the same in both languages and are left as they are. Any other call of std, macro
+# or attribute is an error. For these types and modules of std, each function is listed.
 OWNERS = set('Vec String Box Rc Option Result Iterator str mem io env fs iter slice char'.split())
 SAME_FUNCTIONS = set('''Vec::new String::new str::from_utf8 io::writer
     env::args fs::open'''.split())
@@ -25,7 +25,7 @@ SAME_MACROS, SAME_ATTRIBUTES = {'matches', 'unreachable', 'write'}, {'derive', '
 SAME_VALUES = {'u8::is_ascii_alphanumeric'}
 DERIVES = set('Clone Copy Debug Drop Eq Error Hash Ord PartialEq PartialOrd'.split())
 TRAITS = set('Display Eq From Iterator PartialEq Write'.split())
-# The type of std for which a trait of the sources is implemented.
+# The only type of std for which a trait of the sources is implemented.
 SLICE = ['&', "'a", '[', 'T', ']']
 # Words that have no meaning in Rust: none may be left.
 LEFT = set('ghost requires ensures tactic alloc _alloc Global Model unsafe Drop prove laws'.split())
@@ -33,7 +33,7 @@ LEFT = set('ghost requires ensures tactic alloc _alloc Global Model unsafe Drop 
 UNKNOWN = set("""async await box default do dyn extern f32 f64 final gen i128 i16 i64 i8 isize
     macro macro_rules move raw ref static try u16 where yield""".split())
 PRIMITIVES = set('bool char i32 str u8 u16 u32 u64 u128 usize'.split())
-# Casts to these lose nothing, wherever they are: Rattle proves that the value fits.
+# Casts to these types lose nothing, wherever they are: Rattle proves that the value fits.
 CAST_TO = {'u8', 'u32', 'u64'}
 # Methods of the preludes and of `Vec` and `String` that no type of the sources may have: Rust would
 # look for them in std first, or rule 12 would rename them.
@@ -46,14 +46,15 @@ METHODS_OF_ITERATORS = set('''all any by_ref chain cloned cmp collect copied cou
     lt map map_while max min ne nth partition peekable position product reduce rev scan skip
     skip_while step_by sum take take_while try_fold try_for_each unzip zip'''.split())
 ITEMS = {'const', 'enum', 'fn', 'mod', 'struct', 'trait', 'type'}
-# Rule 12: the prefix of what returns a `Result`, because it allocates.
+# Rule 12: the prefix of a function that returns a `Result` because it allocates.
 PREFIX = 'fallible_'
-# Rule 13. Macros that take an allocator or the runtime in Rattle.
+# Rule 13: macros that take an allocator or the runtime in Rattle.
 MACROS = {'vec', 'format', 'println', 'eprintln'}
 
 
 def tidied(text):
-    """White space as if nothing had been removed. No text of the sources has what changes here."""
+    """Removes the white space that removed items leave. No string in the sources has what changes
+    here."""
     text = re.sub(r'[ \t]+\n', '\n', text)
     text = re.sub(r'([^\s{};,])\n *\{\n', r'\1 {\n', text)
     text = re.sub(r'\n{3,}', '\n\n', text)
@@ -90,8 +91,8 @@ def words(code):
 
 
 def shifts(code, i):
-    """Whether a shift is at `i` that may be by more bits than `usize` has somewhere. A space before
-    `>>`, or none after it, shows that it doesn't end a type."""
+    """Returns whether there is a shift at `i` that may be by more bits than `usize` has on some
+    platform. A space before `>>`, or none after it, shows that it doesn't end a type."""
     if code.text(i) == '<<':
         by = code.after(i)
     elif code.source(i, i + 2) == '>>' and (
@@ -103,8 +104,8 @@ def shifts(code, i):
 
 
 def ranges(code):
-    """Stops at ranges without an end, which Rust counts otherwise, but for those that cut, and at
-    fields that are taken of an element, which Rattle doesn't read."""
+    """Stops at ranges without an end, which Rust counts differently, except for those that index,
+    and at fields that are taken from an element, which Rattle doesn't read."""
     for i, token in enumerate(code.t):
         if token.text != '..':
             continue
@@ -121,8 +122,8 @@ def ranges(code):
 
 
 def sorts(code):
-    """Stops at a sort that isn't by `compare` of both, or whose function has no clause that says
-    that this is a total order: otherwise Rust may panic."""
+    """Stops at a sort that isn't by `compare` of both elements, or whose function has no clause
+    that says that this is a total order: otherwise Rust may panic."""
     for (i,) in code.find('sort_unstable_by'):
         opened = code.after(i)
         compared = ' '.join(code.words(opened + 1, code.close(opened)))
@@ -139,7 +140,7 @@ def sorts(code):
 
 
 def around(code, i):
-    """The words before the brace that an item is in, as those of an `impl`."""
+    """Returns the words before the brace around an item, such as those of an `impl`."""
     end = code.around(i) or 0
     begin = end
     while begin and code.text(begin - 1) not in ('{', '}', ';'):
@@ -148,8 +149,8 @@ def around(code, i):
 
 
 def methods_of_std(codes):
-    """Stops at methods that Rust would look for elsewhere: in std for any type, and among those of
-    iterators for an iterator and in a trait."""
+    """Stops at methods that Rust would look for elsewhere: in std for any type, and among the
+    methods of iterators for an iterator and in a trait."""
     heads = [(code, places[0], around(code, places[0]))
              for code in codes for places in code.find('fn')]
     iterators = {head[head.index('for') + 1] for _, _, head in heads
@@ -188,8 +189,9 @@ def declarations(code, crates):
 
 
 def traits(code, defined, types):
-    """Stops where a trait of std is implemented that no source implements, and where any trait is
-    for a type of std: that may have a method of its own in Rust, which goes before the trait's."""
+    """Stops at an implementation of a trait of std that no source needs, and at any trait for a
+    type of std: in Rust, that type may have a method of its own, which has precedence over the
+    trait's."""
     for (i,) in code.find('impl'):
         j = code.after(i)
         j = code.after(code.close(j)) if code.text(j) == '<' else j
@@ -219,7 +221,7 @@ def modules(codes):
 
 
 def stops(codes, crates):
-    """What is looked at before anything is changed."""
+    """Makes the checks that come before anything is changed."""
     modules(codes)
     methods_of_std(codes)
     declared = {code.text(code.after(p[0])) for code in codes for p in code.find('trait')}
@@ -234,7 +236,7 @@ def stops(codes, crates):
 
 
 def check_use(code, i, words, roots):
-    """Stops at an import from elsewhere, of all that a module has, or under another name."""
+    """Stops at an import from elsewhere, of everything in a module, or under another name."""
     first, alias = words[1], words[words.index('as') + 1] if 'as' in words else '_'
     if first == 'std' and {w for w in words[2:] if w.islower()} - MODULES or '*' in words:
         code.stop(i, 'no rule for an import of this line')
@@ -247,7 +249,7 @@ def check_use(code, i, words, roots):
 
 
 def check_message(code, i, members, message):
-    """Stops if a sentence is missing, has an escape, or shows anything but whole fields."""
+    """Stops if a message is missing, has an escape, or shows anything except whole fields."""
     if not re.fullmatch(r'"[^"\\\n]*"', message or ''):
         code.stop(i, 'no rule for an error without a message, or for this one')
     shown = re.sub(r'\{(\d+|[a-z]\w*)(:\?)?\}', '', message)
@@ -257,7 +259,8 @@ def check_message(code, i, members, message):
 
 
 def crate_of_laws(code, begin, i):
-    """The crate whose laws the path from `begin` to `laws` names: its own or that of an import."""
+    """Returns the crate whose laws the path from `begin` to `laws` names: its own or an imported
+    one."""
     path = [word for word in code.words(begin, i) if word != '::']
     imports = [code.words(use + 1, end) for use, end in code.uses()]
     imports = [' '.join(words) for words in imports if 'laws' in words]
@@ -270,8 +273,8 @@ def crate_of_laws(code, begin, i):
 
 
 def does_nothing(code, name):
-    """Whether the file has a law of this name: only references as parameters, no result, and no
-    more in its body than fields that are read. It stops at one that is otherwise."""
+    """Returns whether the file has exactly one law of this name. Stops unless the law has only
+    references as parameters, no result, and nothing in its body except fields that are read."""
     for _, at in code.find('fn', name):
         opened = code.after(at)
         if code.around(at) is not None or code.text(opened) != '(':
@@ -289,7 +292,7 @@ def does_nothing(code, name):
 
 
 def is_known(code, i, text, before, defined, methods):
-    """Whether a call of this name is one of the sources' own, or of std and listed."""
+    """Returns whether a call of this name is one of the sources' own, or a listed one of std."""
     if before == '.':
         return text in methods | SAME_CALLS
     if before != '::':

@@ -1,8 +1,9 @@
 #!/usr/bin/env python3
-"""Writes tools/completions: what bash and zsh complete of the programs' options, made of their help texts.
+"""Writes tools/completions from the help texts of the programs: how bash and zsh complete their
+options.
 
     tools/make-completions.py            writes the files
-    tools/make-completions.py --check    says which aren't as they would be written, with status 1
+    tools/make-completions.py --check    prints which files are out of date, and exits with 1 if any is
 """
 import os
 import re
@@ -10,7 +11,7 @@ import sys
 
 TOP = os.path.dirname(os.path.dirname(os.path.realpath(__file__)))
 
-# Each program, the file that has its help text, and whether it takes files.
+# Each program, the file that contains its help text, and whether it takes files.
 PROGRAMS = {
     'compare-ranges': ('crates/compare_ranges_main/src/main.rt', False),
     'release-filter': ('crates/release_filter_main/src/main.rt', True),
@@ -18,7 +19,8 @@ PROGRAMS = {
     'compare-requirements': ('python/semver_parser/checks/compare_requirements.py', True),
 }
 
-# What may follow an option, by the name that the help text gives its value; of others it is free.
+# What may follow an option, by the name that the help text gives its value. Any other value is
+# free.
 VALUES = {
     'NAME': 'cargo npm crate-cargo crate-npm',
     'CHANGE': 'lost gained any',
@@ -27,7 +29,7 @@ VALUES = {
     'WHEN': 'auto always never',
 }
 
-# The line of a help text that begins with options, each with its value, and then says what they do.
+# A line of a help text that begins with options, each with its value, and then says what they do.
 LINE = re.compile(r' {4,6}((?:--?[\w-]+(?: [A-Z]+)?)(?:, --?[\w-]+(?: [A-Z]+)?)*)(?: {2,}(.*))?')
 
 
@@ -39,8 +41,9 @@ def help_of(path):
 
 
 def options_of(path):
-    """The options of a help text: each with the name of its value, and what it does, up to the first semicolon, colon or
-    bracket. A line of options that is further in is of the one before."""
+    """Returns the options in a help text: each with the name of its value, and with what it does,
+    up to the first semicolon, colon or bracket. A line of options with more indentation belongs to
+    the one before."""
     rows = []
     for line in help_of(path).splitlines():
         match = LINE.fullmatch(line)

@@ -1,12 +1,13 @@
 #!/bin/sh
-# Makes the JavaScript package, or the page of js/web in one file, of the module that cargo builds:
+# Makes the JavaScript package, or the page of js/web in one file, from the module that cargo
+# builds:
 #
 #   tools/make-js.sh module FILE            the module
 #   tools/make-js.sh directory DIRECTORY    the package, in a directory
 #   tools/make-js.sh package DIRECTORY      the package, packed by npm into a directory
 #   tools/make-js.sh page DIRECTORY         the page, in a directory
 #
-# What cargo builds stays in out/wasm. Before it builds anything it names a tool that is missing.
+# What cargo builds stays in out/wasm. If a tool is missing, it says so before it builds anything.
 set -eu
 top=$(dirname -- "$(dirname -- "$(readlink -f -- "$0")")")
 

@@ -1,11 +1,12 @@
 #!/usr/bin/env python3
-"""Writes the manuals of docs/man as pages of Markdown, which one can read on the web.
+"""Writes the manuals in docs/man as pages of Markdown, for the web.
 
-    tools/make-manual-pages.py [DIRECTORY]    docs/manual, if no directory is named
+    tools/make-manual-pages.py [DIRECTORY]    the default is docs/manual
 
-semver-ranges(7) is left out: it is made of docs/RANGES.md. The pages of the types of C have the
-declarations that tools/make-manuals.py puts into them. It knows the macros of man(7) that the
-manuals have, and stops at any other one."""
+semver-ranges(7) is left out, since it is made from docs/RANGES.md. The pages of the types of C have
+the declarations that tools/make-manuals.py puts into them. It knows the macros of man(7) that the
+manuals use, and stops at any other.
+"""
 
 import re
 import subprocess
@@ -23,7 +24,7 @@ ESCAPES = {"-": "-", "e": "\\", "~": "\u00a0", "&": "", "(aq": "'", "(lq": "“"
 ESCAPES |= {"(ti": "~", "(ha": "^"}
 ESCAPE = re.compile(r"\\(f[BIRP]|\(..|.)")
 
-# What Markdown would take for a mark in a text, and at the start of a line.
+# Characters that Markdown would take for markup in a text, and at the start of a line.
 MARKS = re.compile(r"([\\`*\[\]<>]|(?<![A-Za-z0-9])_|_(?![A-Za-z0-9]))")
 MARK_AT_START = re.compile(r"^(\d+(?=[.)])|(?=[-+#]))(?=\S(?: |$))")
 
@@ -31,14 +32,14 @@ WIDTH = 98
 
 
 class Unknown(Exception):
-    """What of a manual isn't known here."""
+    """Something in a manual that isn't known here."""
 
 
 # ---- reading man(7)
 
 
 def runs_of(text, font):
-    """Returns the parts of a text, each with its font, which the text may change."""
+    """Returns the parts of a text, each with its font. The text may change the font."""
     runs, at, now = [], 0, font
     for found in ESCAPE.finditer(text):
         runs.append((now, text[at : found.start()]))
@@ -53,13 +54,13 @@ def runs_of(text, font):
 
 
 def arguments(text):
-    """Returns the arguments of a macro, of which one in quotes may have blanks."""
+    """Returns the arguments of a macro. An argument in quotes may have blanks."""
     found = re.findall(r'"((?:[^"]|"")*)"|(\S+)', text)
     return [quoted.replace('""', '"') or plain for quoted, plain in found]
 
 
 def fonts(macro, given):
-    """Returns the parts of a macro for fonts: B and I, or two of B, I and R in turn."""
+    """Returns the parts for a macro of fonts: B and I, or two of B, I and R in turn."""
     if len(macro) == 1:
         return runs_of(" ".join(given), macro)
     return [run for at, it in enumerate(given) for run in runs_of(it, macro[at % 2])]
@@ -76,11 +77,11 @@ class Reader:
         self.is_declared = False
 
     def begin(self, into):
-        """Begins something new, such as a paragraph, among these blocks."""
+        """Begins a new block, such as a paragraph, in this list of blocks."""
         self.into, self.paragraph = into, None
 
     def add(self, runs):
-        """Adds what a line has to the paragraph, or takes it for the tag of an item."""
+        """Adds the parts of a line to the paragraph, or uses them as the tag of an item."""
         if self.awaits_tag:
             self.awaits_tag = False
             inner = []
@@ -109,7 +110,7 @@ class Reader:
             self.add(runs_of(line, ROMAN))
 
     def call(self, macro, rest):
-        """Follows a macro."""
+        """Executes a macro."""
         if macro in ("SH", "SS"):
             self.begin(self.blocks)
             text = "".join(text for _, text in runs_of(" ".join(arguments(rest)), ROMAN))
@@ -148,7 +149,7 @@ def read_manual(text):
 
 
 def merged(runs):
-    """Returns runs of which no two in turn have the same font."""
+    """Returns runs in which no two neighbours have the same font."""
     found = []
     for font, text in runs:
         if found and found[-1][0] == font != BREAK:
@@ -158,10 +159,11 @@ def merged(runs):
 
 
 def inline(runs):
-    """Returns the text of a paragraph: what is bold is code, which a reader types or sees."""
+    """Returns the text of a paragraph. Bold text becomes code, since a reader types it or sees
+    it."""
     written, runs = [], merged(runs)
     for at, (font, text) in enumerate(runs):
-        # Blanks beside a mark of Markdown have to be outside of it.
+        # Blanks next to markup have to be outside of it.
         text = text.replace("\u00a0", " ")
         before, text, after = re.fullmatch(r"(\s*)(.*?)(\s*)", text, re.S).groups()
         section = re.match(r"\((\d)\)", runs[at + 1][1]) if runs[at + 1 :] else None
@@ -181,7 +183,7 @@ def inline(runs):
 
 
 def reference(name, section):
-    """Returns where another manual is on the web, or nothing."""
+    """Returns the link to another manual on the web, or an empty string."""
     if name == "semver-ranges":
         return "../RANGES.md"
     return f"{name}.{section}.md" if (TOP / f"docs/man/{name}.{section}").exists() else ""
@@ -219,7 +221,7 @@ def declared(directory):
 
 
 def page(manual, made):
-    """Returns the page of a manual, which may be made in a directory."""
+    """Returns the page for a manual, which may have been made in a directory."""
     source = made / manual.name
     text = (source if source.exists() else manual).read_text(encoding="utf-8")
     name, section, blocks = read_manual(text)

@@ -1,14 +1,16 @@
 #!/usr/bin/env python3
-"""Writes a page of the manual for each function and each type of the header in C.
+"""Writes a manual page for each function and each type of the C header.
 
     tools/make-manuals.py VERSION DATE DIRECTORY PAGE.. < semver_parser.h
 
-The page of a function is made of its comment and prototype. Functions that share a comment share a
-page: that of the first, to which the others are links.
+The page of a function is made from its comment and prototype. Functions that share a comment share
+a page, which has the name of the first; the others are links to it.
 
-The pages of the types are written by hand, and are the arguments. Each is that of the names in its
-NAME, the first of which is its file's. It has `.\\" DECLARATIONS` for those of the types, and
-`.\\" CONSTANTS type` for the constants of a type with their comments."""
+The pages of the types are written by hand, and are the arguments. A page is for the names in its
+section NAME; the first of them is the name of its file. In it, `.\\" DECLARATIONS` stands for the
+declarations of these types, and `.\\" CONSTANTS type` for the constants of a type with their
+comments.
+"""
 
 import pathlib
 import re
@@ -27,7 +29,7 @@ ERRORS = {
         "The string is a range, but a number or a raised bound is above the limit of the dialect.",
     "OUT_OF_MEMORY": "An allocation failed.",
 }
-# What is wrong with an argument, by what the prototype has.
+# What is wrong with an argument, by what the prototype contains.
 ARGUMENTS = {
     "size_t start": "There is no such dialect, or no version of a term begins at `start`.",
     "semver_parser_options ":
@@ -39,7 +41,7 @@ STATUS = "semver_parser_status"
 COMMENT = re.compile(r"/\*(.*?)\*/", re.S)
 # The declaration of a structure, or of another name for a type.
 DECLARATION = r"^(typedef (?:struct \{\n((?:    .*\n)*)\}|.*) (semver_parser_\w+);)$"
-# The macros before a prototype say how a compiler checks calls.
+# The macros before a prototype tell a compiler how to check calls.
 PROTOTYPE = re.compile(
     r"(?:SEMVER_PARSER_\w+(?:\([\d, ]*\))?\s+)?((?:const |static inline )*\w+ \*?)"
     r"(semver_parser_\w+)\(([^)]*)\)(?:;| \{)"
@@ -53,9 +55,9 @@ def escape(text):
 
 
 def sentences(comment):
-    """The lines of a text, each sentence on lines of its own, as man pages have them."""
+    """Returns the lines of a text. Each sentence begins a new line, as usual in man pages."""
     text = " ".join(line.strip().lstrip("*").strip() for line in comment.strip().split("\n"))
-    # The list of statuses at the end has a section of its own.
+    # The list of statuses at the end has its own section.
     text = re.sub(r"(?<=[.`]) (?:[A-Z_]+, )*[A-Z_]{6,}\.$", "", re.sub(r"\s+", " ", text).strip())
     text = escape(text).replace("`", "")
     lines = re.split(r"(?<=[.:;]) (?=[A-Z(`])", text)
@@ -63,7 +65,7 @@ def sentences(comment):
 
 
 def pages(header):
-    """The pages: a comment, and the prototypes after it, as type, name and parameters."""
+    """Returns the pages: a comment, and the prototypes after it as type, name and parameters."""
     found = []
     for comment in COMMENT.finditer(header):
         prototypes, at = [], comment.end()
@@ -76,7 +78,7 @@ def pages(header):
 
 
 def synopsis(kind, name, parameters):
-    """The lines of a prototype, with a parameter in each."""
+    """Returns the lines of a prototype, with one parameter in each."""
     kind = kind.replace("static inline ", "")
     given = [f"    {it}" for it in re.split(r",\s*", parameters.strip())]
     if given == ["    void"]:
@@ -85,13 +87,13 @@ def synopsis(kind, name, parameters):
 
 
 def declarations(header):
-    """The declarations of the types by their names, without comments."""
+    """Returns the declarations of the types by name, without comments."""
     text = re.sub(r"\n *(?=\n)", "", COMMENT.sub("", header))
     return {it[2]: it[0] for it in re.findall(DECLARATION, text, re.M)}
 
 
 def constants(header, name):
-    """The constants of a type, each with its comment."""
+    """Returns the constants of a type, each with its comment."""
     [values] = re.findall(rf"^typedef int32_t {name};\nenum \{{\n(.*?)^\}};", header, re.M | re.S)
     found = re.findall(r"/\*(.*?)\*/\s*(\w+) = (\d+)", values, re.S)
     if len(found) != values.count(" = "):
@@ -100,13 +102,13 @@ def constants(header, name):
 
 
 def names_of(page):
-    """The names that the section NAME of a page has."""
+    """Returns the names in the section NAME of a page."""
     [names] = re.findall(r"^\.SH NAME\n(.*?) \\-", page, re.M | re.S)
     return re.split(r",\s*", names)
 
 
 def type_page(version, date, header, page):
-    """The page of a type, with what it takes from the header."""
+    """Returns the page of a type, with what it takes from the header."""
     declared = declarations(header)
     synopsis = [".nf", ".B #include <semver_parser.h>"]
     for name in names_of(page):
@@ -124,8 +126,8 @@ def type_page(version, date, header, page):
 
 
 def errors_of(comment, prototypes):
-    """The statuses that a comment names, those of options, and of what is made or explained: an
-    error about a string is."""
+    """Returns the statuses that a comment names, the status for invalid options if there are
+    options, and out of memory if something is made, or if an error about a string is explained."""
     parameters = " ".join(it[2] for it in prototypes)
     named = set(re.findall(r"\b[A-Z_]{5,}\b", comment))
     if re.search(r"semver_parser_(options|dialect) ", parameters):
@@ -138,7 +140,7 @@ def errors_of(comment, prototypes):
 
 
 def said_of(error, prototypes):
-    """What is said of an error of these functions."""
+    """Returns the text about an error of these functions."""
     parameters = " ".join(it[2] for it in prototypes)
     if error == "INVALID_ARGUMENT":
         return next(said for part, said in ARGUMENTS.items() if part in parameters)
@@ -155,7 +157,7 @@ def purpose(comment):
 
 
 def types_of(prototypes, types):
-    """The pages of the types that prototypes have."""
+    """Returns the pages of the types in some prototypes."""
     words = set(re.findall(r"\w+", " ".join(f"{it[0]} {it[2]}" for it in prototypes)))
     return sorted({types[name] for name in words & set(types)})
 
@@ -187,7 +189,7 @@ def page(version, date, comment, prototypes, types):
 
 
 def write(directory, names, text):
-    """Writes a page by its first name, and links to it by the others."""
+    """Writes a page under its first name, and links to it from the others."""
     (directory / f"{names[0]}.3").write_text(text, encoding="utf-8")
     for name in names[1:]:
         (directory / f"{name}.3").symlink_to(f"{names[0]}.3")

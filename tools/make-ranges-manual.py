@@ -1,9 +1,10 @@
 #!/usr/bin/env python3
-"""Writes the manual semver-ranges(7) of the page docs/RANGES.md, which has the same sections.
+"""Writes the manual semver-ranges(7) from the page docs/RANGES.md, which has the same sections.
 
     tools/make-ranges-manual.py < docs/RANGES.md > docs/man/semver-ranges.7
 
-The page has headings, paragraphs, tables, lists and indented examples, and no more."""
+The page may have only headings, paragraphs, tables, lists and indented examples.
+"""
 
 import re
 import sys
@@ -27,14 +28,14 @@ The pages GRAMMAR.md and MEANING.md of the project have the whole grammar and th
 
 
 def escape(text):
-    """A text as roff has it."""
+    """Returns a text as escaped for roff."""
     for sign, escaped in ("\\", "\\e"), ("-", "\\-"), ("^", "\\(ha"), ("~", "\\(ti"):
         text = text.replace(sign, escaped)
     return text
 
 
 def styled(text):
-    """A text with its code and strong words in bold, and its quotes."""
+    """Returns a text with its code and strong words in bold, and with its quotes."""
     pieces = re.split(r"(`[^`]*`)", escape(text))
     pieces[1::2] = [it.replace('"', "\\(dq") for it in pieces[1::2]]
     text = re.sub(r'"([^"`]*)"', r"\\(lq\1\\(rq", "".join(pieces))
@@ -42,19 +43,19 @@ def styled(text):
 
 
 def sentences(text):
-    """The lines of a paragraph: each sentence begins one."""
+    """Returns the lines of a paragraph. Each sentence begins a new one."""
     return re.sub(r"(?<=\.) (?=[A-Z\\])", "\n", styled(" ".join(text.split())))
 
 
 def table(lines):
-    """A table, of which the second line is its rule."""
+    """Returns a table. Its second line is the separator."""
     rows = [re.split(r"(?<!\\)\|", line.strip()[1:-1]) for line in [lines[0], *lines[2:]]]
     cells = ["\t".join(styled(it.strip().replace("\\|", "|")) for it in row) for row in rows]
     return ".TS\n" + " ".join("l" * len(rows[0])) + ".\n" + "\n".join(cells) + "\n.TE"
 
 
 def block(text):
-    """What a block of the page is in the manual."""
+    """Returns a block of the page as it is in the manual."""
     lines = text.split("\n")
     if text.startswith("## "):
         return f".SH {escape(text[3:].upper())}"
@@ -69,7 +70,7 @@ def block(text):
 
 
 def manual(page):
-    """The manual of a page."""
+    """Returns the manual for a page."""
     written, before = HEAD, ".SH DESCRIPTION"
     for text in page.strip().split("\n\n")[1:]:
         made = block(text)

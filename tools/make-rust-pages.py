@@ -1,11 +1,13 @@
 #!/usr/bin/env python3
-"""Writes the pages that are part of the Rust crate's documentation, of those of docs/.
+"""Writes the pages that are part of the Rust crate's documentation, from pages in docs/.
 
-    tools/make-rust-pages.py [DIRECTORY]    writes into the directory, else into rust/src/docs
+    tools/make-rust-pages.py [DIRECTORY]    the default is rust/src/docs
 
-A page loses its title, its pictures, and links to what the package doesn't have. Links to other
-pages, and what only a clone has, become links within the documentation. It stops if a page no longer
-has a passage that is replaced here, or if a page that it wrote names a file of the repository."""
+A page loses its title, its pictures, and its links to what the package doesn't have. Links to other
+pages, and what only a clone has, become links within the documentation. It stops if a page no
+longer has a passage that is replaced here, or if a page that it wrote names a file of the
+repository.
+"""
 
 import os
 import re
@@ -18,7 +20,8 @@ MODULES = {"RANGES": "ranges", "MEANING": "meaning", "GRAMMAR": "grammar", "CRAT
 
 SEMVER = "[SemVer 2.0.0](https://semver.org/spec/v2.0.0.html)"
 
-# Passages of each page, and what the documentation has instead. Blanks match any white space.
+# Passages of each page, and their replacements in the documentation. A blank matches any white
+# space.
 PASSAGES = {
     "RANGES": [
         ("(SemVer 2.0.0, section 11)", f"({SEMVER}, section 11)"),
@@ -83,7 +86,7 @@ PASSAGES = {
 # Sections that are about Rattle.
 SECTIONS = {"CRATE": ["The Rust crate's calls"]}
 
-# What names a file of the repository.
+# Matches names of files in the repository.
 FILES = re.compile(r"\b(?:crates|docs|js|python|rust|specs|tests|tools)/[\w*.]|\b\w+\.(?:antt|md|rt|sh|svg)\b")
 
 
@@ -92,7 +95,7 @@ def stop(why):
 
 
 def replaced(page, text):
-    """A page with its passages replaced."""
+    """Returns a page with its passages replaced."""
     for old, new in PASSAGES[page]:
         found = r"\s+".join(re.escape(word) for word in old.split(" ")[bool(old[0] == " "):])
         text, count = re.subn(r"\s+" * (old[0] == " ") + found, lambda _: new, text)
@@ -110,7 +113,8 @@ def without_sections(page, text):
 
 
 def link(found):
-    """A link to a page is one to its module, and one to another file only its words."""
+    """Returns the replacement of a link: a link to the module of a page, or only the words for
+    other files."""
     words, page, anchor = found.groups()
     if page in MODULES:
         name = MODULES[page]
@@ -119,20 +123,20 @@ def link(found):
 
 
 def linked(text):
-    """A page without pictures, with its links those of the documentation."""
+    """Returns a page without pictures, and with links within the documentation."""
     text = re.sub(r"!\[[^\]]*\]\([^)]*\)\n*", "", text)
     text = re.sub(r"\s\(\[[^\]]*\]\(\.\./[^)]*\)\)", "", text)
     return re.sub(r"\[([^\]]*)\]\((?![a-z]+:|#)(?:(\w+)\.md|[^)#]*)(#[^)]*)?\)", link, text)
 
 
 def fenced(text):
-    """A page whose code isn't taken for Rust."""
+    """Returns a page in which code isn't taken for Rust."""
     text = re.sub(r"^```\n(.*?)^```$", r"```text\n\1```", text, flags=re.M | re.S)
     return re.sub(r"(?<=\n\n)(?:    .*\n)+", indented, text)
 
 
 def indented(block):
-    """An indented block between fences."""
+    """Returns an indented block as a fenced one."""
     return "```text\n" + re.sub("^    ", "", block[0], flags=re.M) + "```\n"
 
 

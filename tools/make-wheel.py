@@ -1,12 +1,13 @@
 #!/usr/bin/env python3
 """Makes a wheel of the Python package with the shared library inside.
 
-    tools/make-wheel.py DIRECTORY          has cargo build the library
-    tools/make-wheel.py LIBRARY DIRECTORY  takes a library that was built, also for another system
-    tools/make-wheel.py --sdist DIRECTORY  makes an archive of the sources, of which pip builds it
+    tools/make-wheel.py DIRECTORY          builds the library with cargo
+    tools/make-wheel.py LIBRARY DIRECTORY  takes a library that was built, even for another system
+    tools/make-wheel.py --sdist DIRECTORY  makes an archive of the sources for pip
 
-This is what pip does with the repository, too, by the build backend tools/python_backend. It needs
-Python 3.9 or later. Prints the name of the file."""
+pip does the same with the repository, by the build backend tools/python_backend. Needs Python 3.9
+or later. Prints the name of the file.
+"""
 
 import sys
 from pathlib import Path

@@ -1,35 +1,43 @@
 #!/bin/sh
-# tools/measure-speed.sh times the calls of rust/ beside those of the Rust crates semver-parser and
-# semver, all as `cargo build --release` compiles them, on 100,000 distinct texts of each kind that
-# it makes (tools/bench/texts/README.md says of what), and prints a table; and it times whole runs of the
-# program release-filter beside the same filter over the crate semver, on a million distinct lines,
-# and prints a second one, with the runs of the program that the kit built, if it has. It
-# takes six minutes; tools/measure-speed.sh seed N does so on the texts of another seed than 1;
-# tools/measure-speed.sh texts [N] writes the texts that are made (of seed N) into
-# tools/bench/target/texts, to be looked at: nothing reads them there; tools/measure-speed.sh growth
-# counts the instructions of calls on texts of growing size, by callgrind, and prints another
-# table; tools/measure-speed.sh npm times ranges of npm's dialect, each asked of one version, beside
-# the node-semver of npm, and tools/measure-speed.sh js the JavaScript package, which needs what
-# rust/wasm/build.sh does; tools/measure-speed.sh c times functions of the C library beside the crate
-# semver, and finds how much memory they take, by cc; tools/measure-speed.sh locks [CHECKOUT].. times
-# check-lock-file on large lock files that it makes, by format where something is wrong, and on some
-# that are made to take long, here and as other checkouts have it, over the library of this one, and
-# needs python3 with PyYAML alone. tools/measure-speed.sh plot draws
-# docs/ratios.svg and docs/growth.svg from the tables of docs/SPEED.md, by gnuplot, and measures
-# nothing. But for locks it needs cargo and Debian's packages librust-semver-parser-dev and
-# librust-semver-dev, for growth valgrind too. It stands outside the gate.
+# Measures speed and memory, and prints tables. It isn't part of the gate.
+#
+# - tools/measure-speed.sh compares the times of the calls of rust/ with those of the Rust crates
+#   semver-parser and semver, all built by `cargo build --release`, on 100,000 different texts of
+#   each kind that it makes (tools/bench/texts/README.md describes them). A second table compares
+#   whole runs of release-filter with the same filter with the crate semver, on a million different
+#   lines; it has the kit's build, too, if there is one. This takes six minutes.
+# - tools/measure-speed.sh seed N does the same with another seed than 1.
+# - tools/measure-speed.sh texts [N] writes the texts (of seed N) to tools/bench/target/texts, to be
+#   looked at. Nothing reads them there.
+# - tools/measure-speed.sh growth counts the instructions of calls on texts of growing size, by
+#   callgrind.
+# - tools/measure-speed.sh npm compares the times of ranges in npm's dialect, each matched with one
+#   version, with those of npm's node-semver.
+# - tools/measure-speed.sh js does this for the JavaScript package. It needs what rust/wasm/build.sh
+#   needs.
+# - tools/measure-speed.sh c compares the times of C functions with the crate semver, and measures
+#   how much memory they take. It needs cc.
+# - tools/measure-speed.sh locks [CHECKOUT].. times check-lock-file, here and in other checkouts,
+#   with the library of this one: on large lock files that it makes, on the same files with
+#   something wrong, in each format, and on files that are made to take long. It needs only python3
+#   with PyYAML.
+# - tools/measure-speed.sh plot draws docs/ratios.svg and docs/growth.svg from the tables in
+#   docs/SPEED.md by gnuplot, and measures nothing.
+#
+# All except locks and plot need cargo and Debian's packages librust-semver-parser-dev and
+# librust-semver-dev; growth also needs valgrind.
 set -eu
 cd "$(dirname "$0")/.."
 [ "${1-}" != plot ] || exec tools/plot-speed.sh docs/SPEED.md docs
 
-# Builds what is here, and what it is timed beside, of Debian's crates.
+# Builds what is measured, and what it is compared with, with Debian's crates.
 build_bench() {
     (cd tools/bench && cargo build --quiet --release --offline "$@" \
         --config 'source.crates-io.replace-with="debian"' \
         --config 'source.debian.directory="/usr/share/cargo/registry"')
 }
 
-# Times functions of the C library beside the crate semver, and finds how much memory they take.
+# Compares the times of C functions with the crate semver, and measures how much memory they take.
 measure_c() {
     library=out/lib/libsemver_parser.a
     make -s $library
@@ -51,7 +59,7 @@ fi
 
 processor=$(sed -n 's/^model name[[:space:]]*: //p' /proc/cpuinfo | head -n 1)
 
-# What is measured of node-semver, which npm has.
+# Prints the measurements that need node-semver, which npm has.
 of_node_semver() {
     NODE_PATH=$(npm root -g)/npm/node_modules
     export NODE_PATH

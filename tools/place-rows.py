@@ -1,9 +1,11 @@
 #!/usr/bin/env python3
-"""Writes the rows in crates/replayed_cases on where a text stops being a range: tools/place-rows.py > FILE
+"""Writes the rows of crates/replayed_cases for where a text stops being a range:
+tools/place-rows.py > FILE
 
-Of two lines, the first is one of `stdin` and the second one of `stdout`.
-Whether a text is a range is decided by regular expressions after docs/GRAMMAR.md. A prefix is one of a range if some text of up to four characters makes one of
-it. The reason of each row is written here by hand, and so are the rows with numbers that are too large, and those with texts that are too long.
+Of two lines, the first belongs to `stdin` and the second to `stdout`. Regular expressions after
+docs/GRAMMAR.md determine whether a text is a range. A text is a prefix of a range if some text of
+up to three characters completes it. The reason of each row is written here by hand, and so are the
+rows with numbers that are too large and with texts that are too long.
 """
 import re
 from functools import cache
@@ -46,19 +48,19 @@ def begins(dialect, front):
 
 
 def place(dialect, text):
-    """The place in bytes, or None for a range."""
+    """Returns the offset in bytes, or None for a range."""
     if GRAMMARS[dialect].fullmatch(text):
         return None
     longest = max(end for end in range(len(text) + 1) if begins(dialect, text[:end]))
     return len(text[:longest].encode())
 
 
-# The reasons that most rows have.
+# The reasons of most rows.
 U, NUMBER_EXPECTED, EMPTY_IDENTIFIER = "unexpected-character", "number-expected", "empty-identifier"
 CARGO_BARS, CARGO_COMMAS, CARGO_HYPHEN, CARGO_V, CARGO_WILDCARD = "cargo-bars", "cargo-commas", "cargo-hyphen", "cargo-v", "cargo-wildcard"
 NPM_COMMA, CRATE_COMMA, CRATE_V, LEADING_ZERO, THREE, END = "npm-comma", "crate-comma", "crate-v", "leading-zero", "not-three-numbers", "unexpected-end"
 
-# Texts, and the reason by Cargo's, npm's and the crate's dialects. Where the text is a range there is none.
+# Texts, and the reasons in Cargo's, npm's and the crate's dialects. None if the text is a range.
 TEXTS = (
     ("", "empty", None, None), (" ", "empty", None, None), ("*", None, None, None), ("1 || 2", CARGO_BARS, None, None), ("1.2 | 3", CARGO_BARS, U, U),
     ("|", CARGO_BARS, END, END), ("||", CARGO_BARS, None, None), ("1 ||", CARGO_BARS, None, None), ("||| 1", CARGO_BARS, U, U),
@@ -86,7 +88,8 @@ TEXTS = (
 N, S = 2**64, 2**53
 OF_64 = ("cargo", "crate-cargo", "crate-npm")
 OF_SETS = ("npm", "crate-cargo", "crate-npm")
-# Texts with @ before the number that is too large, or can't be raised, in the first term that does not fit.
+# Texts with @ before the number that is too large, or can't be raised, in the first term that
+# doesn't fit.
 TOO_LARGE = (
     (f"=@{N}", OF_64), (f"=@{N}.1", OF_64), (f"=1.@{N - 1}0", OF_64), (f"=1.2.@{N}", OF_64), (f"=@{S}", ("npm",)),
     (f"1 || =1.2.@{S}", ("npm",)), (f"=@{N} || 1", OF_SETS), (f"=1.@{N}.x  ={N}0", OF_SETS), (f"> @{N}.1.2-a.b+c ", OF_64),
@@ -96,14 +99,14 @@ TOO_LARGE = (
     (f"{N - 1}.5.*, =@{N}", ("cargo",)), (f"@{N} - {N}", OF_SETS), (f"{N - 1} - @{N} || 1", ("crate-npm",)),
 )
 BOUND_TOO_LARGE = (
-    # Where a smaller number after it would do.
+    # A smaller number after it would fit.
     (f">@{N - 1}", ("cargo",)), (f">1, >@{N - 1}, <3", ("cargo",)), (f"<=@{N - 1}", OF_64), (f">@{S - 1}", ("npm",)), (f"1 - @{S - 1}", ("npm",)),
     (f">@{N - 1}.*", ("cargo",)), (f">@{S - 1}.x", ("npm",)), (f"<=@{S - 1}.*.3 || 1", ("npm",)),
     (f"@{N - 1}", OF_64), (f"@{N - 1}.1", ("cargo",)), (f"@{N - 1}.1.2", ("cargo",)), (f"^@{N - 1}.1.*", ("cargo",)), (f"@{S - 1}", ("npm",)),
-    # Whatever follows.
+    # Nothing after it would fit.
     (f"^@{N - 1}", OF_64), (f"^@{N - 1}.2.3", OF_64), (f"~1.@{N - 1}.3", OF_64), (f"^@{S - 1}.2", ("npm",)),
 )
-# Texts as a row has them that are too long to npm.
+# Texts, as they are in a row, that are too long in npm's dialect.
 LONG = (
     ("1.2.3-\\(251,a,)", 256), ("^1.2.3-\\(251,a,)", 257), ("1.2.3+\\(251,b,)", 256), ("^1.2.3+\\(251,b,)", 257), ("\\(258,1,)", 257),
 )

@@ -1,7 +1,7 @@
 #!/bin/sh
-# tools/plot-speed.sh FILE FOLDER: draws the tables of tools/measure-speed.sh, as they stand in FILE, into
-# ratios.svg and growth.svg of FOLDER, by gnuplot: the time here over that of each Rust crate, and
-# instructions over the size of a text.
+# tools/plot-speed.sh FILE DIRECTORY draws the tables of tools/measure-speed.sh in FILE by gnuplot:
+# ratios.svg has the time here relative to each Rust crate, and growth.svg the instructions by the
+# size of a text.
 set -eu
 command -v gnuplot > /dev/null || {
     echo 'plotting needs gnuplot: apt-get install gnuplot-nox' >&2
@@ -12,7 +12,7 @@ work=$(mktemp -d)
 trap 'rm -rf "$work"' EXIT
 trap 'exit 2' HUP INT TERM
 
-# rows HEAD: the rows of the table whose first cell is HEAD, their cells separated by tabs.
+# rows HEAD: prints the rows of the table whose first cell is HEAD, with tabs between the cells.
 rows() {
     awk -F ' *[|] *' -v head="$1" '
         $2 == head { inside = 1; next }
@@ -21,17 +21,17 @@ rows() {
     ' "$tables"
 }
 
-# Rows that have a ratio to both crates; the last row of the table is drawn at the bottom. A star is at those whose texts
-# `semver` rejects.
+# Rows that have a ratio to both crates. The last row of the table is drawn at the bottom. A star
+# marks rows whose texts `semver` rejects.
 rows 'ns a text' | awk -F '\t' '$5 != "none" { print NR "\t" $1 ($7 ~ /^0 of/ ? " *" : "") "\t" $5 "\t" $6 }' |
     sort -rn > "$work/ratios"
 rows 'instructions for a text of' > "$work/growth"
 [ -s "$work/ratios" ] && [ -s "$work/growth" ] || {
-    echo "plotting: $tables has not both tables" >&2
+    echo "plotting: $tables does not have both tables" >&2
     exit 2
 }
 
-# A line of the picture for each row: its size in elements, its instructions.
+# A line of the picture for each row: its sizes in elements, and its instructions.
 tab=$(printf '\t')
 lines= count=0
 while IFS="$tab" read -r name few _ thousand _ ten _ hundred _; do

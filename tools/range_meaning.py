@@ -1,9 +1,12 @@
-"""What range texts mean, by the definitions of docs/CRATE.md: a model of its own, beside the proved code.
+"""The meaning of range texts by the definitions of docs/CRATE.md: a separate model next to the
+proved code.
 
-A version is a tuple `(numbers, identifiers)`: three numbers, and the identifiers of its pre-release, each a number or a text. A term is
-`(operator, stated numbers, identifiers)`. Whether a version meets a term is decided by the table "The meaning of a text" alone, one version at a
-time; no comparator and no bound list occurs here. The least version that has some property of this kind is looked for among all places at
-which an answer about the terms can change, which are few; `tools/set-rows.py` and `tools/compare.sh grid` check that against a grid of versions.
+A version is a tuple `(numbers, identifiers)`: three numbers, and the identifiers of its
+pre-release, each a number or a text. A term is `(operator, stated numbers, identifiers)`. Only the
+table "The meaning of a text" determines whether a version satisfies a term, one version at a time;
+there are no comparators and no lists of bounds here. The lowest version with some property is
+looked for among all points at which a result about the terms can change, of which there are few.
+`tools/set-rows.py` and `tools/compare.sh grid` check that against a grid of versions.
 """
 
 import re
@@ -13,14 +16,15 @@ RULES = ("releases", "stated", "mean")
 
 
 class Refused(Exception):
-    """A text that is no range, or whose numbers don't fit."""
+    """A text that isn't a range, or whose numbers don't fit."""
 
 
 # ---- versions
 
 
 def identifiers(text, in_range):
-    """Those of the text of a pre-release. Digits are a number up to 2^64 - 1; in a version only without a leading zero."""
+    """Returns the identifiers in the text of a pre-release. Digits are a number up to 2^64 - 1; in
+    a version only without a leading zero."""
     if text is None:
         return ()
     return tuple(
@@ -42,7 +46,7 @@ def shown(it):
 
 
 def precedence(it):
-    """A key: two versions compare by precedence as their keys do."""
+    """Returns a sort key for precedence."""
     numbers, pre = it
     return numbers, not pre, tuple((isinstance(part, str), part) for part in pre)
 
@@ -77,13 +81,15 @@ def _range(text):
 
 
 def ranges(text, mode):
-    """The terms of each range of a well-formed text. In Cargo mode a bare partial with three numbers is a caret."""
+    """Returns the terms of each range of a valid text. In Cargo mode a partial version with three
+    numbers and no operator is a caret."""
     read = [_range(part) for part in text.split("||")]
     return [[("^" if mode == "cargo" and sign == "" and len(stated) == 3 else sign or "=", stated, pre) for sign, stated, pre in terms] for terms in read]
 
 
 def fits(text, mode):
-    """Whether every stated number and every number of a raised bound is at most 2^64 - 1."""
+    """Returns whether every stated number and every number of a raised bound is at most 2^64 -
+    1."""
     for sign, stated, _ in sum(ranges(text, mode), []):
         k = raised_place(sign, stated)
         if any(number > LAST for number in stated) or (k and stated[k - 1] == LAST):
@@ -92,7 +98,7 @@ def fits(text, mode):
 
 
 def raised_place(sign, stated):
-    """The place, from 1, of the number that a term's raised bound raises; 0 where it has no such bound."""
+    """Returns which number, from 1, a term's raised bound raises; 0 if it has no such bound."""
     n = len(stated)
     if sign == "^":
         return next((at + 1 for at, number in enumerate(stated) if number), n)
@@ -105,7 +111,7 @@ def raised_place(sign, stated):
 
 
 def meets_term(it, term):
-    """The table of the text's own meaning, row by row."""
+    """Returns whether a version satisfies a term: the table of docs/CRATE.md, row by row."""
     sign, stated, pre = term
     n, numbers = len(stated), it[0]
     z = stated + (0,) * (3 - n), pre
@@ -140,15 +146,15 @@ def meets_range(it, terms, rule):
 
 
 def meets(it, read, rule):
-    """Whether a version meets the ranges of a text by a rule for pre-releases."""
+    """Returns whether a version satisfies the ranges of a text by a rule for pre-releases."""
     return any(meets_range(it, terms, rule) for terms in read)
 
 
-# ---- places
+# ---- points
 
 
 def raised(front):
-    """The lowest numbers above all that begin with these, if there are such."""
+    """Returns the lowest numbers above all that begin with these, or None if there are none."""
     front = list(front)
     while front and front[-1] == LAST:
         front.pop()
@@ -158,10 +164,12 @@ def raised(front):
 
 
 def places(*texts):
-    """The versions, by precedence, at which an answer about the terms of these texts can begin or end.
+    """Returns the versions, by precedence, at which a result about the terms of these texts can
+    begin or end.
 
-    Each condition of the tables compares a version, or its first numbers, with z. So it begins or ends at z, right after z, at the lowest version of
-    some numbers or right after the highest.
+    Each condition of the tables compares a version, or its first numbers, with z. So it begins or
+    ends at z, directly after z, at the lowest version with some numbers, or directly after the
+    highest.
     """
     numbers, found = {(0, 0, 0)}, set()
     for _, stated, pre in (term for read in texts for terms in read for term in terms):
@@ -175,15 +183,15 @@ def places(*texts):
 
 
 def least(found, holds):
-    """The least of some versions for which this holds."""
+    """Returns the lowest of some versions for which this holds."""
     return next((it for it in found if holds(it)), None)
 
 
-# ---- whole answers
+# ---- whole results
 
 
 def right_after(it):
-    """The next version of the same kind by precedence, if there is one."""
+    """Returns the next version of the same kind by precedence, if there is one."""
     numbers, pre = it
     if pre:
         return numbers, pre + (0,)
@@ -192,9 +200,11 @@ def right_after(it):
 
 
 def intervals(found, holds):
-    """The intervals of the versions of one kind for which this holds: each from a version on and below another, or without an end (`None`).
+    """Returns the intervals of the versions of one kind for which this holds: each begins with a
+    version and ends below another, or has no end (`None`).
 
-    `found` are the places of this kind, in order, at which the answer can change. It is the same from one up to the next.
+    `found` has the points of this kind, in order, at which the result can change. It is the same
+    from one up to the next.
     """
     answer, inside = [], False
     for it in found:
@@ -208,7 +218,8 @@ def intervals(found, holds):
 
 
 def end_of(begin, end):
-    """What an interval is written to end below. One of all the pre-releases of its numbers that are left ends below their release: `>=1.2.3-a <1.2.3`."""
+    """Returns the version that an interval is written to end below. An interval with all remaining
+    pre-releases of its numbers ends below their release: `>=1.2.3-a <1.2.3`."""
     numbers, pre = begin
     above = raised(numbers)
     return (numbers, ()) if pre and above and end == (above, (0,)) else end
@@ -223,7 +234,7 @@ def interval_text(interval, lowest):
 
 
 def whole(found, holds):
-    """Two range texts: of the releases, and of the pre-releases for which this holds."""
+    """Returns two range texts: for the releases and for the pre-releases for which this holds."""
     texts = []
     for pre in ((), (0,)):
         of_kind = [it for it in found if bool(it[1]) == bool(pre)]

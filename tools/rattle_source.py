@@ -1,5 +1,5 @@
-"""Reads the Rattle files of crates/ for tools/erase.py: their tokens, without contracts. What one
-of the languages could read otherwise stops the run, with file and line."""
+"""Reads the Rattle files in crates/ for tools/erase.py: their tokens, without contracts. It stops,
+with file and line, at what one of the languages could read differently."""
 import os
 import re
 import sys
@@ -17,13 +17,13 @@ TOKEN = re.compile(r"""
   | (?P<number>(?:0x[0-9a-fA-F_]+|0b[01_]+|\d[\d_]*)(?:u8|u32|u64|usize)?\b)
   | (?P<sign>::|->|=>|\.\.=|\.\.|&&|\|\||[<>=!+\-*/%^&|]=|<<|[-+*/%^&|!<>=.,;:\#?@()\[\]{}])
 """, re.X | re.A)
-# The categories of Unicode for what is no letter, mark, number, sign or space.
+# The categories of Unicode that aren't letters, marks, numbers, signs or spaces.
 NO_READER_SEES = {'Cc', 'Cf', 'Cn', 'Co', 'Cs', 'Zl', 'Zp'}
 # What may not follow a token, or begin one: it would be another token in Rust or in Rattle.
 NOT_BEFORE = {'word': r'["\'#]', 'number': r'\.(?!\.)(?:[^a-zA-Z_]|$)',
               'sign': r'(?<=-)-|(?<=/)\*'}
 SILENT = {'space', 'comment', 'doc'}
-# The texts, braces, and all that could hide a brace from one of the readers.
+# Texts, braces, and everything that could hide a brace from one of the readers.
 ANTT = re.compile(r"""
     (?P<text>"[^"\\{}\n]*")
   | (?P<odd>--|\{-|-\}|\{!|!\}|//|/\*|\*/|["\\«»]|'(?=[{}"])|[^\S \n])
@@ -34,7 +34,7 @@ GHOST = re.compile(r'ghost\s+\w+\s*[:=]\s*(?=\{)')
 CLAUSE = re.compile(r'(?:requires|ensures)\s+(?:(\w+)\s+)?(?=\{)')
 AFTER_CLAUSE = re.compile(r'(?:\s|//[^\n]*\n)*(?:[{;]|(?:requires|ensures)\b)')
 OPEN, CLOSE = {'(', '[', '{'}, {')', ']', '}'}
-# Words before a parenthesis that is no call, and before an operand.
+# Words before a parenthesis that isn't a call, and before an operand.
 NO_CALLEES = {'break', 'else', 'for', 'if', 'in', 'let', 'match', 'return', 'while'}
 NO_OPERANDS = NO_CALLEES | {'as', 'mut'}
 
@@ -42,8 +42,8 @@ NO_OPERANDS = NO_CALLEES | {'as', 'mut'}
 class Token:
     def __init__(self, kind, text, line):
         self.kind, self.text, self.line = kind, text, line
-        self.owes = False  # of a `fn`: whether the function has a `requires`
-        self.clauses = set()  # and the names of its clauses
+        self.owes = False  # for a `fn`: whether the function has a `requires`
+        self.clauses = set()  # for a `fn`: the names of its clauses
 
 
 class Source:
@@ -77,7 +77,7 @@ class Source:
         return self.tokens
 
     def block(self, at):
-        """Where a block of antt ends. Each brace that is no part of a text counts."""
+        """Returns the end of a block of antt. Each brace counts that isn't part of a text."""
         depth = 0
         for found in ANTT.finditer(self.all, at):
             if found.lastgroup == 'odd':
@@ -88,7 +88,7 @@ class Source:
         self.stop(at, 'a block that nothing closes')
 
     def ghost(self, at):
-        """Drops a ghost item or field, with the comments before it, and returns where it ends."""
+        """Drops a ghost item or field, with the comments before it, and returns its end."""
         tokens = self.tokens
         while tokens and (tokens[-1].kind in SILENT and not tokens[-1].text.startswith('//!')
                           or tokens[-1].text == 'pub'):
@@ -108,7 +108,7 @@ class Source:
         return end + 1
 
     def clause(self, at):
-        """Drops a clause, with the comments before it, and returns where it ends."""
+        """Drops a clause, with the comments before it, and returns its end."""
         while self.tokens and self.tokens[-1].kind in ('space', 'comment'):
             self.tokens.pop()
         found = CLAUSE.match(self.all, at)
@@ -121,7 +121,8 @@ class Source:
         return end
 
     def header(self):
-        """The `fn` whose head ends here, if it is one: outside of its brackets nothing began."""
+        """Returns the `fn` whose head ends here, if it is one: nothing began outside of its
+        brackets."""
         depth = 0
         for token in reversed(self.tokens):
             depth += (token.kind, token.text) in (('sign', ')'), ('sign', ']'))
@@ -133,8 +134,8 @@ class Source:
 
 
 def begins_item(tokens, at, public=False):
-    """Whether an item or field may begin there: no attribute before it is left, and no `pub`
-    (which may be there if it is public)."""
+    """Returns whether an item or field may begin there: there is no attribute left before it, and
+    no `pub` unless `public` is set."""
     seen = [t.text for t in tokens[:at] if t.kind not in SILENT]
     while public and seen and (seen[-1] == 'pub' or seen[-4:-2] + seen[-1:] == ['pub', '(', ')']):
         del seen[-1 if seen[-1] == 'pub' else -4:]
@@ -145,7 +146,7 @@ def begins_item(tokens, at, public=False):
 
 
 class Code:
-    """The tokens of a file, with a view on those that are no comments."""
+    """The tokens of a file, and a view of those that aren't comments."""
     def __init__(self, crate, module, path):
         self.crate, self.module, self.path = crate, module, path
         self.t = Source(path).read()
@@ -158,7 +159,7 @@ class Code:
         return '' if i is None else self.t[i].text
 
     def at(self, i):
-        """The first token at `i` or after it that is no comment."""
+        """Returns the first token at `i` or after it that isn't a comment."""
         return next((k for k in range(i, len(self.t)) if self.t[k].kind not in SILENT), None)
 
     def after(self, i):
@@ -168,11 +169,11 @@ class Code:
         return next((k for k in range(i - 1, -1, -1) if self.t[k].kind not in SILENT), None)
 
     def follows(self, i, text):
-        """Whether the path that begins at `i` goes on with this."""
+        """Returns whether the path that begins at `i` continues with this."""
         return self.text(self.after(self.after(i))) == text
 
     def close(self, i):
-        """The bracket that closes the one at `i`."""
+        """Returns the bracket that closes the one at `i`."""
         depth, angle = 0, self.text(i) == '<'
         for j in range(i, len(self.t)):
             if self.t[j].kind == 'sign':
@@ -183,7 +184,8 @@ class Code:
         self.stop(i, 'a bracket that nothing closes')
 
     def parts(self, opened, angles=False):
-        """What is between the commas in the brackets that are opened there, as pairs of places."""
+        """Returns what is between the commas in the brackets that open there, as pairs of
+        indices."""
         parts, begin, i, end = [], opened + 1, opened + 1, self.close(opened)
         while i < end:
             text = self.text(i)
@@ -199,7 +201,8 @@ class Code:
         return parts + [(begin, end)] if (self.at(begin) or end) < end else parts
 
     def ends_operand(self, i):
-        """Whether an operand ends there, and a sign after it is between two."""
+        """Returns whether an operand ends there, so that a sign after it is between two
+        operands."""
         token = self.t[i]
         return (token.kind in ('number', 'text', 'char') or token.text in CLOSE
                 or token.kind == 'word' and token.text not in NO_OPERANDS)
@@ -215,7 +218,7 @@ class Code:
             token.kind, token.text = 'space', ''
 
     def drop_lines(self, begin, end):
-        """Drops what has lines of its own: of the white space around it one side stays."""
+        """Drops something that has lines of its own. The white space on one side of it stays."""
         around = [self.t[i] for i in (begin - 1, end)
                   if 0 <= i < len(self.t) and self.t[i].kind == 'space']
         self.drop(begin, end)
@@ -232,7 +235,7 @@ class Code:
             self.drop(parts[k][0], parts[k][1] + (self.text(parts[k][1]) == ','))
 
     def find(self, *texts):
-        """The places where these tokens follow each other."""
+        """Yields the indices at which these tokens follow each other."""
         for i, token in enumerate(self.t):
             places = [i] if token.kind not in SILENT and token.text == texts[0] else []
             while places and len(places) < len(texts):
@@ -242,17 +245,17 @@ class Code:
                 yield places
 
     def in_use(self, i):
-        """Whether it is in an import: since the last `;` there was a `use`."""
+        """Returns whether this is in an import: there was a `use` since the last `;`."""
         while i >= 0 and self.text(i) not in ('use', ';'):
             i -= 1
         return i >= 0 and self.text(i) == 'use'
 
     def uses(self):
-        """The imports: where `use` is, and the `;` after it."""
+        """Returns the imports: the index of `use`, and of the `;` after it."""
         return [(i, self.find_from(i, ';')) for (i,) in self.find('use')]
 
     def around(self, i):
-        """The bracket in which the token at `i` is, if there is one."""
+        """Returns the bracket around the token at `i`, if there is one."""
         depth = 0
         for k in range(i - 1, -1, -1):
             if self.t[k].kind == 'sign':
@@ -268,7 +271,7 @@ class Code:
         self.stop(i, f'nothing ends this by {text}')
 
     def item(self, i):
-        """Where the item at `i` begins, with its `pub`, and where it ends."""
+        """Returns where the item at `i` begins, with its `pub`, and where it ends."""
         end = i
         while self.text(end) not in (';', '{'):
             end = self.close(end) if self.text(end) in ('(', '[') else end + 1

@@ -1,8 +1,8 @@
 #!/usr/bin/env python3
-"""Gathers the range texts and the versions of real packages, for tools/compare.sh real.
+"""Gathers the range texts and versions of real packages, for tools/compare.sh real.
 
-real-texts FOLDER: of the Debian packages that were downloaded into FOLDER it reads each
-package.json of a node-* package, and each Cargo.toml of a librust-* package, and writes the texts of
+real-texts DIRECTORY reads the Debian packages that were downloaded into the directory: each
+package.json of a node-* package, and each Cargo.toml of a librust-* package. It writes the texts of
 their dependencies and their versions, each once, to the files npm.texts, npm.versions, cargo.texts
 and cargo.versions there.
 """
@@ -18,14 +18,14 @@ CARGO = ("dependencies", "dev-dependencies", "build-dependencies")
 
 
 def of_npm(file):
-    """The range texts and the version of a package.json."""
+    """Returns the range texts and the version in a package.json."""
     package = json.loads(file.read_text())
     texts = [text for kind in NPM for text in dict(package.get(kind) or {}).values()]
     return texts, package.get("version")
 
 
 def of_cargo(file):
-    """The requirements and the version of a Cargo.toml."""
+    """Returns the requirements and the version in a Cargo.toml."""
     manifest = tomllib.loads(file.read_text())
     tables = [manifest, *manifest.get("target", {}).values()]
     asked = [wanted for table in tables for kind in CARGO for wanted in table.get(kind, {}).values()]
@@ -34,7 +34,7 @@ def of_cargo(file):
 
 
 def gather(folder, kind, file_name, read):
-    """Writes what the packages of a kind have, and tells how much it is."""
+    """Writes what the packages of a kind contain, and prints how much it is."""
     texts, versions = set(), set()
     packages = sorted(folder.glob(kind + "-*.deb"))
     for package in packages:

@@ -1,7 +1,8 @@
 #!/usr/bin/env python3
-"""Writes the rows of sets of versions in crates/replayed_cases anew: tools/set-rows.py
+"""Writes the rows for sets of versions in crates/replayed_cases anew: tools/set-rows.py
 
-What is wanted of each comes from tools/range_meaning.py, which decides by the definitions of docs/CRATE.md, and not from the code.
+The expected results come from tools/range_meaning.py, which follows the definitions of
+docs/CRATE.md, and not from the code.
 """
 
 from itertools import product
@@ -16,7 +17,7 @@ M = N - 1
 
 OPERATORS = ("", "=", "<", "<=", ">", ">=", "~", "^")
 
-# Texts by themselves. By each the places around its bounds are asked for.
+# Single texts. Each is tested at the points around its bounds.
 TEXTS = (
     "", "*", "<*", ">*", "<=*", "^x", "1", "1.2", "1.2.3", "1.2.x", "^0", "^0.0", "^0.0.0", "^0.0.3", "^0.2.3", "^1.2.3", "^1.2.3-b",
     "~1", "~1.2", "~1.2.3-b", "<1", "<=1", ">1", ">=1", "<1.2", "<=1.2", ">1.2", ">=1.2", "=1.2", "<1.2.3-b", "<=1.2.3-b", ">1.2.3-b", ">=1.2.3-b",
@@ -44,7 +45,7 @@ PAIRS = (
 
 
 def listed(found):
-    """The places, and what is right beside them."""
+    """Returns the points in order, and for each pre-release the next one."""
     beside = {(numbers, pre + (0,)) for numbers, pre in found if pre}
     return sorted({*found, *beside}, key=lambda it: (it[0], not it[1], [(isinstance(part, str), part) for part in it[1]]))
 
@@ -76,7 +77,8 @@ def of_pair(text, other, mode, rule):
     return f"lost {shown(lost)}, gained {shown(gained)}, shared {shown(shared)}, " + ", ".join(f"{word} {str(so).lower()}" for word, so in told)
 
 
-# Texts whose whole meaning is asked for, besides those above, and pairs: two intervals and more, one version alone, the lowest and the last of a kind.
+# Further texts and pairs whose whole meaning is printed: two intervals and more, a single version,
+# the lowest and the last of a kind.
 WHOLE = (
     "^1.2.0", "^1.2.0-b", ">=1.2.3 <1.5 || ^3", "=0.0.0", "=0.0.0-0", "<=0.0.0", "<=0.0.0-0", "<0.0.1", "<0.0.0-0.0", "<=0.0.0-0 || >0.0.0-0", "<0.0.0 || >=0.0.0", "<2.0.0-0 || >=3.0.0-0",
     ">=1.2.3-a <=1.2.3-a.0", "=1.2.3-a || =1.2.3-a.0", "=1.2.3-a || =1.2.3-b || =1.2.3-c", ">=1.2.3-a <1.2.3-a.0.0", "=1.2.3-a.0.0", ">1.2.3-a.0 <1.2.3-b || =1.2.3", "=1.2.3 || =1.2.4 || =1.2.6",
@@ -110,7 +112,8 @@ def whole_pair(text, other, mode, rule):
 
 
 def modes(*texts):
-    """The modes in which texts mean something else, npm's where both do the same."""
+    """Returns the modes in which texts mean something different, or npm mode if both are the
+    same."""
     return MODES if ranges(texts[0], "cargo") != ranges(texts[0], "npm") or any(ranges(it, "cargo") != ranges(it, "npm") for it in texts) else MODES[1:]
 
 

@@ -1,6 +1,6 @@
-// Times node-semver on the pairs of a file, a range and a version in a line, separated by a tab: each
-// range is read anew. Prints the nanoseconds of a pair, the best of PASSES passes by stretches of a
-// thousand, and how many ranges have their version.
+// Times node-semver on the pairs in a file. A line has a range and a version, separated by a tab.
+// Each range is parsed anew. Prints the nanoseconds for a pair, the best of PASSES passes in groups
+// of a thousand pairs, and how many ranges contain their version.
 //
 //     node node-semver.js PAIRS PASSES
 'use strict';

@@ -1,5 +1,5 @@
-// Times the package of js/ beside node-semver, in one run: `node package.js PACKAGE` prints a table, of
-// the best of many passes of each, in turn.
+// Times the package in js/ next to node-semver, in one run. `node package.js PACKAGE` prints a
+// table with the best of many passes; the two take turns.
 'use strict'
 
 const path = require('path')
@@ -10,7 +10,7 @@ const PASSES = 15
 const FRESH = 20000
 const MANY = 1000
 
-// Numbers by a fixed seed.
+// Numbers from a fixed seed.
 let state = 1
 const below = (limit) => {
   state = (state * 48271) % 2147483647

@@ -1,5 +1,5 @@
-"""The build backend of the Python package, for pip and others (PEP 517, PEP 660). It has cargo
-build the shared library, and needs nothing but cargo and Python 3.9 or later."""
+"""The build backend of the Python package, for pip and others (PEP 517, PEP 660). It builds the
+shared library with cargo, and needs nothing except cargo and Python 3.9 or later."""
 
 import sys
 import tempfile
@@ -11,7 +11,7 @@ from .project import info_directory, info_files, read_project
 
 
 def needs_cargo(config_settings=None):
-    """Returns what pip has to install for a build, which is nothing. Ends if there is no cargo."""
+    """Returns what pip has to install for a build, which is nothing. Exits if there is no cargo."""
     try:
         require_cargo()
     except CannotBuild as error:
@@ -28,7 +28,7 @@ def get_requires_for_build_sdist(config_settings=None):
 
 
 def prepare_metadata_for_build_wheel(metadata_directory, config_settings=None):
-    """Writes what installers read of the package, which needs no library. Returns the name of its
+    """Writes the metadata for installers, which needs no library. Returns the name of its
     directory."""
     project = read_project()
     for path, data in info_files(project):
@@ -57,8 +57,8 @@ def build_wheel(wheel_directory, config_settings=None, metadata_directory=None):
 
 
 def build_editable(wheel_directory, config_settings=None, metadata_directory=None):
-    """Writes a wheel by which Python finds the package in the repository, where the library is put
-    beside the modules. Returns its name."""
+    """Writes a wheel by which Python finds the package in the repository, and puts the library next
+    to the modules there. Returns its name."""
     return wheel_of(wheel_directory, archives.in_place)
 
 

@@ -28,8 +28,8 @@ FIRST = 315532800
 
 
 def write_wheel(project, library, directory, modules):
-    """Writes the wheel with some modules for the platform of a library. It is the same to the byte
-    if its files are. Returns its name."""
+    """Writes the wheel with some modules for the platform of a library. It is the same byte for
+    byte if its files are. Returns its name."""
     of_platform, name_of_library = platform_and_name(library)
     tag = f"py3-none-{of_platform}"
     info = info_directory(project)
@@ -51,8 +51,8 @@ def whole(library, name):
 
 
 def in_place(library, name):
-    """Puts the library beside the modules of the repository. Returns the file that has Python look
-    for them there."""
+    """Puts the library next to the modules in the repository. Returns the file that makes Python
+    look for them there."""
     half = PYTHON / "semver_parser" / f".{name}.{os.getpid()}"
     half.write_bytes(library.read_bytes())
     half.replace(PYTHON / "semver_parser" / name)
@@ -105,6 +105,6 @@ def sdist_files(project):
 
 
 def is_made(path):
-    """Whether a build made a file of the repository, or doesn't need it."""
+    """Returns whether a file of the repository was made by a build, or isn't needed by one."""
     is_built = {*LEFT_OUT, "__pycache__"}.intersection(path.parts)
     return bool(is_built) or path.suffix in (".dylib", ".dll") or ".so" in path.suffixes

@@ -1,4 +1,4 @@
-"""The shared library: cargo builds it, and its bytes tell which systems it is for."""
+"""Builds the shared library with cargo, and determines from its bytes which systems it is for."""
 
 import json
 import os
@@ -17,15 +17,15 @@ from .project import TOP, version
 SOURCES = ("Cargo.toml", "rust")
 LEFT_OUT = ("target", "wasm", "Cargo.lock")
 
-# On Linux the library needs only the C library, as that of `make` does. On other systems Rust's std
-# knows what has to be linked.
+# On Linux the library needs only the C library, like the one that `make` builds. On other systems
+# Rust's std determines what is linked.
 OF_LINUX = ["--no-default-features", "--", "-Clink-arg=-lc", "-Clink-arg=-Wl,-z,defs"]
 
 # The oldest GNU C library that a wheel's tag can name, and the libraries that come with it.
 OLDEST = (2, 5)
 OF_SYSTEM = rb"(libc|libm|libpthread|libdl|librt|libgcc_s|ld-linux.*)\.so\.\d+"
 
-# How the tags name the processors, which ELF and Mach-O files name by numbers.
+# The names of processors in tags, by their numbers in ELF and Mach-O files.
 OF_ELF = {
     3: "i686",
     21: "ppc64le",
@@ -62,13 +62,13 @@ def require_cargo():
 
 
 def command_of(name):
-    """Returns the command for cargo or rustc, which a variable of cargo's can name."""
+    """Returns the command for cargo or rustc, which a variable of cargo can name."""
     return os.environ.get(name.upper()) or name
 
 
 def build(directory):
-    """Has cargo build the library from a copy of its sources in an empty directory, so that nothing
-    is written to the repository. Returns the path of the library."""
+    """Builds the library with cargo from a copy of its sources in an empty directory, so that
+    nothing is written to the repository. Returns the path of the library."""
     require_cargo()
     for name in SOURCES:
         if (TOP / name).is_dir():
@@ -89,8 +89,8 @@ def build(directory):
 
 
 def variables(directory):
-    """Returns the environment for cargo. The paths of the copy and of the toolchain aren't in what
-    it builds, so the same sources make the same bytes."""
+    """Returns the environment for cargo. What it builds doesn't contain the paths of the copy and
+    of the toolchain, so the same sources make the same bytes."""
     inherited = dict(os.environ)
     flags = inherited.pop("RUSTFLAGS", "").split()
     if inherited.get("CARGO_ENCODED_RUSTFLAGS"):
@@ -103,7 +103,7 @@ def variables(directory):
 
 
 def library_among(messages):
-    """Returns the path of the library by what cargo reports of the files that it made."""
+    """Returns the path of the library from cargo's messages about the files that it made."""
     made = (json.loads(line) for line in messages.splitlines())
     files = [Path(file) for it in made for file in it.get("filenames", ())]
     return next(it for it in files if it.suffix in (".so", ".dylib", ".dll"))
@@ -113,8 +113,8 @@ def library_among(messages):
 
 
 def platform_and_name(library):
-    """Returns the tag of the platforms that a library is for, and the name by which the package
-    looks for it there."""
+    """Returns the tag of the platforms that a library is for, and the file name that the package
+    looks for there."""
     data = library.read_bytes()
     if data.startswith(b"\x7fELF"):
         return linux_platform(library, data), f"libsemver_parser.so.{version().split('.')[0]}"
@@ -126,8 +126,8 @@ def platform_and_name(library):
 
 
 def linux_platform(library, data):
-    """Returns the tag of the Linux systems that an ELF file is for: with the version of the GNU C
-    library that it needs, and without one if it needs more than that."""
+    """Returns the tag of the Linux systems that an ELF file is for. It has the version of the GNU C
+    library that the file needs; if the file needs more than that library, it has no version."""
     order = "<" if data[5] == 1 else ">"
     [number] = struct.unpack_from(f"{order}H", data, 18)
     if number not in OF_ELF:
@@ -141,8 +141,8 @@ def linux_platform(library, data):
 
 
 def needs_of_elf(data, order):
-    """Returns the libraries that an ELF file needs, and the table of the names that it has them by,
-    which also names the versions of these that it needs."""
+    """Returns the libraries that an ELF file needs, and its table of names, which also has the
+    versions that it needs of these."""
     is_wide = data[4] == 2
     header, entry = ("IIQQQQII", "qQ") if is_wide else ("IIIIIIII", "iI")
     [start] = struct.unpack_from(order + ("Q" if is_wide else "I"), data, 40 if is_wide else 32)
@@ -159,7 +159,7 @@ def needs_of_elf(data, order):
 
 def macos_platform(data):
     """Returns the tag of the macOS that a Mach-O file is for. Python's own build may be for two
-    processors and for an older system, and the library is for neither."""
+    processors and for an older system than the library."""
     [number] = struct.unpack_from("<I", data, 4)
     processor = OF_MACHO.get(number, platform.machine())
     _, of_python, _ = sysconfig.get_platform().split("-")

@@ -1,4 +1,4 @@
-"""What pyproject.toml says of the package, and the files that a wheel has of it."""
+"""The contents of pyproject.toml about the package, and the files of a wheel that come from it."""
 
 import ast
 import re
@@ -12,8 +12,8 @@ CONSTANTS = {"true": True, "false": False}
 
 
 def tables_of(text):
-    """Returns the tables of a text of TOML in which a value is a string, true, false or an array of
-    strings. Python has a reader of TOML only from 3.11 on, and the package is for 3.9, too."""
+    """Returns the tables of a text of TOML whose values are strings, true, false or arrays of
+    strings. Python has a TOML parser only since 3.11, and the package supports 3.9."""
     tables = {}
     table, lines = tables, iter(text.splitlines())
     for line in lines:
@@ -30,7 +30,7 @@ def tables_of(text):
 
 
 def table_at(tables, names, is_of_array):
-    """Returns the table of a header, which is put there: [a.b], or a further one of [[a.b]]."""
+    """Returns the table of a header, which is added: [a.b], or a further one of [[a.b]]."""
     *outer, last = names
     for name in outer:
         tables = tables.setdefault(name, {})
@@ -46,7 +46,7 @@ def read_project():
 
 
 def version():
-    """Returns the version of the package, which is a constant of its code."""
+    """Returns the version of the package, which is a constant in its code."""
     code = (PYTHON / "semver_parser" / "__init__.py").read_text(encoding="utf-8")
     return re.findall(r'^__version__ = "(.*)"$', code, re.M)[0]
 
@@ -57,12 +57,12 @@ def file_name(project):
 
 
 def info_directory(project):
-    """Returns the name of the directory of a wheel that installers read."""
+    """Returns the name of the directory in a wheel that installers read."""
     return f"{file_name(project)}.dist-info"
 
 
 def metadata(project):
-    """Returns the text of the file METADATA of a wheel, and PKG-INFO of an sdist."""
+    """Returns the text of METADATA in a wheel, and of PKG-INFO in an sdist."""
     extras = project.get("optional-dependencies", {})
     lines = [
         "Metadata-Version: 2.1",
@@ -97,7 +97,7 @@ def info_files(project):
 
 
 def module_files():
-    """Yields the files of the package but the shared library: paths and bytes."""
+    """Yields the files of the package except the shared library: paths and bytes."""
     package = PYTHON / "semver_parser"
     for file in [*package.rglob("*.py"), *package.rglob("py.typed")]:
         yield file.relative_to(PYTHON).as_posix(), file.read_bytes()

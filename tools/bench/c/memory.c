@@ -1,13 +1,14 @@
-/* Finds how much memory the functions that allocate hold at most for each byte of a range, beyond
- * the first 1,000 bytes: on ranges of many forms and lengths, by each dialect and rule. Linked by
- * -Wl,--wrap=malloc,--wrap=realloc,--wrap=free, it counts all that the library allocates. */
+/* Measures how much memory the functions that allocate hold at most for each byte of a range,
+ * beyond the first 1,000 bytes: for ranges of many forms and lengths, in each dialect and with
+ * each rule. It is linked with -Wl,--wrap=malloc,--wrap=realloc,--wrap=free, and counts
+ * everything that the library allocates. */
 #include "../../../rust/capi/include/semver_parser.h"
 
 #include <stdio.h>
 #include <stdlib.h>
 #include <string.h>
 
-/* ---- memory that is counted; the size of a block is kept before it */
+/* ---- memory that is counted; the size of a block is stored before it */
 
 enum { BEFORE = 16 };
 
@@ -38,7 +39,7 @@ void *__wrap_malloc(size_t size) {
     return counted(__real_malloc(size + BEFORE), size);
 }
 
-/* While a block is moved, both are held. */
+/* While a block is moved, both the old and the new one are held. */
 void *__wrap_realloc(void *block, size_t size) {
     size_t old = size_of(block);
     void *made = counted(__real_realloc((unsigned char *)block - BEFORE, size + BEFORE), size);
@@ -52,7 +53,7 @@ void __wrap_free(void *block) {
     __real_free((unsigned char *)block - BEFORE);
 }
 
-/* ---- functions, of a range that is one; what isn't counted is made before */
+/* ---- functions, called with a valid range; what isn't counted is made before */
 
 enum { LONGEST = 132000 };
 
@@ -101,7 +102,7 @@ static bool explain(semver_parser_options options) {
     return is_error;
 }
 
-/* Functions of a set, for each byte of the range or ranges that it is of. */
+/* Functions of a set, for each byte of the range or ranges that it is made from. */
 static bool unite(semver_parser_options options) {
     semver_parser_range *made = NULL;
     if (!make_set(options)) return false;
@@ -128,7 +129,7 @@ static const struct {
     {"comparators_to_string", print_list, 1}, {"satisfies, for an error", explain, 1},
     {"range_union", unite, 2}, {"range_to_string", print_set, 1}};
 
-/* ---- ranges: so many equal terms, and this again and again; # is another number each time */
+/* ---- ranges: equal terms, repeated in equal ranges; # is another number each time */
 
 static const char *const terms[] = {"", "*", "1", "^1", "<1", ">1", "1.1.1-0", "^1.1.1-0",
     "~1.1.1-a", ">1.1.1-0", "1.1.1-0.0.0", "#", "~#", "<#", "#.1.1-0", "^#.1.1-a", ">#.1.1-0"};
@@ -154,7 +155,8 @@ static void add_term(const char *term, int number) {
     add(made);
 }
 
-/* Writes such a text, with a space or a comma between terms, and bars or this between ranges. */
+/* Writes such a text, with a space or a comma between terms, and `||` or the same between
+ * ranges. */
 static void write_text(
     const char *term, size_t count, size_t often, const char *between, bool bars) {
     length = 0;
@@ -171,7 +173,7 @@ static void write_text(
 static double rate;
 static char shown[80];
 
-/* Runs a function on the range, by each dialect and rule. */
+/* Runs a function on the range, in each dialect and with each rule. */
 static void run(size_t call, const char *term, size_t count, size_t often) {
     range.length = length;
     for (int at = 0; at < 12; at++) {

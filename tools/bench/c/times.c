@@ -1,5 +1,5 @@
-/* Times a range that is read once and asked of 1 to 6 versions, and `semver_parser_satisfies` of
- * each: the best of many passes. */
+/* Times 1 to 6 versions that are matched with a range that is parsed once, and with
+ * `semver_parser_satisfies` for each version: the best of many passes. */
 #define _POSIX_C_SOURCE 200809L
 #include "../../../rust/capi/include/semver_parser.h"
 
@@ -21,7 +21,7 @@ static double now(void) {
 static semver_parser_options cargo;
 static bool answers[MOST];
 
-/* A range that is read once, and one that is read for each version. */
+/* A range that is parsed once, and below one that is parsed for each version. */
 static bool ask_range(
     semver_parser_string range, const semver_parser_string *strings, size_t count) {
     semver_parser_range *set = NULL;
@@ -46,7 +46,7 @@ static bool ask_each(
 
 typedef bool asking(semver_parser_string range, const semver_parser_string *strings, size_t count);
 
-/* Nanoseconds that it takes to ask a range of so many versions. */
+/* Returns the nanoseconds for matching a range with this many versions. */
 static double time_of(asking *ask, const char *range, size_t count) {
     semver_parser_string strings[MOST];
     double best = 1e9;

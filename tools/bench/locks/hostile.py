@@ -1,4 +1,4 @@
-"""Lock files that are made to take long: what is usual in one, thousands of times."""
+"""Lock files that are made to take long: something usual, thousands of times."""
 
 import json
 from pathlib import Path
@@ -7,11 +7,11 @@ from typing import Any, Callable, Dict, List, Tuple
 COUNT = 3000
 
 Made = Tuple[Path, int]
-"""A lock file, and the status of a check of it."""
+"""A lock file, and the status of checking it."""
 
 
 def write_npm(folder: Path, overrides: Dict[str, str], packages: Dict[str, Any]) -> Path:
-    """Writes a package-lock.json beside a package.json with overrides. Its path."""
+    """Writes a package-lock.json next to a package.json with overrides. Returns its path."""
     own: Dict[str, Any] = {"name": "project", "version": "1.0.0", **packages.pop("")}
     manifest = {**own, "overrides": overrides}
     lock = {"lockfileVersion": 3, "packages": {"": own, **packages}}
@@ -22,7 +22,7 @@ def write_npm(folder: Path, overrides: Dict[str, str], packages: Dict[str, Any])
 
 def write_overrides(folder: Path, wanted: List[str], keys: List[str]) -> Path:
     """Writes a file of packages that require another one, each by one of some ranges, and overrides
-    of that by others. Its path."""
+    of that package with other ranges. Returns its path."""
     names = [f"package-{number}" for number in range(len(wanted))]
     packages: Dict[str, Any] = {"": {"dependencies": {name: "1.0.0" for name in names}}}
     for name, spec in zip(names, wanted):
@@ -32,20 +32,21 @@ def write_overrides(folder: Path, wanted: List[str], keys: List[str]) -> Path:
 
 
 def of_overrides(folder: Path) -> Made:
-    """Thousands of overrides of one name, each for what one package requires."""
+    """Makes thousands of overrides of one name, each for the requirement of one package."""
     versions = [f"1.0.{number}" for number in range(COUNT)]
     return write_overrides(folder, versions, versions), 0
 
 
 def of_ranges(folder: Path) -> Made:
-    """Thousands of overrides of one name by ranges, none of which is for what a package requires."""
+    """Makes thousands of overrides of one name by ranges, none of which applies to a
+    requirement."""
     wanted = [f"^2.0.0 || ~4.{number}.0" for number in range(COUNT)]
     return write_overrides(folder, wanted, [f"~1.{number}.0" for number in range(COUNT)]), 0
 
 
 def of_chain(folder: Path) -> Made:
-    """Thousands of overrides of one name, each of which puts there what the next one is for. npm
-    10.8.2 follows three of them."""
+    """Makes thousands of overrides of one name, each of which installs what the next one applies
+    to. npm 10.8.2 follows three of them."""
     packages: Dict[str, Any] = {"": {"dependencies": {"whole": "1.0.0"}}}
     packages["node_modules/whole"] = {"version": "1.0.0", "dependencies": {"part": "1.0.0"}}
     packages["node_modules/part"] = {"version": "1.0.3"}
@@ -54,8 +55,9 @@ def of_chain(folder: Path) -> Made:
 
 
 def of_copies(folder: Path) -> Made:
-    """Thousands of packages of one name with an override for each. What requires it comes after it in
-    the file, so npm has its rule from the directory that it is in."""
+    """Makes thousands of packages of one name with an override for each. The package that requires
+    such a package comes after it in the file, so npm takes its override from the directory that it
+    is in."""
     packages: Dict[str, Any] = {"": {"dependencies": {}}}
     for number in range(COUNT):
         name, version = f"package-{number}", f"1.{number}.7"

@@ -1,7 +1,10 @@
-"""Times check-lock-file on large lock files that it makes, and prints tables: for each checkout
-that is named the seconds of the processor in the best of three runs, and the most memory of these.
-In the files of the first table nothing is wrong; in those of the second one some versions are,
-which each format lists; and those of the third are made to take long.
+"""Times check-lock-file on large lock files that it makes, and prints tables. For each checkout
+that is named, they have the CPU seconds of the best of three runs, and the most memory of these
+runs.
+
+- In the files of the first table nothing is wrong.
+- In the files of the second table some versions are wrong; the table has each format.
+- The files of the third table are made to take long.
 
 usage: measure.py CHECKOUT..
 """
@@ -24,7 +27,7 @@ RUNS = 3
 
 
 class Lock(NamedTuple):
-    """A lock file that was made: what it is, where, and how many packages it has."""
+    """A lock file that was made: what it is, its path, and how many packages it has."""
 
     what: str
     path: Path
@@ -32,25 +35,25 @@ class Lock(NamedTuple):
 
 
 def write_lines(path: Path, lines: Iterable[str]) -> Path:
-    """Writes a file. Its path."""
+    """Writes a file. Returns its path."""
     path.write_text("".join(lines))
     return path
 
 
 def count_of(world: World) -> int:
-    """How many releases a world has."""
+    """Returns how many releases a world has."""
     return sum(len(each) for each in world.releases.values())
 
 
 def of_npm(folder: Path) -> Lock:
-    """A large package-lock.json."""
+    """Makes a large package-lock.json."""
     packages = files.write_npm(folder, world_of(105000, SEED), {})
     return Lock("package-lock.json", folder / "package-lock.json", packages)
 
 
 def of_overrides(folder: Path) -> Lock:
-    """A package-lock.json beside a package.json with 50 overrides, none of which is of what the
-    project requires itself."""
+    """Makes a package-lock.json next to a package.json with 50 overrides, none of them for a
+    dependency of the project itself."""
     world = world_of(2000, SEED, Shape((10, 20), 0.0, (0.1,)))
     names = [name for name in world.releases if name not in world.needs][-50:]
     overrides = {name: world.releases[name][0].version for name in names}
@@ -59,7 +62,7 @@ def of_overrides(folder: Path) -> Lock:
 
 
 def of_yarn(folder: Path, lines_of: Callable[[World], Iterable[str]], what: str) -> Lock:
-    """A large yarn.lock."""
+    """Makes a large yarn.lock."""
     world = world_of(140000, SEED)
     files.write_manifest(folder, world, {})
     path = write_lines(folder / "yarn.lock", lines_of(world))
@@ -67,17 +70,17 @@ def of_yarn(folder: Path, lines_of: Callable[[World], Iterable[str]], what: str)
 
 
 def of_yarn_1(folder: Path) -> Lock:
-    """A large yarn.lock of yarn 1."""
+    """Makes a large yarn.lock of yarn 1."""
     return of_yarn(folder, files.yarn_1_lines, "yarn.lock, yarn 1")
 
 
 def of_yarn_4(folder: Path) -> Lock:
-    """A large yarn.lock of yarn 4."""
+    """Makes a large yarn.lock of yarn 4."""
     return of_yarn(folder, files.yarn_4_lines, "yarn.lock, yarn 4")
 
 
 def of_pnpm(folder: Path) -> Lock:
-    """A large pnpm-lock.yaml."""
+    """Makes a large pnpm-lock.yaml."""
     world = world_of(12000, SEED)
     files.write_manifest(folder, world, {})
     path = write_lines(folder / "pnpm-lock.yaml", files.pnpm_lines(world))
@@ -85,7 +88,7 @@ def of_pnpm(folder: Path) -> Lock:
 
 
 def of_cargo(folder: Path) -> Lock:
-    """A large Cargo.lock. Cargo drops what nothing requires."""
+    """Makes a large Cargo.lock. Cargo removes what nothing requires."""
     world = rooted(world_of(20000, SEED))
     write_lines(folder / "Cargo.toml", files.cargo_manifest_lines(world))
     path = write_lines(folder / "Cargo.lock", files.cargo_lock_lines(world))
@@ -93,7 +96,7 @@ def of_cargo(folder: Path) -> Lock:
 
 
 def of_metadata(folder: Path) -> Lock:
-    """What `cargo metadata` prints of a large graph."""
+    """Makes the output of `cargo metadata` for a large graph."""
     path = folder / "metadata.json"
     return Lock("`cargo metadata`", path, files.write_metadata(path, world_of(20000, SEED)))
 
@@ -101,7 +104,7 @@ def of_metadata(folder: Path) -> Lock:
 MAKERS = (of_npm, of_overrides, of_yarn_1, of_yarn_4, of_pnpm, of_cargo, of_metadata)
 
 
-# Of each lock file the file that is changed, and how: ten versions, or what requires them.
+# For each lock file the file that is changed, and how: ten versions, or what requires them.
 CHANGES = {
     "package-lock.json": ("package-lock.json", rb'(\n      "version": ")[^"]+'),
     "yarn.lock": ("yarn.lock", rb'(\n  version:? "?)[0-9.]+'),
@@ -113,7 +116,7 @@ FORMATS = ("text", "tsv", "json", "github", "sarif")
 
 
 def change(path: Path) -> None:
-    """Has a lock file have versions that aren't what is required."""
+    """Changes a lock file, so that it has versions that don't satisfy what is required."""
     name, pattern = CHANGES[path.name]
     changed = path.with_name(name)
     changed.write_bytes(re.sub(pattern, rb"\g<1>0.0.1", changed.read_bytes(), count=10))
@@ -122,8 +125,8 @@ def change(path: Path) -> None:
 def run(
     program: str, path: Path, options: Sequence[str] = (), wanted: int = 0
 ) -> Optional[Tuple[float, float]]:
-    """The seconds of the processor and the megabytes that one run of a program takes, which has to
-    list nothing, or something; None of one that doesn't have the options."""
+    """Returns the CPU seconds and the megabytes of one run of a program, which has to list nothing,
+    or something; None if it doesn't have the options."""
     command = [program, *options, str(path)]
     child = subprocess.Popen(command, stdout=subprocess.PIPE, stderr=subprocess.DEVNULL)
     assert child.stdout is not None
@@ -138,7 +141,7 @@ def run(
 
 
 def cells_of(program: str, path: Path, options: Sequence[str] = (), wanted: int = 0) -> str:
-    """The cells of a program: the seconds of its best run, and the most megabytes."""
+    """Returns the cells of a program: the seconds of its best run, and the most megabytes."""
     runs = [it for _ in range(RUNS) if (it := run(program, path, options, wanted)) is not None]
     if not runs:
         return " - | - |"
@@ -147,7 +150,7 @@ def cells_of(program: str, path: Path, options: Sequence[str] = (), wanted: int 
 
 
 def main(checkouts: List[str]) -> None:
-    """Prints the table."""
+    """Prints the tables."""
     programs = [f"{checkout}/python/bin/check-lock-file" for checkout in checkouts]
     with tempfile.TemporaryDirectory() as top:
         locks = print_right(programs, Path(top))
@@ -156,8 +159,8 @@ def main(checkouts: List[str]) -> None:
 
 
 def made(make: Callable[[Path], Lock], folder: Path) -> Lock:
-    """A lock file that is made in a directory. A program begins with as much memory as what starts
-    it, so that has to be small."""
+    """Returns a lock file that is made in a directory. It is made in another process, since a
+    program begins with as much memory as the process that starts it."""
     folder.mkdir()
     with Pool(1) as other_process:
         return other_process.apply(make, (folder,))
@@ -171,7 +174,7 @@ def print_head(first: str, programs: List[str]) -> None:
 
 
 def print_right(programs: List[str], top: Path) -> List[Lock]:
-    """Prints the table of files in which nothing is wrong. The files."""
+    """Prints the table of files in which nothing is wrong. Returns the files."""
     print_head("| file | packages | MB |", programs)
     locks = []
     for number, make in enumerate(MAKERS):

@@ -1,4 +1,5 @@
-"""A world of packages that a seed makes: releases, and what each requires, all of which is met."""
+"""A world of packages made from a seed: releases with their requirements, all of which are
+satisfied."""
 
 import random
 from typing import Dict, Iterator, List, NamedTuple, Set, Tuple
@@ -7,12 +8,12 @@ Need = Tuple[str, "Release"]
 """A range, and the release that is chosen for it."""
 
 Releases = Dict[str, List["Release"]]
-"""The releases of each name, the last one first."""
+"""The releases of each name, the newest one first."""
 
 
 class Shape(NamedTuple):
-    """How many names releases require, how often that is an older release, and which names: of the
-    first ones by a power above 1 more, and below 1 fewer."""
+    """How many names releases require, how often they require an older release, and which names: a
+    power above 1 prefers the first names, and one below 1 the last."""
 
     counts: Tuple[int, ...] = (0, 1, 2, 2, 3, 5)
     older: float = 0.2
@@ -20,7 +21,7 @@ class Shape(NamedTuple):
 
 
 class Release(NamedTuple):
-    """A release of a package: its name, its version, and what it requires, by names."""
+    """A release of a package: its name, its version, and its requirements by name."""
 
     name: str
     version: str
@@ -35,13 +36,13 @@ class World(NamedTuple):
     needs: Dict[str, Need]
 
     def all_releases(self) -> Iterator[Release]:
-        """Each release."""
+        """Yields each release."""
         for releases in self.releases.values():
             yield from releases
 
 
 def range_for(release: Release, chance: random.Random) -> str:
-    """A range that a release satisfies: one of a few, as most packages have them."""
+    """Returns a range that a release satisfies, in one of the forms that most packages use."""
     major, minor, _ = release.version.split(".")
     ranges = (f"^{release.version}", f"^{major}.{minor}.0", f"^{major}.0.0", f"~{major}.{minor}.0")
     return chance.choices((*ranges, f"{major}.x"), (4, 3, 3, 1, 1))[0]
@@ -50,7 +51,7 @@ def range_for(release: Release, chance: random.Random) -> str:
 def needs_of(
     count: int, names: List[str], releases: Releases, shape: Shape, chance: random.Random
 ) -> Dict[str, Need]:
-    """What is required of some names."""
+    """Returns requirements of some names."""
     needs: Dict[str, Need] = {}
     for _ in range(count if names else 0):
         name = names[int(len(names) * chance.random() ** chance.choice(shape.powers))]
@@ -61,7 +62,7 @@ def needs_of(
 
 
 def world_of(count: int, seed: int, shape: Shape = Shape()) -> World:
-    """A world of so many names, each of which requires some of those before it."""
+    """Returns a world with `count` names, each of which requires some of those before it."""
     chance = random.Random(seed)
     names: List[str] = []
     releases: Releases = {}
@@ -82,8 +83,8 @@ def world_of(count: int, seed: int, shape: Shape = Shape()) -> World:
 
 
 def rooted(world: World) -> World:
-    """A world of which the project requires the newest release of each name that nothing else
-    requires, without the older ones that nothing requires."""
+    """Returns a world in which the project also requires the newest release of each name that
+    nothing else requires, and from which the older releases that nothing requires are removed."""
     all_needs = (it for each in world.all_releases() for _, it in each.needs.values())
     required = {(it.name, it.version) for it in all_needs}
     newest = (each[0] for each in world.releases.values())

@@ -1,14 +1,14 @@
-//! What has to hold before anything is timed: each side reads the same texts, and its calls answer
-//! the same numbers.
+//! Checks what has to hold before anything is timed: each side accepts the same texts, and its
+//! calls return the same numbers.
 
 use crate::calls::{
     here_filter, here_has, here_read_kept, semver_filter, semver_read_kept, Call, REFUSED,
 };
 use crate::rows::Row;
 
-/// Fails unless here and the crate `semver-parser`, or `semver` where the row has no call of that,
-/// answer alike on each text of a row, and read each, or none where the row's texts are to be
-/// refused.
+/// Checks that this library and the crate `semver-parser`, or `semver` if the row has no call of
+/// that, return the same for each text of a row, and accept each, or none if the row's texts are
+/// invalid.
 pub fn check_row(row: &Row, texts: &[&str]) -> Result<(), String> {
     for text in texts {
         let other = row.parser.unwrap_or(row.semver);
@@ -22,8 +22,8 @@ pub fn check_row(row: &Row, texts: &[&str]) -> Result<(), String> {
     Ok(())
 }
 
-/// Fails unless each range alone keeps as many of the versions here as by the crate `semver`, of
-/// those that are read and of those that are read as far as is needed.
+/// Checks that each range keeps as many of the versions here as with the crate `semver`, both if
+/// the versions are parsed before and if they are parsed as far as needed.
 pub fn check_filter(ranges: &str, versions: &str) -> Result<(), String> {
     for range in ranges.lines() {
         let semver = semver_filter(range, versions);
@@ -38,20 +38,20 @@ pub fn check_filter(ranges: &str, versions: &str) -> Result<(), String> {
     Ok(())
 }
 
-/// Fails unless as many of the versions are in the set of each range here as match it by the crate
-/// `semver`.
+/// Checks that the set of each range here contains as many of the versions as match the range in
+/// the crate `semver`.
 pub fn check_has(ranges: &str, versions: &str) -> Result<(), String> {
     for range in ranges.lines() {
         let (here, semver) = (here_has(range, versions), semver_filter(range, versions));
         if here != semver || here == REFUSED {
             let (here, semver) = (answer(here), answer(semver));
-            return Err(format!("sets: {range:?}: {here} are in it, and {semver} match by semver"));
+            return Err(format!("sets: {range:?}: {here} are in it, but {semver} match in semver"));
         }
     }
     Ok(())
 }
 
-/// How many of the texts a call reads.
+/// Returns how many of the texts a call accepts.
 pub fn count_read(call: Call, texts: &[&str]) -> usize {
     texts.iter().filter(|text| call(text) != REFUSED).count()
 }

@@ -1,5 +1,5 @@
-//! The calls that are compared. Each answers a number that depends on all that was read, and
-//! `REFUSED` where a text isn't read.
+//! The calls that are compared. Each returns a number that depends on everything that was parsed,
+//! or `REFUSED` if a text is invalid.
 
 use here::filters::filter_text;
 use here::proved::tool_ranges::cargo;
@@ -9,13 +9,13 @@ use semver::{Version, VersionReq};
 use semver_parser::{version, RangeSet};
 use std::hint::black_box;
 
-/// The answer where a text isn't read.
+/// The result for an invalid text.
 pub const REFUSED: u64 = u64::MAX;
 
-/// Reads one text.
+/// Parses one text.
 pub type Call = fn(&str) -> u64;
 
-/// A version here: the sum of its numbers and of the counts of its identifiers.
+/// Parses a version here. Returns the sum of its numbers and of the counts of its identifiers.
 pub fn here_version(text: &str) -> u64 {
     here::version::parse(text).map_or(REFUSED, |version| {
         let identifiers = (version.pre.len() + version.build.len()) as u64;
@@ -23,7 +23,7 @@ pub fn here_version(text: &str) -> u64 {
     })
 }
 
-/// A version of the crate `semver-parser`: the same sum.
+/// Parses a version with the crate `semver-parser`. Returns the same sum.
 pub fn parser_version(text: &str) -> u64 {
     version::parse(text).map_or(REFUSED, |version| {
         let identifiers = (version.pre.len() + version.build.len()) as u64;
@@ -31,8 +31,8 @@ pub fn parser_version(text: &str) -> u64 {
     })
 }
 
-/// A version of the crate `semver`, which keeps a pre-release as one text, and a build too: the sum
-/// of its numbers and of the lengths of both.
+/// Parses a version with the crate `semver`, which keeps a pre-release as one text, and a build,
+/// too. Returns the sum of its numbers and of the lengths of both.
 pub fn semver_version(text: &str) -> u64 {
     Version::parse(text).map_or(REFUSED, |version| {
         let bytes = (version.pre.len() + version.build.len()) as u64;
@@ -40,58 +40,58 @@ pub fn semver_version(text: &str) -> u64 {
     })
 }
 
-/// 1 where a text is a version here, by the call that only asks so. A version that was read is
+/// Returns 1 if a text is a version here, by the call that only checks this. The parsed version is
 /// dropped at once.
 pub fn here_is_version(text: &str) -> u64 {
     is_read(matches!(here::version::read(text), Ok(Some(_))))
 }
 
-/// 1 where a text is a version to the crate `semver-parser`.
+/// Returns 1 if a text is a version in the crate `semver-parser`.
 pub fn parser_is_version(text: &str) -> u64 {
     is_read(version::parse(text).is_ok())
 }
 
-/// 1 where a text is a version to the crate `semver`.
+/// Returns 1 if a text is a version in the crate `semver`.
 pub fn semver_is_version(text: &str) -> u64 {
     is_read(Version::parse(text).is_ok())
 }
 
-/// A range set here, in Cargo mode: how many comparators it has.
+/// Parses a range set here, in Cargo mode. Returns how many comparators it has.
 pub fn here_range(text: &str) -> u64 {
     here::RangeSet::parse(text, Compat::Cargo).map_or(REFUSED, |set| {
         set.ranges.iter().map(|range| range.comparator_set.len() as u64).sum()
     })
 }
 
-/// A range set of the crate `semver-parser`, in Cargo mode: the same count.
+/// Parses a range set with the crate `semver-parser`, in Cargo mode. Returns the same count.
 pub fn parser_range(text: &str) -> u64 {
     RangeSet::parse(text, semver_parser::Compat::Cargo).map_or(REFUSED, |set| {
         set.ranges.iter().map(|range| range.comparator_set.len() as u64).sum()
     })
 }
 
-/// A requirement of the crate `semver`: how many comparators it has, before any rewriting.
+/// Parses a requirement with the crate `semver`. Returns how many comparators it has, as written.
 pub fn semver_range(text: &str) -> u64 {
     VersionReq::parse(text).map_or(REFUSED, |requirement| requirement.comparators.len() as u64)
 }
 
-/// 1 where a text is a requirement here, as Cargo reads it. Its comparators are made.
+/// Returns 1 if a text is a requirement in Cargo's dialect here. Its comparators are made.
 pub fn here_requirement(text: &str) -> u64 {
     is_read(cargo::rewrite(text).is_ok())
 }
 
-/// 1 where a requirement means a version here, as Cargo reads both, and else 0: a text has both,
+/// Returns whether a version satisfies a requirement in Cargo's dialect here. A text has both,
 /// separated by a tab.
 pub fn here_meets(text: &str) -> u64 {
     satisfies_as(Dialect::Cargo, text)
 }
 
-/// The same as npm reads both.
+/// Returns the same in npm's dialect.
 pub fn here_meets_npm(text: &str) -> u64 {
     satisfies_as(Dialect::Npm, text)
 }
 
-/// The same in a dialect. Each call has its own copy, as where a dialect is written out.
+/// Returns the same in a dialect. Each call has its own copy, as if the dialect were written out.
 #[inline(always)]
 fn satisfies_as(dialect: Dialect, text: &str) -> u64 {
     let satisfied = text
@@ -100,7 +100,7 @@ fn satisfies_as(dialect: Dialect, text: &str) -> u64 {
     satisfied.map_or(REFUSED, u64::from)
 }
 
-/// A requirement asked of a version by the crate `semver`, as by `here_meets`.
+/// Returns the same with the crate `semver`, as `here_meets` does.
 pub fn semver_meets(text: &str) -> u64 {
     let read = text.split_once('\t').and_then(|(range, version)| {
         Some((VersionReq::parse(range).ok()?, Version::parse(version).ok()?))
@@ -108,7 +108,7 @@ pub fn semver_meets(text: &str) -> u64 {
     read.map_or(REFUSED, |(requirement, version)| u64::from(requirement.matches(&version)))
 }
 
-/// 1 where a text has a set of versions here, in Cargo mode and as stated. The set is made.
+/// Returns 1 if a text is a range here, in Cargo mode and with the default rule. The set is made.
 pub fn here_set(text: &str) -> u64 {
     is_read(set_of(text).is_some())
 }
@@ -118,18 +118,19 @@ fn set_of(text: &str) -> Option<VersionSet> {
     sets::parse(text, meaning).ok()
 }
 
-/// 1 where a text is a range set to the crate `semver-parser`, in Cargo mode.
+/// Returns 1 if a text is a range set in the crate `semver-parser`, in Cargo mode.
 pub fn parser_is_range(text: &str) -> u64 {
     is_read(RangeSet::parse(text, semver_parser::Compat::Cargo).is_ok())
 }
 
-/// 1 where a text is a requirement to the crate `semver`.
+/// Returns 1 if a text is a requirement in the crate `semver`.
 pub fn semver_is_range(text: &str) -> u64 {
     is_read(VersionReq::parse(text).is_ok())
 }
 
-/// Versions read, and asked of each whether it is in the set of each of the ranges here, a line
-/// each, in Cargo mode and as stated: how often one is.
+/// Parses versions, and checks for each of the ranges, one on each line, whether its set here
+/// contains each version, in Cargo mode and with the default rule. Returns how often one is
+/// contained.
 pub fn here_has(ranges: &str, versions: &str) -> u64 {
     read_and_ask(ranges, versions).unwrap_or(REFUSED)
 }
@@ -148,7 +149,8 @@ fn read_here(versions: &str) -> Option<Vec<here::version::Version>> {
     versions.lines().map(|line| here::version::parse(line).ok()).collect()
 }
 
-/// How often of so many times the set of a text is within one of the same text.
+/// Checks `times` times whether the set of a text is a subset of another set of the same text.
+/// Returns how often it is.
 pub fn here_within(text: &str, times: u64) -> u64 {
     let (Some(set), Some(other)) = (set_of(text), set_of(text)) else {
         return REFUSED;
@@ -156,7 +158,8 @@ pub fn here_within(text: &str, times: u64) -> u64 {
     (0..times).map(|_| u64::from(black_box(&set).is_subset(&other) == Ok(true))).sum()
 }
 
-/// Versions read and filtered by each of the ranges here, a line each: how many are kept in all.
+/// Parses versions, and filters them by each of the ranges here, one on each line. Returns how many
+/// are kept in total.
 pub fn here_filter(ranges: &str, versions: &str) -> u64 {
     read_and_filter_here(ranges, versions).unwrap_or(REFUSED)
 }
@@ -170,7 +173,7 @@ fn read_and_filter_here(ranges: &str, versions: &str) -> Option<u64> {
     Some(kept)
 }
 
-/// The same work by the crate `semver`.
+/// Does the same with the crate `semver`.
 pub fn semver_filter(ranges: &str, versions: &str) -> u64 {
     read_and_filter(ranges, versions).unwrap_or(REFUSED)
 }
@@ -187,8 +190,8 @@ fn read_and_filter(ranges: &str, versions: &str) -> Result<u64, semver::Error> {
     Ok(kept)
 }
 
-/// Versions, a line each, of which only those are read whole that a range means here: how many
-/// these are.
+/// Filters versions, one on each line, and parses only those completely that the range contains.
+/// Returns how many these are.
 pub fn here_read_kept(range: &str, versions: &str) -> u64 {
     read_kept(range, versions).map_or(REFUSED, |kept| kept.len() as u64)
 }
@@ -201,7 +204,8 @@ fn read_kept(range: &str, versions: &str) -> Option<Vec<here::version::Version>>
     kept.map(|borrowed| borrowed.version()).collect::<Result<_, _>>().ok()
 }
 
-/// The same work by the crate `semver`: each version is let go at once that the range doesn't mean.
+/// Does the same with the crate `semver`. Each version that the range doesn't contain is dropped at
+/// once.
 pub fn semver_read_kept(range: &str, versions: &str) -> u64 {
     VersionReq::parse(range).map_or(REFUSED, |requirement| {
         let read = versions.lines().filter_map(|line| Version::parse(line).ok());

@@ -1,6 +1,6 @@
-//! Numbers as they stand in a table.
+//! Numbers as they are printed in a table.
 
-/// A number with a comma before each three digits from its end: `10,000`.
+/// Returns a number with commas between groups of three digits, such as `10,000`.
 pub fn grouped(number: u64) -> String {
     let digits = number.to_string();
     let mut text = String::new();

@@ -1,4 +1,5 @@
-//! How the work grows with a text: the instructions of one call, counted by callgrind.
+//! How the work grows with the length of a text: the instructions of one call, counted by
+//! callgrind.
 
 use crate::calls::{
     here_meets_npm, here_range, here_set, here_version, here_within, Call, REFUSED,
@@ -7,7 +8,8 @@ use crate::cells::grouped;
 use std::env;
 use std::process::Command;
 
-/// A text of so many elements, and what is called so often on it: whether no call refused it.
+/// A text with this many elements, and calls with it that are repeated. The calls return whether
+/// none rejected it.
 struct Form {
     name: &'static str,
     text: fn(usize) -> String,
@@ -64,7 +66,7 @@ const FORMS: [Form; 9] = [
 
 const COUNTS: [usize; 4] = [10, 1_000, 10_000, 100_000];
 
-/// Prints the instructions of a call on each form of text, at each count of elements, and the
+/// Prints the instructions of a call for each form of text and each count of elements, and the
 /// instructions for one element.
 pub fn print_table() -> Result<(), String> {
     print!("| instructions for a text of | 10 | for each | 1,000 | for each ");
@@ -81,7 +83,7 @@ pub fn print_table() -> Result<(), String> {
     Ok(())
 }
 
-/// Makes a text of a form, and calls on it what that form calls, so often: what callgrind is run on.
+/// Makes a text of a form, and makes the calls of that form this many times, for callgrind.
 pub fn run(name: &str, count: &str, calls: &str) -> Result<(), String> {
     let form = FORMS.iter().find(|form| form.name == name).ok_or("no such form")?;
     let count = count.parse().map_err(|_| "no count")?;
@@ -93,17 +95,17 @@ pub fn run(name: &str, count: &str, calls: &str) -> Result<(), String> {
     }
 }
 
-/// Whether a call reads a text each of so many times.
+/// Returns whether a call accepts a text each time.
 fn reads(call: Call, text: &str, times: u64) -> bool {
     (0..times).all(|_| call(text) != REFUSED)
 }
 
-/// The instructions of one call: what a run with it takes more than a run without.
+/// Returns the instructions of one call: the difference between a run with it and one without.
 fn instructions(name: &str, count: usize) -> Result<u64, String> {
     Ok(counted(name, count, "1")? - counted(name, count, "0")?)
 }
 
-/// The instructions of this program under callgrind.
+/// Returns the instructions of this program under callgrind.
 fn counted(name: &str, count: usize, calls: &str) -> Result<u64, String> {
     let program = env::current_exe().map_err(|error| error.to_string())?;
     let run = Command::new("valgrind")
@@ -126,7 +128,7 @@ fn joined(element: &str, between: &str, count: usize) -> String {
     vec![element; count].join(between)
 }
 
-/// Ranges of which no two meet: `~0.1.0 || ~1.1.0`, and so on.
+/// Returns ranges that are pairwise disjoint: `~0.1.0 || ~1.1.0`, and so on.
 fn distinct_ranges(count: usize) -> String {
     let ranges: Vec<String> = (0..count).map(|major| format!("~{major}.1.0")).collect();
     ranges.join(" || ")

@@ -1,10 +1,11 @@
 //! Measures this repository's calls.
 //!
-//! `bench` times them beside those of the Rust crates, on texts that it makes, and whole runs of
-//! the program `release-filter` beside those of `filter-by-semver`. `bench seed N` does so on the
-//! texts of another seed. `bench texts` and `bench texts N` write such texts down, to be looked at,
-//! `bench growth` counts the instructions of calls on texts of growing size, and `bench npm` times
-//! ranges of npm's dialect beside node-semver.
+//! - `bench` compares their times with those of the Rust crates, on texts that it makes, and the
+//!   times of whole runs of `release-filter` with those of `filter-by-semver`.
+//! - `bench seed N` does the same with the texts of another seed.
+//! - `bench texts` and `bench texts N` write such texts to files, to be looked at.
+//! - `bench growth` counts the instructions of calls on texts of growing size.
+//! - `bench npm` compares the times for ranges in npm's dialect with node-semver's.
 
 mod agreement;
 mod calls;
@@ -26,7 +27,7 @@ mod timing;
 
 use std::process::ExitCode;
 
-/// The seed of the texts where none is given.
+/// The default seed of the texts.
 const SEED: u64 = 1;
 
 fn main() -> ExitCode {

@@ -1,4 +1,4 @@
-//! The row of npm's dialect: ranges, each asked of one version, here and by node-semver.
+//! The row of npm's dialect: ranges, each matched with one version, here and in node-semver.
 
 use crate::calls::{here_meets_npm, REFUSED};
 use crate::cells::grouped;
@@ -13,26 +13,26 @@ use std::process::Command;
 /// How many texts are timed at once.
 const STRETCH: usize = 1_000;
 
-/// How often node-semver is asked of all.
+/// How many passes node-semver makes.
 const PASSES: &str = "30";
 
-/// Where the pairs are written that node-semver reads.
+/// The file with the pairs for node-semver.
 const PAIRS: &str = "target/asked-npm.txt";
 
-/// Checks that both sides agree on how many ranges have their version, times them, and prints a
+/// Checks that both sides agree on how many ranges contain their version, times them, and prints a
 /// table.
 pub fn print_table(seed: u64) -> Result<(), String> {
     let made = Make::AskedNpm.texts(seed, COUNT);
     let pairs: Vec<&str> = made.lines().collect();
     if pairs.iter().any(|pair| here_meets_npm(pair) == REFUSED) {
-        return Err("a pair was refused here".to_string());
+        return Err("a pair was rejected here".to_string());
     }
     let met: u64 = pairs.iter().map(|pair| here_meets_npm(pair)).sum();
     fs::create_dir_all("target").map_err(|error| error.to_string())?;
     texts::write(Path::new(PAIRS), &made)?;
     let (node, node_met) = by_node_semver()?;
     if met != node_met {
-        return Err(format!("{met} ranges have their version, and {node_met} by node-semver"));
+        return Err(format!("{met} ranges contain their version, but {node_met} in node-semver"));
     }
     let stretches: Vec<&[&str]> = pairs.chunks(STRETCH).collect();
     let here = best(&stretches, &[side(here_meets_npm)])[0] / pairs.len() as f64;
@@ -43,7 +43,7 @@ pub fn print_table(seed: u64) -> Result<(), String> {
     Ok(())
 }
 
-/// The nanoseconds of node-semver for a pair, and how many ranges have their version by it.
+/// Returns node-semver's nanoseconds for a pair, and how many ranges contain their version in it.
 fn by_node_semver() -> Result<(f64, u64), String> {
     let run = Command::new("node")
         .args(["node-semver.js", PAIRS, PASSES])

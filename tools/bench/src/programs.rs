@@ -1,5 +1,5 @@
-//! The table of whole runs: the program `release-filter`, as cargo builds it and as the kit does,
-//! beside the same filter over the crate `semver`.
+//! The table of whole runs: `release-filter` as cargo builds it and as the kit does, compared with
+//! the same filter with the crate `semver`.
 
 use crate::cells::grouped;
 use crate::generation::Make;
@@ -10,7 +10,7 @@ use std::fs::{self, File};
 use std::path::{Path, PathBuf};
 use std::process::{Command, Stdio};
 
-/// The program that cargo built, from the directory `bench`.
+/// The program that cargo built, relative to the directory `bench`.
 const BY_CARGO: &str = "target/crate/release/release-filter";
 
 /// The one that the kit built, if it did.
@@ -23,9 +23,9 @@ const LINES: usize = 1_000_000;
 const MAKES: [(&str, Make); 2] =
     [("plain versions", Make::Plain), ("versions, plain and with identifiers", Make::Mixed)];
 
-/// The arguments here, options and a range, and those of the program over the crate `semver`,
-/// options and a requirement. Each is here twice: in the port's Cargo mode, and below as Cargo
-/// itself reads it.
+/// The arguments here, options and a range, and those of the program with the crate `semver`,
+/// options and a requirement. Each is here twice: in the crate's Cargo mode, and below in Cargo's
+/// own dialect.
 const ARGUMENTS: [(&[&str], &str, &[&str], &str); 8] = [
     (&["--dialect", "crate-cargo"], "^1.2", &[], "^1.2"),
     (&[], "^1.2", &[], "^1.2"),
@@ -37,7 +37,7 @@ const ARGUMENTS: [(&[&str], &str, &[&str], &str); 8] = [
     (&["--highest"], "^1.2", &["--highest"], "^1.2"),
 ];
 
-/// The programs with an argument that means the same to each.
+/// The programs, with arguments that mean the same to each.
 struct Sides<'a> {
     here: Filter<'a>,
     by_kit: Option<Filter<'a>>,
@@ -78,18 +78,18 @@ pub fn print_table(seed: u64) -> Result<(), String> {
     fs::remove_file(&lines).map_err(|error| format!("{}: {error}", lines.display()))
 }
 
-/// The directory of this program, in which the other one is, too.
+/// Returns the directory of this program, which also has the other one.
 fn folder() -> Result<PathBuf, String> {
     let program = env::current_exe().map_err(|error| error.to_string())?;
     program.parent().map(Path::to_path_buf).ok_or("this program has no directory".to_string())
 }
 
-/// Lines with a `v` before each, which are not versions to Cargo.
+/// Returns lines with a `v` before each version, which makes them invalid in Cargo's dialect.
 fn tags(versions: &str) -> String {
     versions.lines().flat_map(|line| ["v", line, "\n"]).collect()
 }
 
-/// The row of one range over lines, of which some are kept, or none.
+/// Prints the row of one range for lines of which some are kept, or none.
 fn print_row(title: &str, sides: &Sides, lines: &Path, is_kept: bool) -> Result<(), String> {
     let here = &sides.here;
     let kept = here.output(lines)?;
@@ -97,7 +97,7 @@ fn print_row(title: &str, sides: &Sides, lines: &Path, is_kept: bool) -> Result<
     for other in others.into_iter().flatten() {
         if kept.is_empty() == is_kept || kept != other.output(lines)? {
             let range = here.range;
-            return Err(format!("{title}, {range}: the programs write something else than wanted"));
+            return Err(format!("{title}, {range}: the programs don't write what is expected"));
         }
     }
     let filters = [Some(here)].into_iter().chain(others).flatten();
@@ -115,7 +115,7 @@ fn print_row(title: &str, sides: &Sides, lines: &Path, is_kept: bool) -> Result<
 }
 
 impl Filter<'_> {
-    /// What the program writes of the lines. Its status is 1 where that is nothing.
+    /// Returns what the program writes for the lines. Its status has to be 1 if that is nothing.
     fn output(&self, lines: &Path) -> Result<Vec<u8>, String> {
         let named = |error| format!("{}: {error}", self.program.display());
         let run = self.command(lines).stderr(Stdio::inherit()).output().map_err(named)?;
@@ -130,7 +130,7 @@ impl Filter<'_> {
         Box::new(|lines| self.pass(lines))
     }
 
-    /// One run whose output and report go nowhere. It answers the status.
+    /// Runs the program once, without its output and messages. Returns the status.
     fn pass(&self, lines: &Path) -> u64 {
         let run = self.command(lines).stdout(Stdio::null()).stderr(Stdio::null()).status();
         run.ok().and_then(|status| status.code()).map_or(u64::MAX, |code| code as u64)

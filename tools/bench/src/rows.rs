@@ -1,4 +1,4 @@
-//! The rows whose texts are read one by one, and what reads them.
+//! The rows whose texts are parsed one by one, and the calls that parse them.
 
 use crate::calls::{
     here_is_version, here_meets, here_range, here_requirement, here_set, here_version,
@@ -7,7 +7,7 @@ use crate::calls::{
 };
 use crate::generation::Make;
 
-/// What a row is made of: texts, and the calls that are compared on them.
+/// A row: its texts, and the calls that are compared.
 pub struct Row {
     pub title: &'static str,
     pub make: Make,
@@ -47,7 +47,7 @@ pub const ROWS: [Row; 14] = [
 ];
 
 impl Row {
-    /// Whether its texts are to be refused.
+    /// Returns whether its texts are invalid.
     pub fn is_refused(&self) -> bool {
         matches!(self.make, Make::Refused)
     }
@@ -61,12 +61,12 @@ const fn ranges(title: &'static str, make: Make) -> Row {
     Row { title, make, here: here_range, parser: Some(parser_range), semver: semver_range }
 }
 
-/// A row of texts that are made into sets of versions here, and read there.
+/// Returns a row of texts that become sets of versions here, and are parsed by the crates.
 const fn sets(title: &'static str, make: Make) -> Row {
     Row { title, make, here: here_set, parser: Some(parser_is_range), semver: semver_is_range }
 }
 
-/// A row of requirements, as Cargo reads them, each asked of a version beside it.
+/// Returns a row of requirements in Cargo's dialect, each with a version to match.
 const fn pairs(title: &'static str, make: Make) -> Row {
     Row { title, make, here: here_meets, parser: None, semver: semver_meets }
 }

@@ -10,13 +10,13 @@ use crate::rows::{Row, ROWS};
 use crate::texts::{self, COUNT};
 use crate::timing::{best, Side};
 
-/// How many texts are timed at once, where they are read one by one.
+/// How many texts are timed at once, if they are parsed one by one.
 const STRETCH: usize = 1_000;
 
 /// How many versions are filtered at once.
 const FILTERED: usize = 10_000;
 
-/// By how many ranges versions are filtered as they are read.
+/// The number of ranges by which versions are filtered while they are parsed.
 const READ_BY: usize = 10;
 
 /// Nanoseconds for a text.
@@ -52,7 +52,7 @@ pub fn print_table(seed: u64) -> Result<(), String> {
     Ok(())
 }
 
-/// The times of a row whose texts are read one by one.
+/// Returns the times of a row whose texts are parsed one by one.
 fn row_times(row: &Row, texts: &[&str]) -> Times {
     let stretches: Vec<&[&str]> = texts.chunks(STRETCH).collect();
     let calls = [Some(row.here), Some(row.semver), row.parser];
@@ -69,12 +69,13 @@ fn row_times(row: &Row, texts: &[&str]) -> Times {
     }
 }
 
-/// A side that reads texts one by one.
+/// Returns a side that parses texts one by one.
 pub fn side<'a>(call: Call) -> Side<'a, &'a [&'a str]> {
     Box::new(move |texts| texts.iter().fold(0, |sum: u64, text| sum.wrapping_add(call(text))))
 }
 
-/// The times of a filter of texts, which reads each as far as it has to: the mean of some ranges.
+/// Returns the times of a filter that parses each version as far as needed: the mean for some
+/// ranges.
 fn reading_times(filters: &str, released: &str) -> Times {
     let ranges: Vec<&str> = filters.lines().take(READ_BY).collect();
     let by_each = |filter: fn(&str, &str) -> u64| -> Side<'_, String> {
@@ -86,7 +87,7 @@ fn reading_times(filters: &str, released: &str) -> Times {
     filtering("reading and filtering at once,", best[0] / count, best[1] / count, released)
 }
 
-/// The times of the filter: versions read and filtered by the first range, and a filter alone.
+/// Returns two times: versions that are parsed and filtered by the first range, and only filtering.
 fn filter_times(filters: &str, released: &str) -> [Times; 2] {
     let (first, further) = first_and_further(here_filter, filters, released);
     [
@@ -95,15 +96,15 @@ fn filter_times(filters: &str, released: &str) -> [Times; 2] {
     ]
 }
 
-/// The times of asking whether versions, with pre-releases, are in a set.
+/// Returns the time for checking whether versions, with pre-releases, are in a set.
 fn has_times(filters: &str, mixed: &str) -> Times {
     let (_, further) = first_and_further(here_has, filters, mixed);
     filtering("asking whether they are in a set,", further[0], further[1], mixed)
 }
 
-/// The times of versions that are read and asked by the first range, here and by the crate
-/// `semver`, and the mean of what each further range takes more. The crate `semver-parser` doesn't
-/// tell whether a version meets a range.
+/// Returns the times for versions that are parsed and matched with the first range, here and with
+/// the crate `semver`, and the mean of the additional time for each further range. The crate
+/// `semver-parser` has no call for whether a version satisfies a range.
 fn first_and_further(
     here: fn(&str, &str) -> u64,
     ranges: &str,
@@ -121,7 +122,7 @@ fn first_and_further(
     ([best[0], best[1]], [(best[2] - best[0]) / further, (best[3] - best[1]) / further])
 }
 
-/// A row of filters, of the nanoseconds for all versions.
+/// Returns a row for filters, from the nanoseconds for all versions.
 fn filtering(title: &str, here: f64, semver: f64, released: &str) -> Times {
     let versions = released.lines().count();
     Times {
@@ -133,7 +134,7 @@ fn filtering(title: &str, here: f64, semver: f64, released: &str) -> Times {
     }
 }
 
-/// The lines, so many in a text.
+/// Returns the lines, `FILTERED` in each text.
 fn stretches(lines: &str) -> Vec<String> {
     let lines: Vec<&str> = lines.split_inclusive('\n').collect();
     lines.chunks(FILTERED).map(|lines| lines.concat()).collect()

@@ -1,25 +1,25 @@
-//! The texts that are made, and the file of those that are stored: `texts/README.md` says what they
-//! are.
+//! The texts that are made, and the file of the stored ones; `texts/README.md` describes them.
 
 use crate::generation::Make;
 use std::fs;
 use std::path::Path;
 
-/// How many distinct texts a row is timed on: too many for a processor to remember their branches.
+/// How many different texts a row is timed with: too many for a processor to remember their
+/// branches.
 pub const COUNT: usize = 100_000;
 
-/// The stored file of the ranges that versions are filtered by.
+/// The file with the ranges that versions are filtered by.
 const FILTERS: &str = "texts/filters.txt";
 
-/// Where texts are written to be looked at.
+/// The directory that texts are written to, to be looked at.
 const FOLDER: &str = "target/texts";
 
-/// The ranges that versions are filtered by, one a line.
+/// Returns the ranges that versions are filtered by, one on each line.
 pub fn filters() -> Result<String, String> {
     fs::read_to_string(FILTERS).map_err(|error| format!("{FILTERS}: {error}"))
 }
 
-/// Writes the texts of each make into a file.
+/// Writes the texts of each make to a file.
 pub fn write_all(seed: u64) -> Result<(), String> {
     fs::create_dir_all(FOLDER).map_err(|error| format!("{FOLDER}: {error}"))?;
     for (name, make) in Make::ALL {

@@ -1,23 +1,23 @@
-//! How long texts take.
+//! Measures how long texts take.
 
 use std::time::{Duration, Instant};
 
-/// What one side does with a stretch of the texts. It answers the sum of the calls' answers, so
-/// that no call is left out.
+/// What one side does with a group of texts. It returns the sum of the calls' results, so that no
+/// call is optimized away.
 pub type Side<'a, Stretch> = Box<dyn Fn(&Stretch) -> u64 + 'a>;
 
 /// How long the passes of a row are repeated.
 const REPEATED: Duration = Duration::from_secs(10);
 
-/// The least time that a side took for a stretch, and what it answered each time.
+/// The shortest time that a side took for a group, and the sum that it returned each time.
 struct Best {
     nanoseconds: f64,
     sum: Option<u64>,
 }
 
-/// The nanoseconds of each side for all texts. The sides run in turn, each over all stretches,
-/// again and again, and of each stretch the best time counts: a whole pass is too long to be left
-/// alone by the machine's other work.
+/// Returns each side's nanoseconds for all texts. The sides take turns, each going over all groups,
+/// again and again. For each group the best time counts, because a whole pass is too long to be
+/// undisturbed by the machine's other work.
 pub fn best<Stretch>(stretches: &[Stretch], sides: &[Side<'_, Stretch>]) -> Vec<f64> {
     let untimed = || stretches.iter().map(|_| Best { nanoseconds: f64::INFINITY, sum: None });
     let mut bests: Vec<Vec<Best>> = sides.iter().map(|_| untimed().collect()).collect();
@@ -33,12 +33,12 @@ pub fn best<Stretch>(stretches: &[Stretch], sides: &[Side<'_, Stretch>]) -> Vec<
 }
 
 impl Best {
-    /// Times a stretch once more. One that answers another sum than before stops it all.
+    /// Times a group once more. Panics if the sum differs from the one before.
     fn time(&mut self, pass: impl Fn() -> u64) {
         let start = Instant::now();
         let sum = pass();
         let nanoseconds = start.elapsed().as_nanos() as f64;
-        assert_eq!(sum, *self.sum.get_or_insert(sum), "a pass answered another sum");
+        assert_eq!(sum, *self.sum.get_or_insert(sum), "a pass returned a different sum");
         self.nanoseconds = self.nanoseconds.min(nanoseconds);
     }
 }

@@ -1,17 +1,17 @@
-//! What `release-filter` is timed beside: the same filter over the crate `semver`.
+//! The program that `release-filter` is compared with: the same filter with the crate `semver`.
 //!
-//! `filter-by-semver [--pre-stated] [--highest] REQUIREMENT` copies those lines of standard input
-//! to standard output, as they are, whose version is a release that satisfies the requirement; with
-//! `--pre-stated` pre-releases too, by the rule of the crate; with `--highest` the one of the
-//! highest version alone. Its status is 0 where a line was written, 1 where none was, and 2 after
-//! an error.
+//! `filter-by-semver [--pre-stated] [--highest] REQUIREMENT` copies the lines of standard input to
+//! standard output whose version is a release that satisfies the requirement. With `--pre-stated`
+//! it also copies pre-releases, by the rule of the crate. With `--highest` it copies only the line
+//! with the highest version. It exits with 0 if a line was written, with 1 if none was, and with 2
+//! after an error.
 
 use semver::{Prerelease, Version, VersionReq};
 use std::error::Error;
 use std::io::{self, BufRead, BufWriter, Write};
 use std::process::ExitCode;
 
-/// What the arguments ask for.
+/// What the arguments require.
 struct Wanted {
     requirement: VersionReq,
     has_pre_releases: bool,
@@ -41,7 +41,7 @@ fn wanted() -> Result<Wanted, Box<dyn Error>> {
     })
 }
 
-/// Copies the lines, and tells whether there was one. Standard input is buffered as it is.
+/// Copies the lines, and returns whether there was one. Standard input is already buffered.
 fn copy(wanted: &Wanted) -> Result<bool, Box<dyn Error>> {
     let mut input = io::stdin().lock();
     let mut output = BufWriter::new(io::stdout().lock());
@@ -58,7 +58,7 @@ fn copy(wanted: &Wanted) -> Result<bool, Box<dyn Error>> {
     Ok(has_copied)
 }
 
-/// Writes the line of the highest version, the first among equals, and tells whether there was
+/// Writes the line with the highest version, the first among equals, and returns whether there was
 /// one.
 fn find(wanted: &Wanted) -> Result<bool, Box<dyn Error>> {
     let mut input = io::stdin().lock();
@@ -81,12 +81,12 @@ fn find(wanted: &Wanted) -> Result<bool, Box<dyn Error>> {
     }
 }
 
-/// What decides precedence: all but the build.
+/// Returns what decides precedence: everything except the build metadata.
 fn precedence(version: &Version) -> (u64, u64, u64, &Prerelease) {
     (version.major, version.minor, version.patch, &version.pre)
 }
 
-/// The version that a line spells, if the requirement takes it.
+/// Returns the version in a line if the requirement accepts it.
 fn kept(wanted: &Wanted, line: &[u8]) -> Option<Version> {
     let line = line.strip_suffix(b"\n").unwrap_or(line);
     let line = line.strip_suffix(b"\r").unwrap_or(line);

@@ -1,5 +1,5 @@
-//! What the C functions of tools/bench/c/times.c are timed beside: the same ranges and versions by the
-//! crate `semver`, in a table of the same form.
+//! What the C functions in tools/bench/c/times.c are compared with: the same ranges and versions
+//! with the crate `semver`, in a table of the same form.
 
 use semver::{Version, VersionReq};
 use std::hint::black_box;
@@ -10,19 +10,19 @@ const CALLS: u32 = 1000;
 const RANGES: [&str; 3] = ["^1.2.3", ">=1.2.3, <2", "~1.2.3-rc.1"];
 const VERSIONS: [&str; 6] = ["1.4.0", "1.2.2", "2.0.0", "1.9.12", "0.8.1", "1.2.3"];
 
-/// How many of the versions match a requirement that is parsed once.
+/// Returns how many of the versions match a requirement that is parsed once.
 fn ask_requirement(range: &str, versions: &[&str]) -> usize {
     let requirement = VersionReq::parse(range).expect("a requirement");
     let parse = |version: &&str| Version::parse(version).expect("a version");
     versions.iter().map(parse).filter(|version| requirement.matches(version)).count()
 }
 
-/// How many match one that is parsed for each.
+/// Returns how many of the versions match a requirement that is parsed for each.
 fn ask_each(range: &str, versions: &[&str]) -> usize {
     versions.iter().map(|&version| ask_requirement(range, &[version])).sum()
 }
 
-/// Nanoseconds that it takes at best.
+/// Returns the nanoseconds of the best pass.
 fn time_of(ask: Ask, range: &str, versions: &[&str]) -> u128 {
     let pass = |_| {
         let begun = Instant::now();
