@@ -1,15 +1,15 @@
-# Builds, installs and packs, by cargo; tools/README.md says why so.
+# Builds, installs and packs with cargo; tools/README.md explains the choices.
 #   make                      builds the programs and the C library
-#   make install              installs these, the header, a file for pkg-config and the manual
-#   make install-python       installs the Python package and the checkers, too
+#   make install              installs these, the header, a file for pkg-config and the manuals
+#   make install-python       also installs the Python package and the checkers
 #   make uninstall            removes what was installed under PREFIX
 #   make archive              makes OUT/semver-parser-VERSION-linux-PROCESSOR.tar.gz
 #   make wheel                makes a wheel in OUT, for pip: the Python package with the library
-#   make sdist                makes an archive of its sources in OUT, of which pip builds the wheel
+#   make sdist                makes an archive of its sources in OUT, from which pip builds it
 #   make js                   makes the JavaScript package in OUT, for npm
 #   make crate                makes the Rust crate in OUT, for cargo
 #   make page                 makes OUT/semver-ranges.html, the page of js/web in one file
-#   make release              makes all that is published in OUT, with SHA256SUMS
+#   make release              makes everything that is published in OUT, with SHA256SUMS
 #   make clean                removes what was built
 #   dpkg-buildpackage -b -uc  makes the Debian packages, in the directory above this one
 PREFIX ?= /usr/local
@@ -17,7 +17,7 @@ LIBDIR ?= lib
 ZSHDIR ?= share/zsh/site-functions
 OUT ?= out
 export PREFIX OUT ZSHDIR
-# cargo has no use for the jobs of this make.
+# cargo doesn't use the job server of this make.
 unexport MAKEFLAGS MFLAGS
 MAKEFLAGS += -r -j$(shell nproc) --no-print-directory
 .ONESHELL .SILENT .DELETE_ON_ERROR:
@@ -30,16 +30,16 @@ checkers := check-lock-file compare-requirements
 version := $(file < VERSION)
 date := $(shell date -u +%F -d "$$(sed -n '/^ -- /{s/.*>  //p;q}' debian/changelog)")
 archive := semver-parser-$(version)-linux-$(shell uname -m)
-# A program that was linked with the library asks for one whose version has the same first number,
-# and while that is 0 the same second one too.
+# A program that was linked with the library needs one whose version has the same first number and,
+# while that is 0, also the same second one.
 number := $(firstword $(subst ., ,$(version)))
 soname := libsemver_parser.so.$(if $(filter 0,$(number)),$(basename $(version)),$(number))
 shared := libsemver_parser.so.$(version)
-# What cargo builds is in a directory of its own, since it is built without this one's path in it.
+# What cargo builds has its own directory, since it is built without this directory's path in it.
 built := out/cargo/release
 capi := rust/capi
 
-# How recipes begin; `to` is the directory that is installed into.
+# How recipes begin. `to` is the directory to install into.
 begin = self=make top=$$PWD && . tools/built.sh && begin && umask 022; \
 	case $$PREFIX in '') refuse 'PREFIX is empty' ;; /*) ;; *) PREFIX=$$PWD/$$PREFIX ;; esac; \
 	PREFIX=$${PREFIX%/} to=$${DESTDIR-}$${PREFIX%/}
@@ -48,7 +48,8 @@ all: $(built)/semver-parser out/lib/$(shared) out/lib/libsemver_parser.a
 clean:
 	rm -rf out/cargo out/lib out/man
 
-# cargo is always asked, and knows what is newer: it leaves the time of what it doesn't build anew.
+# cargo is always called, and determines what is out of date. It doesn't touch what it doesn't
+# rebuild.
 $(built)/semver-parser: FORCE
 	$(begin)
 	build -p semver-parser-proved --bins
@@ -56,8 +57,8 @@ $(built)/libsemver_parser.a: FORCE
 	$(begin)
 	build -p semver-parser-capi --no-default-features
 
-# Both forms of the C library are one object file, of what the functions of the header need. It
-# needs only the system's C library, and shows the names alone that semver_parser.map has.
+# Both forms of the C library are one object file, with what the functions of the header need. It
+# needs only the system's C library, and exports only the names in semver_parser.map.
 out/lib/$(shared) out/lib/libsemver_parser.a &: $(built)/libsemver_parser.a \
 		$(capi)/semver_parser.map
 	$(begin)
@@ -77,7 +78,7 @@ out/lib/$(shared) out/lib/libsemver_parser.a &: $(built)/libsemver_parser.a \
 		-Wl,-z,defs,-z,text,-z,noexecstack,-z,relro,-z,now semver_parser.o
 	mv $(shared) libsemver_parser.a "$$top/out/lib"
 
-# A page of the manual for each function and each type of the header.
+# A manual page for each function and each type of the header.
 types := $(wildcard docs/man/semver_parser_*.3)
 out/man/made: $(capi)/include/semver_parser.h $(types) tools/make-manuals.py VERSION \
 		debian/changelog
@@ -88,7 +89,7 @@ out/man/made: $(capi)/include/semver_parser.h $(types) tools/make-manuals.py VER
 	mkdir -p out && mv "$$work/man" out/man
 	: > $@
 
-# What is installed, below DESTDIR and PREFIX.
+# Installs below DESTDIR and PREFIX.
 stage stage-python: all out/man/made
 	$(begin)
 	install -D -t "$$to/bin" $(programs:%=$(built)/%)
@@ -125,7 +126,7 @@ stage stage-python: all out/man/made
 		install -D -m 644 tools/completions/_$$name "$$to/$(ZSHDIR)/_$$name"
 	done
 
-# All is made in a directory of its own, and only then put where it belongs.
+# Everything is made in a temporary directory first, and then put where it belongs.
 install install-python:
 	$(begin)
 	may_write "$$to"
@@ -149,7 +150,7 @@ uninstall:
 	remove_all
 	case $$to in /usr | /usr/local) ldconfig 2> /dev/null || : ;; esac
 
-# The archive is the same to the byte if the commit, the compilers and the tools are the same.
+# The archive is the same byte for byte if the commit, the compilers and the tools are the same.
 archive:
 	$(begin)
 	date=$${SOURCE_DATE_EPOCH-$$(git log -1 --format=%ct 2> /dev/null)} || date=''
@@ -170,7 +171,8 @@ archive:
 	mkdir -p "$$OUT" && to=$$OUT put "$$work" ./$(archive).tar.gz
 	echo "made $$OUT/$(archive).tar.gz"
 
-# The wheel by the build backend that pip has, too. It is the same to the byte if its files are.
+# Makes the wheel with the build backend that pip uses, too. It is the same byte for byte if its
+# files are.
 wheel sdist:
 	$(begin)
 	may_write "$$OUT"
@@ -180,15 +182,15 @@ wheel sdist:
 	mkdir -p "$$OUT" && to=$$OUT put "$$work" "./$$name"
 	echo "made $$OUT/$$name"
 
-# The JavaScript package and the page, of the module for WebAssembly that cargo builds.
+# The JavaScript package and the page, from the module for WebAssembly that cargo builds.
 js:
 	tools/make-js.sh package "$(OUT)"
 
 page:
 	tools/make-js.sh page "$(OUT)"
 
-# What `cargo package` makes of a clone, and what the tests read of crates/. This needs no git, and
-# runs no test.
+# What `cargo package` makes from a clone, and what the tests read from crates/. This doesn't need
+# git, and runs no tests.
 crate:
 	$(begin)
 	may_write "$$OUT"
@@ -205,7 +207,8 @@ crate:
 	mkdir -p "$$OUT" && to=$$OUT put "$$work/target/package" "./$$name"
 	echo "made $$OUT/$$name"
 
-# All that is published; the Debian packages are built in a copy of what git has, by any cargo (-d).
+# Makes all that is published. The Debian packages are built in a copy of the files in git, with any
+# cargo (-d).
 release:
 	$(begin)
 	may_write "$$OUT"

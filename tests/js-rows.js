@@ -1,5 +1,6 @@
-// Asks the JavaScript package of the rows of crates/replayed_cases: which versions satisfy a range,
-// what a version is, where and why a string is refused, and what two ranges have in common.
+// Tests the JavaScript package with the rows of crates/replayed_cases: which versions satisfy a
+// range, what a version is parsed to, where and why a string is invalid, and how two ranges
+// compare.
 //
 //     node tests/js-rows.js PACKAGE
 'use strict';
@@ -9,7 +10,7 @@ const path = require('path');
 const CASES = path.join(__dirname, '..', 'crates', 'replayed_cases');
 const semver = require(path.resolve(process.argv[2]));
 
-// The dialects and rules for pre-releases, by what the rows call them.
+// The dialects and rules for pre-releases, by the names in the rows.
 const meaning = (dialect, preReleases) => ({ dialect, preReleases });
 const MEANINGS = {
     'meant-as-cargo': meaning('cargo', 'default'), 'meant-as-npm': meaning('npm', 'default'),
@@ -40,11 +41,11 @@ let asked = 0;
 function expect(what, found, right) {
     asked += 1;
     if (JSON.stringify(found) === JSON.stringify(right)) return;
-    console.log(`JavaScript rows: ${what}: ${JSON.stringify(found)} in place of ${JSON.stringify(right)}`);
+    console.log(`JavaScript rows: ${what}: ${JSON.stringify(found)} instead of ${JSON.stringify(right)}`);
     process.exit(1);
 }
 
-// A string of the table: crates/replayed_cases/src/text.rt says how they are escaped.
+// A string of the table without escapes; crates/replayed_cases/src/text.rt describes them.
 function expanded(escaped) {
     const meant = (string, at) => string.replace(/\\([\s\S])/g, (all, it) =>
         it === '#' ? String(at) : { n: '\n', r: '\r', t: '\t', '\\': '\\' }[it]);
@@ -65,7 +66,7 @@ function askVersions(what, range, list, options, answer) {
     if (!IS_ERROR.test(answer)) expect(what, semver.filter(versions, range, options), right);
 }
 
-// Identifiers as the rows have them: those of digits as numbers, if they have 64 bits.
+// Identifiers as the rows have them: those of digits are numbers if they fit 64 bits.
 const kept = (identifiers) => identifiers.map((it) => (/^\d+$/.test(it) && BigInt(it) < 2n ** 64n ? String(BigInt(it)) : String(it)));
 
 function askVersion(what, string, dialect, answer) {
@@ -127,7 +128,7 @@ lines('stdin').forEach((line, at) => {
     if (call in WHOLE_PAIRS) askWholePair(what, string, expanded(list), WHOLE_PAIRS[call], answer);
 });
 
-// The order of SemVer 2.0.0, section 11, in which build metadata has no part.
+// The order of SemVer 2.0.0, section 11, in which build metadata is ignored.
 const IN_ORDER = [
     '1.0.0-alpha', '1.0.0-alpha.1', '1.0.0-alpha.beta', '1.0.0-beta', '1.0.0-beta.2', '1.0.0-beta.11', '1.0.0-rc.1', '1.0.0',
     '2.0.0', '2.1.0', '2.1.1',

@@ -1,5 +1,5 @@
-// Types into the page in Chromium, by its protocol for developers, and compares what the page shows;
-// and loads the package's file for browsers, also where a policy forbids to compile.
+// Types into the page in Chromium, by its DevTools protocol, and compares what the page shows. It
+// also loads the package's file for browsers, even where a policy forbids compiling.
 //
 //     node tests/page.js PAGE PACKAGE PROFILE [PICTURE]
 'use strict';
@@ -10,7 +10,7 @@ const path = require('path');
 
 const [page, package_, profile, picture] = process.argv.slice(2);
 
-// Chromium with two pipes of its own, one for what it is asked and one for what it answers.
+// Chromium with two pipes, one for requests and one for responses.
 const chromium = spawn('chromium', [
     '--headless', '--no-sandbox', '--disable-gpu', '--hide-scrollbars', '--disable-background-networking',
     '--remote-debugging-pipe', `--user-data-dir=${profile}`,
@@ -40,7 +40,7 @@ function send(method, params = {}, sessionId = undefined) {
 
 const sleep = (milliseconds) => new Promise((resolve) => setTimeout(resolve, milliseconds));
 
-// Waits until something is there, for ten minutes at most: nothing here is about speed.
+// Waits until something is there, for ten minutes at most: this doesn't test speed.
 async function until(isThere, what) {
     for (let tries = 0; tries < 6000; tries += 1) {
         if (await isThere()) return;
@@ -58,7 +58,7 @@ async function main() {
         if (exceptionDetails) throw new Error(JSON.stringify(exceptionDetails));
         return result.value;
     };
-    // Waits for the page to have rows, after it is opened with a state.
+    // Opens the page with a state, and waits until it has rows.
     const open = async (hash) => {
         await ask('Page.navigate', { url: 'about:blank' });
         await ask('Page.navigate', { url: `file://${path.resolve(page)}${hash}` });
@@ -67,7 +67,7 @@ async function main() {
     const rows = () => value("[...document.querySelectorAll('#rows tr')].map((row) => [...row.cells].map((it) => it.textContent).join(' '))");
     const marked = () => value("[...document.querySelectorAll('#rows tr.differs')].map((row) => row.cells[0].textContent)");
     const errors = () => value("[...document.querySelectorAll('#errors .error')].map((it) => [...it.children].map((part) => part.textContent).join('\\n'))");
-    // Chooses all of a field, as by the keyboard, and types in its place.
+    // Selects the content of a field, as with the keyboard, and types over it.
     const type = async (field, text) => {
         await value(`document.getElementById('${field}').focus(); document.getElementById('${field}').select()`);
         await ask('Input.insertText', { text });
@@ -110,7 +110,7 @@ async function main() {
     expect('its error', (await errors())[0], 'Cargo refuses the range: Cargo separates comparators by commas\n>=1.2.1 <2\n        ^');
     expect('the same range by npm', (await ranges())[1], 'npm: >=1.2.0 <2.0.0-0: =1.2.0: nothing');
 
-    // Colours, on a page that shows each kind of text.
+    // Colours, on a page with each kind of text.
     for (const scheme of ['light', 'dark']) {
         await ask('Emulation.setEmulatedMedia', { features: [{ name: 'prefers-color-scheme', value: scheme }] });
         await open('#range=1.2.3&other=x%20y&versions=1.2.3%0A1.2.4%0Av1.2.3%0A1.2&preReleases=default&dialect=cargo');
@@ -120,7 +120,7 @@ async function main() {
         expect(`texts of less contrast than 4.5 in the scheme ${scheme}`, low, []);
     }
 
-    // Texts of a megabyte: one line, and many.
+    // Texts of a megabyte: one line, and many lines.
     await open('');
     await value(`{ const it = document.getElementById('range'); it.value = ' '.repeat(1e6) + '1.2 || 3.0.0'; it.dispatchEvent(new Event('input')) }`);
     expect('a range of a megabyte', (await rows())[1], '1.2.3 – yes yes yes');
@@ -150,8 +150,8 @@ async function main() {
     }
 }
 
-// What is served beside the package: a page that compiles its module, and one that may not, by its
-// policy, and gets it from a worker that may.
+// What is served next to the package: a page that compiles its module, and one that its policy
+// forbids to, and that gets the module from a worker that may.
 const SERVED = {
     '/compiles.html': '<script type="module" src="/compiles.mjs"></script>',
     '/compiles.mjs': `import { ready, satisfies } from '/browser.mjs'
@@ -191,8 +191,8 @@ async function openPackage(ask, value) {
     server.close();
 }
 
-// In the page: how many elements have text of their own, and which of them have a contrast below 4.5
-// (WCAG 2.1, 1.4.3) with what is below it.
+// Runs in the page. Returns how many elements have their own text, and which of them have a
+// contrast below 4.5 (WCAG 2.1, 1.4.3) with what is below them.
 function contrasts() {
     const numbers = (color) => {
         const found = color.match(/[\d.]+(?:e-?\d+)?/g).map(Number);
@@ -225,11 +225,11 @@ function contrasts() {
 
 function expect(what, found, right) {
     if (JSON.stringify(found) === JSON.stringify(right)) return;
-    throw new Error(`${what}: ${JSON.stringify(found)} in place of ${JSON.stringify(right)}`);
+    throw new Error(`${what}: ${JSON.stringify(found)} instead of ${JSON.stringify(right)}`);
 }
 
-// Against hanging: half an hour.
-const timer = setTimeout(() => fail(new Error('Chromium does not answer')), 1800000);
+// Half an hour, in case it hangs.
+const timer = setTimeout(() => fail(new Error('Chromium does not respond')), 1800000);
 
 function fail(error) {
     console.log(`page: ${error.message}`);

@@ -1,5 +1,5 @@
-// The examples of the README's table of results that differ from node-semver's. To compare its column
-// of node-semver with node-semver itself:
+// The examples in the README's table of results that differ from node-semver's. To compare the
+// table's column for node-semver with node-semver itself:
 //
 //     node differences.mjs README MODULE
 import { readFileSync } from 'node:fs'
@@ -7,7 +7,7 @@ import { createRequire } from 'node:module'
 import { fileURLToPath } from 'node:url'
 import { isDeepStrictEqual } from 'node:util'
 
-// What a call of the table returns, as the table shows it: of an object its string.
+// What a call of the table returns, as the table shows it: an object as its string.
 function shown(library, call) {
   try {
     const found = Function(...Object.keys(library), `return ${call}`)(...Object.values(library))
@@ -19,7 +19,8 @@ function shown(library, call) {
 
 const meant = (cell) => (cell === 'throws' ? cell : Function(`return (${cell.replace(/^`|`$/g, '')})`)())
 
-/** The rows of the table of which a column, 2 for node-semver or 3 for here, isn't what a library returns. */
+/** The rows of the table in which a column, 2 for node-semver or 3 for this library, isn't what
+ * it returns. */
 export function wrongRows(readme, library, column) {
   const rows = readme.split('\n').filter((line) => /^\| .* \| `\w+\(/.test(line))
     .map((line) => line.replaceAll('\\|', '\0').split('|').map((cell) => cell.replaceAll('\0', '|').trim()))

@@ -1,9 +1,9 @@
-// Writes cases.json: what node-semver returns of each of its calls.
+// Writes cases.json: what node-semver returns for each of its calls.
 //
 //     NODE_PATH="$(npm root -g)/npm/node_modules" node make-cases.cjs > cases.json
 //
-// A case is a call, its arguments and its result. A call `Range.intersects` is a method of
-// `new Range(...)`: the first argument is that of the constructor. What is an object is its fields.
+// A case is a call, its arguments and its result. A call `Range.intersects` is a method of `new
+// Range(...)`: the first argument is the constructor's. An object is stored as its fields.
 'use strict'
 const semver = require('semver')
 
@@ -13,7 +13,7 @@ const VERSIONS = [
   '2.0.0-alpha', '9007199254740991.0.0', '9007199254740992.0.0', '1.2', '1', '', 'x', '1.2.03', '1.2.3-01', '1.2.3-', '1.2.3-a..b', '1.2.3+',
   'vv1.2.3', '1.2.3 4', '1.2.3-ä', '\ud800', '\u00a01.2.3\ufeff', `1.2.3-${'a'.repeat(251)}`, `1.2.3-${'a'.repeat(250)}`,
 ]
-// What only `loose` reads.
+// Valid only with `loose`.
 const ONLY_LOOSE = ['=1.2.3', '1.2.03', '1.2.3-01', '1.2.3-', 'vv1.2.3']
 const OTHERS = [null, undefined, 1, true, {}, []]
 const RANGES = [
@@ -25,7 +25,7 @@ const OPTIONS = [undefined, { includePrerelease: true }]
 
 const cases = []
 
-// The fields of an object of a class, and of what it holds.
+// The fields of an object of a class, and of what it contains.
 function plain (value) {
   if (typeof value === 'symbol' || typeof value === 'function') return String(value)
   if (value === null || typeof value !== 'object') return value
@@ -97,8 +97,8 @@ for (const one of ['0', '1', '10', 'a', 'b', 'A', '-', '1a', 1, 2, 1.5, null, un
 
 const SOME = ['1.2.3', '1.2.3-rc.1', '1.2.4-alpha', '1.10.0', '2.0.0', '2.0.0-alpha', '0.0.0', '0.0.0-0', 'v1.4.0', 'x', '1.2', '', '1.10.0+b']
 const RELEASES_OF_SOME = ['0.0.0', '1.2.3', '1.3.0', '1.4.0', '1.10.0', '2.0.0', '2.5.0', '3.0.0']
-// Of what no version satisfies, and of pre-releases, node-semver says otherwise than by the sets of
-// versions: docs/GRAMMAR.md. `tests/js-rows.js` has these.
+// For ranges that no version satisfies, and for pre-releases, node-semver returns something else
+// than the sets of versions: docs/GRAMMAR.md. `tests/js-rows.js` tests these.
 const isPlain = (range) => semver.validRange(range) === null || (!/\d-/.test(range) && new semver.Range(range).set.every((comparators) =>
   semver.minVersion(comparators.join(' ')) !== null))
 const PLAIN = RANGES.filter(isPlain)
@@ -112,7 +112,7 @@ for (const range of RANGES) {
     add('simplifyRange', RELEASES_OF_SOME, range, options)
   }
   for (const call of ['validRange', 'toComparators', 'Range', 'Comparator']) add(call, range)
-  // A hyphen range up to three numbers is written otherwise here: js/README.md.
+  // A hyphen range up to three numbers is printed differently here: js/README.md.
   if (!/ - /.test(range)) for (const call of ['validRange', 'toComparators', 'Range']) add(call, range, { includePrerelease: true })
   for (const version of SOME) add('Range.test', range, version)
   if (!range.includes('||')) add('Range.parseRange', '1', range)

@@ -1,15 +1,15 @@
 // Random calls of the package as plain data, so that each can be made anywhere: `{ call, values }`,
-// and of a method also the object. `call` is `satisfies`, `new Range` or `Range.test`.
+// and for a method also the object. `call` is `satisfies`, `new Range` or `Range.test`.
 //
-// A value that JSON doesn't have, or that code of a caller runs in, is a description:
+// A value that JSON doesn't have, or that runs code of a caller, is a description:
 //
 //   { is: 'undefined' }, { is: 'ANY' }        undefined, Comparator.ANY
 //   { is: 'list', items }                     an array
-//   { is: 'iterable', items }                 what isn't an array and can be iterated
+//   { is: 'iterable', items }                 an iterable that isn't an array
 //   { is: 'getters', fields }                 an object whose fields are computed
-//   { is: 'object', name, values, raised }    new NAME(...values), then `inc` by each of `raised`
+//   { is: 'object', name, values, raised }    new NAME(...values), then `inc` with each of `raised`
 
-/** Random numbers by a seed: mulberry32. */
+/** Random numbers from a seed: mulberry32. */
 export class Random {
   constructor(seed) {
     this.state = seed >>> 0
@@ -112,7 +112,7 @@ function options(random) {
   return random.below(4) ? fields : { is: 'getters', fields }
 }
 
-// ---- objects, of which a run keeps those that it has made
+// ---- objects that live on during a sequence
 
 const RELEASES = [
   'major', 'premajor', 'minor', 'preminor', 'patch', 'prepatch', 'prerelease', 'pre', 'x', '',
@@ -138,7 +138,8 @@ const comparatorText = (random) =>
 const newComparator = (random) =>
   ({ is: 'object', name: 'Comparator', values: [comparatorText(random), options(random)] })
 
-/** Ranges that are alive at once: each is one, and they are more than the module has places for. */
+/** Different ranges that exist at the same time; there are more of them than the module has slots
+ * for. */
 export function livingRanges(random, count) {
   return Array.from({ length: count }, (_, at) => {
     const text = `>=${1 + (at % 3)}.${at % 7}.${at} || ${random.of(['1.x', '^2.1', '<1.2.3', '3'])}`
@@ -187,7 +188,7 @@ const validVersions = (random) => {
 const list = (random, pool) =>
   random.below(3) ? validVersions(random) : { ...versions(random, pool), is: 'list' }
 
-// What stands in the table below for an argument of a kind.
+// The kinds of arguments that the table below names.
 const KINDS = {
   version, range, options, versions, list, release, identifier, base,
   any: (random, pool) => (random.below(9) ? version(random, pool) : { is: 'ANY' }),
@@ -279,7 +280,7 @@ for (const [name, fields] of Object.entries(FIELDS)) {
   for (const field of fields.split(' ')) CALLS[`${name}.${field}`] = ''
 }
 
-// These are made more often, since they use what was read before, or write over it.
+// These are made more often, since they use what was parsed before, or overwrite it.
 const OFTEN = ['satisfies', 'satisfies', 'satisfies', 'maxSatisfying', 'minSatisfying']
 
 /** A random call of a name. */
@@ -301,7 +302,8 @@ function changedCall(it, random, pool) {
   return { ...it, values }
 }
 
-/** So many random calls, after each the same with a change; and one of each living range. */
+/** `count` random calls, each followed by the same call with a change, and one call of each
+ * living range. */
 export function randomCalls(random, count, living) {
   const some = (make) => Array.from({ length: 60 }, () => make(random))
   const pool = { SemVer: some(newVersion), Comparator: some(newComparator), Range: some(newRange) }
@@ -318,7 +320,7 @@ export function randomCalls(random, count, living) {
   return calls
 }
 
-// ---- calls of a few values: in a sequence of these the same ones come again and again
+// ---- calls with a few values: in a sequence of these the same ones come again and again
 
 function callOfRanges(random, ranges) {
   const [one, other] = [random.of(ranges), random.of(ranges)]
@@ -342,7 +344,7 @@ function callOfStrings(random) {
   }
 }
 
-/** So many random calls of a few strings, and of a few ranges. */
+/** `count` random calls with a few strings and a few ranges. */
 export function callsOfFew(random, ranges, count) {
   return Array.from({ length: count }, () =>
     random.below(2) ? callOfStrings(random) : callOfRanges(random, ranges))

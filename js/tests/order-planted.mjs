@@ -1,13 +1,13 @@
-// Errors by which a result depends on the calls before it, as changes of the package's source:
-// order.mjs has to find each.
+// Errors that make a result depend on earlier calls, as changes of the package's source. order.mjs
+// has to find each of them.
 
-// In place of some lines that are there once.
+// Replaces some lines that occur exactly once.
 const inPlaceOf = (old, other) => (source) => {
   if (source.split(old).length !== 2) throw new Error(`not there once: ${old}`)
   return source.replace(old, () => other)
 }
 
-/** The package with places for two ranges only, so that each range loses its place all the time. */
+/** The package with slots for only two ranges, so that each range loses its slot all the time. */
 export const withFewPlaces = inPlaceOf('const PLACES = 1000', 'const PLACES = 2')
 
 export const PLANTED = [

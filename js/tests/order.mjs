@@ -1,12 +1,12 @@
-// Tests that what a call returns doesn't depend on the calls before it:
+// Tests that what a call returns doesn't depend on earlier calls:
 //
 //     node order.mjs PACKAGE/index.cjs COUNT SEED
 //
-// COUNT random calls are made, each in an instance of the package of its own, and some in a process
-// of their own. Then one instance makes these calls, and those of cases.json, in random order, each
-// several times, with objects that live on; in some of them code of the caller makes another call.
+// COUNT random calls are made, each in its own instance of the package, and some in their own
+// process. Then one instance makes these calls, and those of cases.json, in random order, each
+// several times, with objects that live on. In some of them the caller's code makes another call.
 // Each has to return the same as in the fresh instance, or as node-semver did. The same is done
-// with a package that keeps two ranges in place of 1000. Last, errors of this kind are planted, and
+// with a package that keeps two ranges instead of 1000. Last, errors of this kind are planted, and
 // each has to be found.
 import { execFileSync } from 'node:child_process'
 import { readFileSync } from 'node:fs'
@@ -19,7 +19,7 @@ import { CALLS, Random, callsOfFew, livingRanges, randomCalls } from './order-ca
 import { PLANTED, withFewPlaces } from './order-planted.mjs'
 import { result } from './results.mjs'
 
-const LIVING = 1200 // ranges, of which the module has places for 1000
+const LIVING = 1200 // ranges; the module has slots for 1000
 const TIMES = 8 // how often each call is made, by each of two instances
 const TRIES = 10 // how often a planted error is looked for at most
 const [first, ...others] = process.argv.slice(2)
@@ -44,7 +44,7 @@ class Instance {
     this.kept = new Map()
   }
 
-  /** What a description stands for: order-calls.mjs says how values are described. */
+  /** The value of a description: order-calls.mjs says how values are described. */
   value(it) {
     if (it === null || typeof it !== 'object' || !('is' in it)) return structuredClone(it)
     if (it.is === 'undefined') return undefined
@@ -79,7 +79,7 @@ class Instance {
     }
   }
 
-  /** The object of a description, which is made once. */
+  /** The object of a description, which is made only once. */
   object(it) {
     if (!this.kept.has(it)) this.kept.set(it, this.madeObject(it))
     return this.kept.get(it)
@@ -95,7 +95,7 @@ class Instance {
     const given = values.map((value) => this.value(value))
     if (call.startsWith('new ')) return new this.library[call.slice(4)](...given)
     const [name, method] = call.split('.')
-    // These change the object, which is then another one than its description says.
+    // These change the object, which then differs from its description.
     const isChanged = method === 'inc' || method === 'parse'
     const of = isChanged ? this.madeObject(object) : object && this.object(object)
     const found = method === undefined ? this.library[name] : of[method]
@@ -129,7 +129,7 @@ function instancesOf(file, change = (source) => source) {
   }
 }
 
-/** The same call in a process of its own. */
+/** The same call in its own process. */
 function inProcess(file, call) {
   const arguments_ = [fileURLToPath(import.meta.url), '--one', file]
   return JSON.parse(execFileSync(process.execPath, arguments_, { input: JSON.stringify(call) }))
@@ -152,7 +152,7 @@ const stepOf = (call, fresh) => ({
   made: (instance) => instance.result(call),
 })
 
-/** The same of a case of node-semver. */
+/** The same for a case of node-semver. */
 const stepOfCase = ([call, values, right]) => ({
   call: {},
   name: `${call}(${JSON.stringify(values).slice(1, -1)})`,
@@ -160,13 +160,13 @@ const stepOfCase = ([call, values, right]) => ({
   made: ({ library }) => shown(result(library, call, values)),
 })
 
-/** A random index of so many, often beside the one before. */
+/** A random index below a length, often next to the one before. */
 const nextIndex = (index, length, random) =>
   random.below(3) ? random.below(length) : (index + random.of([0, 1, length - 1])) % length
 
 /**
- * Makes each living range, and then steps in random order, now and then ten of a few values.
- * Returns the first that isn't as expected, with those before it.
+ * Makes each living range, and then steps in random order, sometimes ten with a few values. Returns
+ * the first that isn't as expected, with those before it.
  */
 function firstDifference({ steps, few, living }, library, random) {
   const last = []
@@ -213,11 +213,11 @@ function checkProcesses(file, steps, random, count) {
 }
 
 function failOf({ last, expected, got }, seed) {
-  fail(`order, seed ${seed}: after other calls a result is another one.`, 'The last calls:',
+  fail(`order, seed ${seed}: after other calls a result differs.`, 'The last calls:',
     ...last.map(short), 'returns:', short(got), 'by itself:', short(expected))
 }
 
-// What is made in a sequence.
+// Returns what is made in a sequence.
 function plan(fresh, count, random) {
   const living = livingRanges(random, LIVING)
   const all = JSON.parse(readFileSync(new URL('cases.json', import.meta.url)))

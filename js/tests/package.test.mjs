@@ -1,4 +1,5 @@
-// Tests of the package as it is installed: `node --test package.test.mjs`, in a project that has it.
+// Tests of the package as it is installed: `node --test package.test.mjs`, in a project that has
+// it.
 import assert from 'node:assert/strict'
 import { cpSync, readFileSync } from 'node:fs'
 import { createRequire } from 'node:module'
@@ -114,7 +115,7 @@ test('where and why a string is refused', () => {
   assert.equal(semver.explainVersion('1.2.3'), null)
   assert.equal(semver.explainRange('1 || 2'), null)
   assert.equal(semver.explainRange('1 |').offset, 3)
-  // The offset counts as JavaScript does: a no-break space has two bytes.
+  // The offset counts UTF-16 units, as JavaScript does; a no-break space has two bytes.
   assert.equal(semver.explainVersion('\u00a0\u00a01.2.x').offset, 6)
   assert.deepEqual(semver.explainRange('1 || >=9007199254740992'),
     { offset: 7, reason: 'npm-too-large', sentence: "npm's numbers are at most 2^53 - 1" })
@@ -190,7 +191,7 @@ test('the terms of a range are what is written, and where', () => {
     { range: 0, operator: '>=', start: 0, end: 6, version: version(3, 6, [1n, '*']), upper: null },
     { range: 0, operator: '<', start: 8, end: 10, version: version(9, 10, [2n]), upper: null },
   ])
-  // Indices count as JavaScript does, and an empty range has no term.
+  // Indices count UTF-16 units, as JavaScript does, and an empty range has no term.
   assert.deepEqual(semver.terms('|| \u00a0~> 1').map(({ range, operator, start, end }) => [range, operator, start, end]), [[1, '~', 4, 8]])
   assert.deepEqual(semver.terms(''), [])
   assert.throws(() => semver.terms('1 || 2', cargo), { name: 'SemverError', kind: 'range', argument: 0, offset: 2 })
@@ -289,7 +290,7 @@ test('objects of two dialects need options', () => {
   assert.equal(semver.subset(range, other, { dialect: 'npm' }), true)
 })
 
-// node-semver 7.6.2 reads a range again by the options of the call.
+// node-semver 7.6.2 parses a range again with the options of the call.
 test('of npm, a range with includePrerelease is read again without', () => {
   const range = new semver.Range('^1.2', { includePrerelease: true })
   assert.equal(range.test('1.3.0-a'), true)
@@ -341,7 +342,7 @@ test('fields can not be written, and inc changes them', () => {
   assert.equal(given.version, '1.2.3')
 })
 
-// Code of the caller that runs within a call, and makes calls itself.
+// The caller's code that runs within a call, and makes calls itself.
 test('calls within calls change nothing', () => {
   const disturb = () => {
     semver.satisfies('9.9.9-a-long-version.that-fills-the-buffer', '>=8 <10-0 || 77.x')
@@ -436,7 +437,7 @@ test('the file for browsers has no bytes, and takes them', async () => {
   assert.deepEqual(await inWorker(code), ['the module is not compiled yet: await ready() first', '1.2.3', true])
 })
 
-// The README of the package that is installed: each line of its example has its result beside or below.
+// The README of the installed package: each line of its example has its result next to it or below.
 test('the example of the README', () => {
   const readme = readFileSync(new URL('node_modules/semver-parser-proved/README.md', import.meta.url), 'utf8')
   const [, example] = /```js\n([^]*?)```/.exec(readme)
@@ -449,7 +450,7 @@ test('the example of the README', () => {
   }
 })
 
-// Each line of its example of terms with a result, after those before it.
+// Each line with a result in the example of terms, after the lines before it.
 test('the example of terms in the README', () => {
   const readme = readFileSync(new URL('node_modules/semver-parser-proved/README.md', import.meta.url), 'utf8')
   const [, example] = /\n## Terms\n[^]*?```js\nimport .*\n([^]*?)```/.exec(readme)
@@ -465,7 +466,7 @@ test('the examples of the README that differ from node-semver', () => {
   assert.deepEqual(wrongRows(readme, { ...common }, 3), [])
 })
 
-// Its tables of calls and of options name what there is.
+// The README's tables of calls and of options name everything that is exported.
 test('the README names each export', () => {
   const readme = readFileSync(new URL('node_modules/semver-parser-proved/README.md', import.meta.url), 'utf8')
   for (const name of Object.keys(common)) assert.match(readme, new RegExp(`\`[^\`]*\\b${name}\\b`), name)

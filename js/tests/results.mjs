@@ -1,6 +1,6 @@
-// What a call of cases.json returns, in the form in which node-semver's results are kept there.
+// What a call of cases.json returns, in the form in which node-semver's results are stored there.
 
-// The fields of an object of a class, and of what it holds, as the cases have them.
+// The fields of an object of a class, and of what it contains, as the cases have them.
 function plain(value) {
   if (typeof value === 'symbol') return String(value)
   if (value === null || typeof value !== 'object') return value
@@ -19,7 +19,7 @@ function made(library, call, [...values]) {
   return object[method](...given)
 }
 
-/** What a call returns, or the kind of error that it throws: make-cases.cjs names the calls. */
+/** What a call returns, or the kind of error that it throws; make-cases.cjs names the calls. */
 export function result(library, call, values) {
   try {
     const given = values.map((it) => (it === '(undefined)' ? undefined : structuredClone(it)))

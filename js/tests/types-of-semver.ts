@@ -1,5 +1,5 @@
-// A project that uses each name, member and path of `@types/semver` 7.5.8, as it is written for that:
-// it compiles with these types and, unchanged, with those of the package installed as `semver`.
+// A project that uses each name, member and path of `@types/semver` 7.5.8, written for these types.
+// It compiles with them and, unchanged, with the types of the package installed as `semver`.
 import * as semver from 'semver'
 import all from 'semver'
 import { Comparator, Options, Range, SemVer } from 'semver'
@@ -25,7 +25,7 @@ const operator: semver.Operator = '>='
 const specVersion: '2.0.0' = semver.SEMVER_SPEC_VERSION
 const types: semver.ReleaseType[] = semver.RELEASE_TYPES
 
-// Versions: what the calls return has the types of `@types/semver`, by whichever options.
+// Versions: what the calls return has the types of `@types/semver`, with any options.
 const one: SemVer | null = semver.parse(string)
 const two: SemVer | null = semver.parse(null, options) ?? semver.parse(undefined, orLoose) ?? semver.parse(one, true)
 const three: SemVer = new SemVer(string, rangeOptions)
@@ -80,7 +80,7 @@ const ofComparator: [string, boolean, Options, number] = [comparator.value, comp
 comparator.parse(string)
 const tested: boolean = comparator.test(three) && comparator.intersects(comparator, options)
 
-// What a project makes of the names.
+// What a project does with the names.
 class Named extends Range { readonly label: string = 'a' }
 interface Kept extends semver.RangeOptions { readonly kept: boolean }
 interface Entry { version: SemVer, range: Range, options?: semver.Options }

@@ -1,4 +1,4 @@
-// What `tsc --strict` takes of the package's types, and what it refuses.
+// What `tsc --strict` accepts with the package's types, and what it rejects.
 import * as semver from 'semver-parser-proved'
 import satisfiesAlone = require('semver-parser-proved/functions/satisfies')
 import RangeAlone = require('semver-parser-proved/classes/range')
@@ -36,7 +36,8 @@ new semver.SemVer('1.2.3').major = 5
 // @ts-expect-error: no such kind of release
 semver.inc('1.2.3', 'huge')
 
-// Numbers have the type of the dialect, whoever hands them on: an object keeps its own.
+// Numbers have the type of the dialect, even through several calls: an object keeps its own
+// dialect.
 const C = { dialect: 'cargo' } as const
 const sum: bigint = new semver.SemVer('1.2.3', C).major + semver.coerce('1.2.3', C)!.minor + semver.minVersion('1.2.3', C)!.patch
 const bound = new semver.Range('1.2.3', C).set[0][0].semver

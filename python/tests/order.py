@@ -1,10 +1,10 @@
-"""Tests that what a call returns doesn't depend on the calls before it, or on other threads.
+"""Tests that what a call returns doesn't depend on earlier calls, or on other threads.
 
     python3 -m tests.order COUNT SEED
 
-COUNT random calls are made, each in a fork of a process that made none, and some in a process of
-their own. Then one process makes these calls in random order, each several times, and after that
-several threads do, with objects that live on, of which they share some. Each call has to return the
+COUNT random calls are made, each in a fork of a process that made none, and some in their own
+process. Then one process makes these calls in random order, each several times, and after that
+several threads do, with objects that live on; they share some of these. Each call has to return the
 same as alone. Last, errors of this kind are planted, and each has to be found.
 """
 
@@ -31,7 +31,7 @@ TIMES = 10
 THREADS = 4
 
 TRIES = 20
-"""How often a planted error is looked for: when threads meet is chance."""
+"""How often a planted error is looked for: threads meet only by chance."""
 
 _PUBLIC = {name: getattr(semver_parser, name) for name in semver_parser.__all__}
 
@@ -43,7 +43,7 @@ def _shown(value: Any) -> str:
 
 
 def _shown_error(error: Exception) -> str:
-    """The class of an error and what it says, which may raise another error."""
+    """Returns the class of an error and its values, which may raise another error."""
     said = [f"raises {type(error).__name__} {error.args!r}"]
     for name in ("__str__", "index", "offset", "reason", "sentence"):
         try:
@@ -64,26 +64,26 @@ class Objects:
         self._disturb = disturb
 
     def _disturbed(self, items: List[Any]) -> Any:
-        """An iterable in which other code runs."""
+        """Yields items, and runs other code before each."""
         for item in items:
             self._disturb()
             yield item
 
     def _object(self, expression: str) -> Any:
-        """The object of an expression, which another thread may forget at any time."""
+        """Returns the object of an expression, which another thread may forget at any time."""
         it = self._made.get(expression)
         if it is None:
             it = self._made[expression] = eval(expression, dict(self._names))
         return it
 
     def forget(self, chance: random.Random) -> None:
-        """Forgets one of the objects, so that what is made next may get its memory."""
+        """Forgets one of the objects, so that the next one may get its memory."""
         expressions = list(self._made)
         if expressions:
             self._made.pop(chance.choice(expressions), None)
 
     def result(self, call: Call) -> str:
-        """What a call returns or raises."""
+        """Returns what a call returns or raises."""
         try:
             objects = {name: self._object(made) for name, made in call.objects.items()}
             return _shown(eval(call.expression, {**self._names, **objects}))
@@ -99,7 +99,7 @@ def _encoded(text: str) -> bytes:
 
 
 def _in_fork(work: Callable[[], bytes]) -> bytes:
-    """What a function returns in a fork of this process."""
+    """Returns what a function returns in a fork of this process."""
     sys.stdout.flush()
     reading, writing = os.pipe()
     child = os.fork()
@@ -117,7 +117,7 @@ def _in_fork(work: Callable[[], bytes]) -> bytes:
 
 
 def _in_process(call: Call) -> bytes:
-    """The result of a call in a process of its own."""
+    """Returns the result of a call in its own process."""
     command = [sys.executable, "-m", __spec__.name, "--one"]
     return subprocess.run(
         command, input=json.dumps(call).encode(), check=True, stdout=subprocess.PIPE
@@ -125,7 +125,7 @@ def _in_process(call: Call) -> bytes:
 
 
 def _print_one() -> None:
-    """Prints the result of the call of the standard input."""
+    """Prints the result of the call on standard input."""
     call = Call(*json.load(sys.stdin))
     sys.stdout.buffer.write(_encoded(Objects().result(call)))
 
@@ -134,8 +134,8 @@ def _print_one() -> None:
 
 
 def _yield_after_calls() -> None:
-    """From now on another thread may run after each call of the library, before the outputs of that
-    are read: this is when threads that share an output disturb each other."""
+    """From now on another thread may run after each call of the library, before its outputs are
+    read: this is when threads that share an output disturb each other."""
     for name, function in list(vars(LIBRARY).items()):
         if isinstance(function, ctypes._CFuncPtr):
             setattr(LIBRARY, name, _yielding(function))
@@ -151,7 +151,8 @@ def _yielding(function: Callable[..., Any]) -> Callable[..., Any]:
 
 
 class Sequence:
-    """Calls in random order, by one thread or several, until one differs from the same alone."""
+    """Calls in random order, by one thread or several, until one differs from the same call
+    alone."""
 
     def __init__(self, calls: List[Call], expected: List[bytes]) -> None:
         self._calls, self._expected, self._count = calls, expected, 0
@@ -166,7 +167,7 @@ class Sequence:
             self.difference = [*last, *ends]
 
     def run(self, seed: str, count: int, shared: Objects) -> None:
-        """Makes so many calls, with objects that are shared, and own ones."""
+        """Makes `count` calls, with objects that are shared and its own ones."""
         chance, last = random.Random(seed), [""]
         quiet = Objects()
         own = Objects(lambda: self._make(chance.randrange(len(self._calls)), quiet, last))
@@ -179,8 +180,8 @@ class Sequence:
                 objects.forget(chance)
 
     def _index(self, chance: random.Random) -> int:
-        """The index of a random call, often one of a template that all threads take for a while, so
-        that they meet there, and often one of the same two."""
+        """Returns the index of a random call. Often it is a call of a template that all threads use
+        for a while, so that they meet there, and often one of the same two calls."""
         self._count += 1  # by all threads, and it need not be exact
         if chance.randrange(3) == 0:
             return chance.randrange(len(self._calls))
@@ -190,7 +191,7 @@ class Sequence:
         return 2 * chance.choice(of_template) + chance.randrange(2)
 
     def run_threads(self, seed: str, count: int) -> None:
-        """The same by several threads at once, each with a part of the calls."""
+        """Does the same with several threads at once, each with a part of the calls."""
         _yield_after_calls()
         shared = Objects()
         threads = [
@@ -204,7 +205,8 @@ class Sequence:
 
 
 def _difference(calls: List[Call], expected: List[bytes], seed: str) -> Optional[List[str]]:
-    """The first call that differs in a sequence of one thread, or of several."""
+    """Returns the first call that differs in a sequence of one thread or of several, with the last
+    calls."""
     sequence, count = Sequence(calls, expected), TIMES * len(calls)
     sequence.run(seed, count, Objects())
     if sequence.difference is None:
@@ -238,7 +240,7 @@ def _find_planted(calls: List[Call], expected: List[bytes], seed: str) -> int:
 
 
 def main(count: int, seed: str) -> None:
-    """Tests so many random calls."""
+    """Tests `count` random calls."""
     missing = unnamed(semver_parser)
     if missing:
         _fail(f"order: no call of {', '.join(missing)}")
@@ -253,7 +255,7 @@ def main(count: int, seed: str) -> None:
     planted = _find_planted(calls, expected, seed)
     difference = _difference(calls, expected, seed)
     if difference is not None:
-        _fail(f"order, seed {seed}: after other calls a result is another one.", *difference)
+        _fail(f"order, seed {seed}: after other calls a result differs.", *difference)
     print(
         f"order of calls in Python: {count} calls, {2 * TIMES * count} times in random order, by"
         f" one thread and {THREADS}, seed {seed}; {planted} planted errors found; passed"

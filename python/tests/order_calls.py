@@ -1,7 +1,7 @@
 """Random calls of the package, as expressions.
 
-A call is an expression, and the objects that it uses: names, and an expression that makes each. So
-it can be made anywhere: with new objects, or with those that live on.
+A call is an expression, and the objects that it uses: their names, each with the expression that
+makes it. So it can be made anywhere: with new objects, or with objects that live on.
 """
 
 import random
@@ -12,7 +12,7 @@ Pool = Dict[str, List[str]]
 """The expressions of objects that live on, by their kinds."""
 
 Argument = Union[str, List[str]]
-"""An argument, or a list: what is before its items, these, and what is after them."""
+"""An argument; or a list: what is before its items, the items, and what is after them."""
 
 _KIND = re.compile(r"\{(\w+)\}")
 
@@ -90,7 +90,7 @@ def _range_text(chance: random.Random) -> str:
 
 
 def _literal(chance: random.Random, text: str) -> str:
-    """The literal of a string, sometimes as bytes, which need not be UTF-8."""
+    """Returns the literal of a string, sometimes as bytes, which may be invalid UTF-8."""
     kind = chance.randrange(12)
     if kind > 1:
         return repr(text)
@@ -116,7 +116,7 @@ def _options(chance: random.Random) -> str:
 
 
 def _kept(kind: str, chance: random.Random, pool: Pool) -> str:
-    """The expression of an object of a kind that lives on, between marks."""
+    """Returns the expression of an object of a kind that lives on, between marks."""
     return f"\x02{chance.choice(pool[kind])}\x03"
 
 
@@ -132,7 +132,8 @@ def _range(chance: random.Random) -> str:
 
 
 def _versions(chance: random.Random, pool: Pool) -> List[str]:
-    """The items of a list or of another iterable, and what is written before and after them."""
+    """Returns the items of a list or of another iterable, and what is written before and after
+    them."""
     items = [_version(chance, pool) for _ in range(chance.choice([0, 1, 2, 2, 3, 5, 40]))]
     before, after = chance.choice([("[", "]"), ("[", "]"), ("disturbed([", "])")])
     return [before, *items, after]
@@ -161,7 +162,7 @@ _PLAIN: Dict[str, Callable[[random.Random], str]] = {
     "spec": lambda chance: repr(chance.choice(["", ">30", "<5", "^40", "x"])),
 }
 
-# Kinds of objects that live on: what makes them.
+# Kinds of objects that live on, with the expressions that make them.
 OBJECTS: Dict[str, List[str]] = {
     "Version": [
         "Version.parse({version}, dialect={dialect})",
@@ -220,7 +221,7 @@ TEMPLATES: List[str] = [
 
 
 def _draw(kind: str, chance: random.Random, pool: Pool) -> Argument:
-    """A random argument of a kind."""
+    """Returns a random argument of a kind."""
     if kind in OBJECTS:
         return _kept(kind, chance, pool)
     if kind == "version":
@@ -229,7 +230,7 @@ def _draw(kind: str, chance: random.Random, pool: Pool) -> Argument:
 
 
 def _changed(kind: str, argument: Argument, chance: random.Random, pool: Pool) -> Argument:
-    """Another argument: a list with another item, or the object beside it."""
+    """Returns another argument: a list with another item, or the neighbour of an object."""
     if isinstance(argument, list) and len(argument) > 2:
         at = chance.randrange(1, len(argument) - 1)
         return [*argument[:at], _version(chance, pool), *argument[at + 1 :]]
@@ -245,8 +246,8 @@ def _text(argument: Argument) -> str:
 
 
 def _pair(template: str, chance: random.Random, pool: Pool) -> List[str]:
-    """An expression by a template, in which each kind in braces is a random argument, and the same
-    with another argument."""
+    """Returns an expression for a template, with a random argument for each kind in braces, and the
+    same expression with another argument."""
     kinds = _KIND.findall(template)
     arguments = [_draw(kind, chance, pool) for kind in kinds]
     if kinds == ["Range", "Range"] and chance.randrange(4):
@@ -263,12 +264,13 @@ def _pair(template: str, chance: random.Random, pool: Pool) -> List[str]:
 
 
 def _options_of(expression: str) -> str:
-    """The options in the expression of a range: two of other options can't be combined."""
+    """Returns the options in the expression of a range: two with different options can't be
+    combined."""
     return expression.partition("dialect=")[2].partition(")")[0]
 
 
 def _call(expression: str) -> Call:
-    """A call, with names for the objects between marks."""
+    """Returns a call, with names for the objects between marks."""
     objects: Dict[str, str] = {}
 
     def named(found: "re.Match[str]") -> str:
@@ -280,8 +282,8 @@ def _call(expression: str) -> Call:
 
 
 def _pool(chance: random.Random) -> Pool:
-    """Expressions of objects of each kind, in pairs of which one is nearly the other; of ranges
-    also some that are made of others."""
+    """Returns expressions of objects of each kind, in pairs of which one is nearly the other. For
+    ranges, some are made from others."""
     pool: Pool = {"Version": ["Version(1, 2, 3)", "Version(1, 2, 4)"]}
     for kind, makers in OBJECTS.items():
         pairs = [_pair(chance.choice(makers), chance, pool) for _ in range(80)]
@@ -294,14 +296,15 @@ def _pool(chance: random.Random) -> Pool:
 
 
 def random_calls(chance: random.Random, count: int) -> List[Call]:
-    """So many random calls, two of each template in turn."""
+    """Returns `count` random calls. The templates take turns, two calls each."""
     pool = _pool(chance)
     pairs = (_pair(TEMPLATES[at % len(TEMPLATES)], chance, pool) for at in range(count // 2))
     return [_call(expression) for pair in pairs for expression in pair]
 
 
 def unnamed(package: Any) -> List[str]:
-    """The public names of a package, and those of its classes, that no template has."""
+    """Returns the public names of a package, and of members of its classes, that no template
+    has."""
     named = set(re.findall(r"\w+", " ".join(TEMPLATES)))
     missing = []
     for name in package.__all__:

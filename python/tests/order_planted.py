@@ -1,5 +1,5 @@
-"""Errors by which a result depends on the calls before it, or on other threads. Each is planted in
-the modules of the package by a function; `order` has to find it."""
+"""Errors that make a result depend on earlier calls, or on other threads. Each is planted in the
+modules of the package by a function, and `order` has to find it."""
 
 import ctypes
 import sys

@@ -1,9 +1,9 @@
-"""The table of cases of the repository: rows, and how it writes what a function returns.
+"""The table of cases of this repository: its rows, and how it writes what a function returns.
 
-`crates/replayed_cases` of the checkout has the rows in its `stdin` and the wanted results in its
-`stdout`; its `src/text.rt` says how strings are escaped. Its functions that end with `-as-cargo`
-and `-as-npm` read ranges and versions as these tools do, beside which their rows were made; all
-others read them by the crate's dialects.
+`crates/replayed_cases` has the rows in its `stdin` and the expected results in its `stdout`; its
+`src/text.rt` says how strings are escaped. Functions that end with `-as-cargo` and `-as-npm` read
+ranges and versions in the dialects of these tools, with which their rows were made. All others use
+the crate's dialects.
 """
 
 import re
@@ -29,7 +29,7 @@ CASES = Path(__file__).resolve().parents[2] / "crates" / "replayed_cases"
 _ESCAPES = {"n": "\n", "r": "\r", "t": "\t", "\\": "\\"}
 
 # How the table writes the errors of versions, in fields and in reports. The package has no names
-# for these, so all are one.
+# for these, so all are treated as one.
 _NO_VERSION = "no version"
 _VERSION_ERRORS = re.compile(
     r"\A(?:UnexpectedEnd\Z|UnexpectedToken\(.*|Lexer\(.*|MoreInput\(.*)"
@@ -37,12 +37,12 @@ _VERSION_ERRORS = re.compile(
     re.S,
 )
 
-# How it writes those of ranges: by name, as a sentence, and in reports.
+# How it writes the errors of ranges: by name, as a sentence, and in reports.
 _NAMES = {False: "NotARange", True: "NumberTooLarge"}
 _SENTENCES = {False: "not a range", True: "number too large"}
 _WORDS = {False: "not-a-range", True: "number-too-large"}
 
-# Which pre-releases the functions include that say which versions satisfy a range.
+# Which pre-releases are included by the functions for which versions satisfy a range.
 _RULES = {
     "filter": PreReleases.EXCLUDED,
     "releases": PreReleases.EXCLUDED,
@@ -51,7 +51,7 @@ _RULES = {
     "meet": PreReleases.INCLUDED,
 }
 
-# Those of the functions that say the highest version, in the crate's npm mode.
+# The same for the functions that return the highest version, in the crate's npm mode.
 _RULES_OF_HIGHEST = {
     "greatest-release": PreReleases.EXCLUDED,
     "greatest-stated": PreReleases.DEFAULT,
@@ -60,7 +60,7 @@ _RULES_OF_HIGHEST = {
 
 
 class Row(NamedTuple):
-    """A row of the table, and what is wanted of it."""
+    """A row of the table, and its expected result."""
 
     call: str
     text: str
@@ -69,7 +69,7 @@ class Row(NamedTuple):
 
 
 def _unescaped(text: str, place: Optional[int] = None) -> str:
-    """A string without repetitions, at a place of a list or at none."""
+    """Returns a string without repetitions, at an index of a list or at none."""
 
     def meant(found: "re.Match[str]") -> str:
         character = found.group(1)
@@ -79,7 +79,7 @@ def _unescaped(text: str, place: Optional[int] = None) -> str:
 
 
 def expanded(escaped: str) -> str:
-    """The string that one of the table is short for."""
+    """Returns the string that an escaped one of the table stands for."""
 
     def repeated(found: "re.Match[str]") -> str:
         count, unit, joiner = found.group(1).split(",", 2)
@@ -93,7 +93,7 @@ def expanded(escaped: str) -> str:
 
 
 def rows() -> Iterator[Row]:
-    """All rows of the table."""
+    """Yields all rows of the table."""
     asked = (CASES / "stdin").read_bytes().decode().split("\n")
     wanted = (CASES / "stdout").read_bytes().decode().split("\n")
     assert len(asked) == len(wanted) and asked.pop() == wanted.pop() == ""
@@ -105,10 +105,14 @@ def rows() -> Iterator[Row]:
 
 
 def rows_of_tools() -> Iterator[Tuple[str, str, Row]]:
-    """The rows of the tools: the function, the dialect, and the row.
+    """Yields the rows of the tools: the function, the dialect, and the row.
 
-    The function is `rewritten`, `meant` or `meant-with-all`, which includes all pre-releases,
-    `version`, `refused`: where and why a version is invalid, or `refused-range`: a range.
+    The function is one of these:
+
+    - `rewritten`: the comparators of a range
+    - `meant`, or `meant-with-all` with all pre-releases: the versions that satisfy a range
+    - `version`: the fields of a version
+    - `refused`, `refused-range`: where and why a version or a range is invalid
     """
     for row in rows():
         function, _, tool = row.call.partition("-as-")
@@ -117,7 +121,7 @@ def rows_of_tools() -> Iterator[Tuple[str, str, Row]]:
 
 
 def _dialect(npm: bool) -> Dialect:
-    """The crate's dialect in one of its modes."""
+    """Returns the crate's dialect in one of its modes."""
     return Dialect.CRATE_NPM if npm else Dialect.CRATE_CARGO
 
 
@@ -127,7 +131,7 @@ def _kinds(identifiers: Tuple[Identifier, ...]) -> str:
 
 
 def fields_of_version(version: Version) -> str:
-    """How the table writes the fields of a version."""
+    """Returns the fields of a version as the table writes them."""
     pre, build = _kinds(version.pre), _kinds(version.build)
     return f"{version.major} {version.minor} {version.patch} pre{pre} build{build}"
 
@@ -140,7 +144,7 @@ def _fields_of_comparators(comparators: Comparators) -> str:
 
 
 def is_too_large(error: RangeError) -> bool:
-    """Whether a number of a range is too large."""
+    """Returns whether a number in a range is too large."""
     return "too-large" in error.reason
 
 
@@ -164,7 +168,7 @@ def _of_range(
 
 
 def _report(text: str) -> str:
-    """The lines of the program, whose status is 0 if one of them has a value."""
+    """Returns the lines of the program. Its status is 0 if one of them has a value."""
     version = _of_version(text, str, _NO_VERSION)
     cargo = _of_range(text, False, False, str, _WORDS)
     npm = _of_range(text, True, False, str, _WORDS)
@@ -205,7 +209,8 @@ def _lowest_of(of: Range) -> str:
 
 
 def _of_set(call: str, text: str, steps: str) -> str:
-    """What the table has of the set of a range, or of those of two, of which `steps` is one."""
+    """Returns what the table has for the set of a range, or for those of two; the second one is
+    `steps`."""
     what, rule, mode = call.rsplit("-", 2)
     dialect, pre_releases = _dialect(mode == "npm"), _RULES[rule]
     try:
@@ -235,7 +240,7 @@ def _of_set(call: str, text: str, steps: str) -> str:
 
 
 def answer(call: str, text: str, steps: str) -> Optional[str]:
-    """What the package returns for a row of the table, as that writes it; None if it has no such
+    """Returns what the package returns for a row, as the table writes it, or None if it has no such
     function."""
     name, _, last = call.partition("-")
     npm = "npm" in call
@@ -245,7 +250,7 @@ def answer(call: str, text: str, steps: str) -> Optional[str]:
         return _of_version(text, str, _NO_VERSION)
     if call in ("cargo", "npm"):
         answered = _of_range(text, npm, False, _fields_of_comparators, _NAMES)
-        # The table has the mode of the crate's range set, too.
+        # The table also has the mode of the crate's range set.
         return answered if answered in _NAMES.values() else f"{call.title()} {answered}"
     if call in ("cargo-text", "npm-text", "from-str", "cargo-exact", "npm-exact"):
         return _of_range(text, npm, last == "exact", str, _SENTENCES)
@@ -261,6 +266,6 @@ def answer(call: str, text: str, steps: str) -> Optional[str]:
 
 
 def checksum(text: str) -> str:
-    """What the table has in place of a long result."""
+    """Returns what the table has instead of a long result."""
     answered = text.encode()
     return f"{len(answered)} bytes, Adler-32 {zlib.adler32(answered):08x}"

@@ -1,5 +1,5 @@
-"""The modules of the checkers: the judge, findings, what tools share, and the small functions of
-each tool."""
+"""Tests of the modules of the checkers: the judge, findings, what tools share, and the small
+functions of each tool."""
 
 import os
 import tempfile
@@ -43,13 +43,13 @@ PROJECT = Requirer("the project", "", "", ("top",))
 
 
 def required(specifier: str, version: Optional[str], **more: object) -> Requirement:
-    """A requirement of `part`, of which there is a version, or nothing."""
+    """Returns a requirement of `part`, which is there in a version, or missing."""
     found = None if version is None else Package("part", version, "", ("part",))
     return Requirement(PROJECT, "part", specifier, found)._replace(**more)
 
 
 def sentences(*requirements: Requirement, scheme: Optional[Scheme] = None) -> List[str]:
-    """What the judge says of requirements."""
+    """Returns the judge's sentences for requirements."""
     lock = LockFile([Node(None, requirements)])
     return [it.sentence() for it in judge.judge(lock, scheme or NodeScheme()).findings]
 
@@ -193,7 +193,7 @@ class Shared(unittest.TestCase):
 
 
 def forget_paths() -> None:
-    """Has the root of the repository looked for again."""
+    """Makes the root of the repository be looked for again."""
     repository.roots.cache_clear()
     repository.in_repository.cache_clear()
 

@@ -1,4 +1,5 @@
-"""The lowest version of a range, and how two ranges compare, by each dialect and rule."""
+"""Tests of the lowest version of a range, and of how two ranges compare, in each dialect and by
+each rule."""
 
 import pickle
 import unittest
@@ -16,8 +17,8 @@ from semver_parser import (
 OF_CRATE = (PreReleases.EXCLUDED, PreReleases.DEFAULT, PreReleases.INCLUDED)
 CRATE = (Dialect.CRATE_CARGO, Dialect.CRATE_NPM)
 
-# A range by the crate in npm mode, and its lowest version by each rule: without pre-releases, with
-# the default ones, and with all.
+# A range in the crate's npm mode, and its lowest version by each rule: without pre-releases, by
+# default, and with all of them.
 LOWEST = [
     ("^1.2.3", ("1.2.3", "1.2.3", "1.2.3")),
     ("", ("0.0.0", "0.0.0", "0.0.0")),
@@ -39,8 +40,8 @@ LOWEST = [
 MOST = str(2**64 - 1)
 LAST = ".".join([MOST] * 3)
 
-# A range, and its lowest version without pre-releases, and with the default ones. They follow from
-# what docs/MEANING.md has of each dialect.
+# A range, and its lowest version without pre-releases and by default. They follow from what
+# docs/MEANING.md says about each dialect.
 LOWEST_BY_DIALECT = [
     (Dialect.CARGO, "1.2", ("1.2.0", "1.2.0")),
     (Dialect.CARGO, ">1.2", ("1.3.0", "1.3.0")),
@@ -63,7 +64,7 @@ LOWEST_BY_DIALECT = [
 
 Three = Tuple[Optional[str], Optional[str], Optional[str]]
 
-# Two ranges, and what is lost, gained and shared in the same two ways.
+# Two ranges, and the lowest versions of what is lost, gained and shared, by the same two rules.
 COMPARED_BY_DIALECT = [
     (Dialect.CARGO, "1.2", "^1.2", 2 * ((None, None, "1.2.0"),)),
     (Dialect.NPM, "1.2", "^1.2", 2 * ((None, "1.3.0", "1.2.0"),)),
@@ -90,7 +91,7 @@ COMPARED_BY_DIALECT = [
     (Dialect.CARGO, "*", ">=0.0.0-a", ((None, None, "0.0.0"), (None, "0.0.0-a", "0.0.0"))),
 ]
 
-# Two ranges, and what is lost, gained and shared, whatever the rule and the mode of the crate.
+# Two ranges, and the same by any rule and in either mode of the crate.
 ALIKE = [
     ("^1.2.3", "^1.2.3", (None, None, "1.2.3")),
     ("3.x || ^1.2", "^1.2 || 3.x", (None, None, "1.2.0")),
@@ -103,7 +104,7 @@ ALIKE = [
     (f">={LAST}", f">{LAST}", (LAST, None, None)),
 ]
 
-# The same by each rule: without pre-releases, with the default ones, and with all.
+# The same by each rule: without pre-releases, by default, and with all of them.
 BY_RULE = [
     ("^1.2.0", ">=1.4.0", (*2 * (("1.2.0", "2.0.0", "1.4.0"),), ("1.2.0", "2.0.0-0", "1.4.0"))),
     ("~1.2.0", "^1.2.0", (*2 * ((None, "1.3.0", "1.2.0"),), (None, "1.3.0-0", "1.2.0"))),
@@ -134,7 +135,7 @@ class Comparing(unittest.TestCase):
     def compares(
         self, old: str, new: str, dialect: Dialect, rule: PreReleases, wanted: Three
     ) -> None:
-        """What is lost one way round is gained the other way round."""
+        """What is lost in one direction is gained in the other."""
         lost, gained, shared = wanted
         for one, other, parts in ((old, new, wanted), (new, old, (gained, lost, shared))):
             with self.subTest(old=one, new=other, dialect=dialect, rule=rule):

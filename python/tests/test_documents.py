@@ -1,5 +1,5 @@
-"""What the documents show in Python is what comes out, one version number is everywhere, and each
-public name says what it is, in the words of the project."""
+"""Tests that the documents show what Python prints, that one version number is everywhere, and that
+each public name has a docstring and uses the words of the project."""
 
 import ast
 import doctest
@@ -16,7 +16,8 @@ TOP = Path(__file__).resolve().parents[2]
 
 
 def named(body: List[ast.stmt]) -> Iterator[Tuple[str, ast.stmt, ast.stmt]]:
-    """What has a name among some statements: the name, its statement, and the one after that."""
+    """Yields what has a name among some statements: the name, its statement, and the one after
+    that."""
     for it, after in zip(body, [*body[1:], ast.Pass()]):
         if isinstance(it, (ast.ClassDef, ast.FunctionDef)):
             if "overload" not in map(ast.unparse, it.decorator_list):
@@ -28,7 +29,8 @@ def named(body: List[ast.stmt]) -> Iterator[Tuple[str, ast.stmt, ast.stmt]]:
 
 
 def is_described(name: str, it: ast.stmt, after: ast.stmt, around: str) -> bool:
-    """Whether something has a docstring, or a string after it, or is named in the one around."""
+    """Returns whether something has a docstring, or a string after it, or is named in the docstring
+    around."""
     if isinstance(it, (ast.ClassDef, ast.FunctionDef)):
         return ast.get_docstring(it) is not None
     is_text = isinstance(after, ast.Expr) and isinstance(after.value, ast.Constant)
@@ -50,7 +52,8 @@ class Documents(unittest.TestCase):
         self.assertEqual((failed, tried > 0), (0, True), document)
 
     def test_links(self) -> None:
-        """README is shown where the package is published, so its links lead to no other file."""
+        """README is shown where the package is published, so its links may not lead to other
+        files."""
         readme = (TOP / "python" / "README.md").read_text()
         for target in re.findall(r"\]\(([^)\s]+)\)", readme):
             self.assertRegex(target, "^(https://|#)")
@@ -75,7 +78,7 @@ class Documents(unittest.TestCase):
                     self.assertTrue(is_described(name, it, after, around), (of.name, name))
 
     def test_words(self) -> None:
-        """No public name has a word that the project doesn't use for it."""
+        """No public name contains a word that the project doesn't use for it."""
         names = set(semver_parser.__all__)
         for name in semver_parser.__all__:
             it = getattr(semver_parser, name)

@@ -1,7 +1,8 @@
-"""Where the shared library is looked for, and what is said if it is missing or doesn't fit.
+"""Tests of where the shared library is looked for, and of the error if it is missing or doesn't
+fit.
 
-Each test imports a copy of the package in a process of its own. The library that is tested is the
-one of SEMVER_PARSER_LIBRARY.
+Each test imports a copy of the package in its own process. It tests the library that
+SEMVER_PARSER_LIBRARY names.
 """
 
 import os
@@ -124,7 +125,7 @@ class Loading(unittest.TestCase):
         self.assertTrue(said.startswith(f"{path} doesn't report its version"), said)
 
     def test_names_by_platform(self) -> None:
-        """The name by which cargo has it there, and on Linux the soname."""
+        """The file name that cargo gives the library on each platform, and on Linux the soname."""
         names = {
             "linux": "libsemver_parser.so.1",
             "freebsd14": "libsemver_parser.so.1",
@@ -138,7 +139,7 @@ class Loading(unittest.TestCase):
             self.assertEqual((ended.stdout, ended.stderr), (f"{name}\n", ""))
 
     def numbers(self, *names: str) -> str:
-        """What the numbers of dialects are with a library that has these names for them."""
+        """Returns the numbers of the dialects with a library that has these names for them."""
         code = (
             "import semver_parser._library as library\n"
             f"names = [*(it.encode() for it in {names!r}), None]\n"
@@ -152,15 +153,15 @@ class Loading(unittest.TestCase):
         return ended.stdout
 
     def test_numbers_by_name(self) -> None:
-        """Of a library with more dialects, whatever their order, and of one that lacks one."""
+        """For a library with more dialects, in any order, and for one that lacks a dialect."""
         numbers = self.numbers("npm", "crate-npm", "cargo", "crate-cargo", "another")
         self.assertEqual(numbers, "[0, 1, 2, 3]\n")
         said = "the library of semver_parser has no Dialect 'crate-npm'\n"
         self.assertEqual(self.numbers("cargo", "npm", "crate-cargo", "another"), said)
 
     def test_without_a_library(self) -> None:
-        """The package itself can be imported, so that the programs have their help; its names
-        can't be used, each time."""
+        """The package itself can be imported, so that the programs can print their help. Using its
+        names raises an error each time."""
         code = (
             "import semver_parser as it\n"
             "print(it.__version__, 'Range' in dir(it), hasattr(it, 'other'))\n"

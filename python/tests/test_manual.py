@@ -1,4 +1,4 @@
-"""What the tables of docs/man/semver-ranges.7 have is what the library returns."""
+"""Tests that the library returns what the tables of docs/man/semver-ranges.7 say."""
 
 import re
 import unittest
@@ -13,7 +13,7 @@ RULES = (PreReleases.DEFAULT, PreReleases.INCLUDED)
 
 
 def table(head: str) -> List[List[str]]:
-    """The rows of the table of the manual whose first cell is `head`."""
+    """Returns the rows of the table in the manual whose first cell is `head`."""
     text = MANUAL.read_text()
     for escaped, plain in ((r"\(ha", "^"), (r"\(ti", "~"), (r"\-", "-")):
         text = text.replace(escaped, plain)
@@ -24,7 +24,7 @@ def table(head: str) -> List[List[str]]:
 
 
 def releases(string: str, dialect: Dialect) -> str:
-    """The releases of a range, in the words of the manual."""
+    """Returns the releases in a range, in the words of the manual."""
     try:
         printed = Range(string, dialect=dialect).printed_releases
     except RangeError:
@@ -33,7 +33,7 @@ def releases(string: str, dialect: Dialect) -> str:
 
 
 def expected(cells: List[str], string: str) -> List[str]:
-    """What a row has of a range, for each dialect."""
+    """Returns what a row says about a range, for each dialect."""
     cargo, npm, crate = cells
     spelled = {
         "one or the other": ">=1.0.0 <2.0.0 || >=3.0.0 <4.0.0",
@@ -47,7 +47,7 @@ def expected(cells: List[str], string: str) -> List[str]:
 
 
 def is_read(string: str, dialect: Dialect) -> str:
-    """Whether a string is a version of a dialect, in the words of the manual."""
+    """Returns whether a string is a version in a dialect, in the words of the manual."""
     try:
         Version.parse(string, dialect=dialect)
     except VersionError:

@@ -1,4 +1,5 @@
-"""Ranges as sets: what two have, how they compare, and how they are printed, copied and pickled."""
+"""Tests of ranges as sets: how two are combined and compared, and how they are printed, copied and
+pickled."""
 
 import copy
 import gc
@@ -22,7 +23,7 @@ from semver_parser import (
 NPM, CRATE = Dialect.NPM, Dialect.CRATE_CARGO
 INCLUDED, EXCLUDED = PreReleases.INCLUDED, PreReleases.EXCLUDED
 
-# A range, a dialect, a rule, and the releases and pre-releases that it has.
+# A range, a dialect, a rule, and the releases and pre-releases that it contains.
 PRINTED = [
     ("^1.2", Dialect.CARGO, EXCLUDED, ">=1.2.0 <2.0.0", "<0.0.0-0"),
     ("*", NPM, EXCLUDED, "*", "<0.0.0-0"),
@@ -31,7 +32,7 @@ PRINTED = [
     ("=1.2.3-a || =2.0.0", CRATE, INCLUDED, "=2.0.0", "=1.2.3-a"),
 ]
 
-# Two ranges of the crate, of releases only, and what is in one or the other, in both, and only in
+# Two ranges of the crate, for releases only, and what is in one or the other, in both, and only in
 # the first.
 COMBINED = [
     (">=1.0.0 <1.5.0", ">=1.2.0 <2.0.0", ">=1.0.0 <2.0.0", ">=1.2.0 <1.5.0", ">=1.0.0 <1.2.0"),
@@ -39,7 +40,7 @@ COMBINED = [
     ("*", ">=2.0.0", "*", ">=2.0.0", "<2.0.0"),
 ]
 
-# Ranges of which each is within all that come after it, and has fewer versions.
+# Each of these ranges is a subset of all that come after it, and has fewer versions.
 NESTED = ["<0.0.0", "=1.2.3", "~1.2.0", "^1.0.0", ">=1.0.0", "*"]
 
 
@@ -48,7 +49,7 @@ def releases_of(string: str) -> Range:
 
 
 def combinations() -> Tuple[Range, ...]:
-    """Ranges that were made of two."""
+    """Returns ranges that were combined from two."""
     one, other = Range("^1.2.3-rc", dialect="npm"), Range(">=1.4.0 || 3.x", dialect="npm")
     return (one | other, one & other, one - other, other - one, one - one)
 
@@ -91,7 +92,7 @@ class Combining(unittest.TestCase):
         self.assertEqual(len({first, second, releases_of("1.x")}), 2)
 
     def test_options_are_part_of_equality(self) -> None:
-        """So equal ranges return the same: `v1.2.3` is a version of npm alone."""
+        """So equal ranges return the same: `v1.2.3` is a version only in npm's dialect."""
         made = [
             Range("^1.2.3", dialect=dialect, pre_releases=rule)
             for dialect in Dialect
@@ -106,7 +107,7 @@ class Combining(unittest.TestCase):
                     self.check_refusals(one, other)
 
     def check_refusals(self, one: Range, other: Range) -> None:
-        """Two ranges of different options aren't combined, and the error says what differs."""
+        """Two ranges with different options aren't combined, and the error says what differs."""
         different = "dialects" if one.dialect != other.dialect else "rules for pre-releases"
         message = f"^the ranges have different {different}: dialect='"
         for call in (
@@ -222,7 +223,7 @@ class Printing(unittest.TestCase):
                     self.check_repr(one & one)
 
     def check_repr(self, made: Range) -> None:
-        """An expression for the range, or something else between `<` and `>`."""
+        """The result is an expression for the range, or something else between `<` and `>`."""
         if repr(made).startswith("<"):
             self.assertEqual(repr(made)[: len("<Range '")], "<Range '")
         else:
@@ -238,7 +239,7 @@ class Printing(unittest.TestCase):
         self.assertEqual(repr(one & one), wanted)
 
     def test_comparators(self) -> None:
-        """Of a combined range those of its releases."""
+        """The comparators of a combined range are those of its releases."""
         cargo = Range("^1.2", dialect="cargo") - Range("=1.4.2", dialect="cargo")
         self.assertEqual(str(cargo.comparators), ">=1.2.0 <1.4.2 || >=1.4.3 <2.0.0")
         npm = Range("*", dialect="npm")
@@ -261,7 +262,8 @@ class Keeping(unittest.TestCase):
                 self.assertEqual(again.lowest_version, one.lowest_version)
 
     def test_pickles_of_this_version(self) -> None:
-        """A pickle that was written before still loads: it names public classes and a function."""
+        """A pickle that was written before can still be loaded: it names public classes and a
+        function."""
         stored = (
             b"csemver_parser\n_unpickled_range\n"
             b"(Vnpm\nVdefault\n(V^1.2\nV>=1.4.0\n(V&\nI0\nI1\ntttR."
@@ -275,7 +277,7 @@ class Keeping(unittest.TestCase):
             self.assertNotIn("semver_parser._", pickled)
 
     def test_pickles_of_many(self) -> None:
-        """Of many combinations, of which some are used again and again."""
+        """Many combinations, some of which are used again and again."""
         made = Range("=0.0.0", dialect="cargo")
         for at in range(1, 3000):
             made = made | Range(f"={at}.0.0", dialect="cargo")
@@ -311,7 +313,7 @@ class Keeping(unittest.TestCase):
         self.assertEqual(repr(made), "Range('^1', dialect='npm')")
 
     def test_memory_is_freed(self) -> None:
-        """The memory of this process doesn't grow by ranges that nothing has any more."""
+        """The memory of this process doesn't grow by ranges that are no longer referenced."""
         string = " || ".join(f"={at}.0.0" for at in range(2000))
 
         def pages() -> int:
@@ -331,7 +333,7 @@ class Keeping(unittest.TestCase):
         self.assertLess(pages() - before, 2000)
 
     def test_out_of_memory(self) -> None:
-        """A range that there is no memory for."""
+        """A range that doesn't fit into memory."""
         self.check_run(
             "import resource\n"
             "from semver_parser import Range, crate_comparators\n"
@@ -346,7 +348,7 @@ class Keeping(unittest.TestCase):
         )
 
     def test_cycles(self) -> None:
-        """A range that is in a cycle is usable in what ends the cycle."""
+        """A range that is in a reference cycle can be used in the finalizer that ends the cycle."""
         said = []
 
         class InCycle:
@@ -362,12 +364,12 @@ class Keeping(unittest.TestCase):
         self.assertEqual(said, 20 * ["1.0.0"])
 
     def check_run(self, code: str) -> None:
-        """A program ends without error."""
+        """Checks that a program ends without an error."""
         ended = subprocess.run([sys.executable, "-c", code], capture_output=True, text=True)
         self.assertEqual((ended.stdout, ended.stderr, ended.returncode), ("True\n", "", 0))
 
     def test_end_of_the_interpreter(self) -> None:
-        """Ranges are usable there, and are freed without error."""
+        """Ranges can be used there, and are freed without an error."""
         self.check_run(
             "import atexit, sys\n"
             "from semver_parser import Range\n"

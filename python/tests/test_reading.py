@@ -1,4 +1,4 @@
-"""Versions and comparators as they are parsed, as plain data, and the errors of strings."""
+"""Tests of versions and comparators as plain data, and of the errors of strings."""
 
 import copy
 import dataclasses
@@ -32,14 +32,14 @@ from semver_parser._library import LIBRARY, check
 
 MOST = 2**64 - 1
 
-# The highest number of npm's versions.
+# The highest number in a version in npm's dialect.
 MOST_OF_NPM = 2**53 - 1
 
 CRATE = (Dialect.CRATE_CARGO, Dialect.CRATE_NPM)
 
-# A string, and what docs/GRAMMAR.md has of it under "Versions of Cargo and npm" and under
-# "Version texts": the version in Cargo's dialect, in npm's, and in the crate's two, or None
-# where it is none.
+# A string, and what docs/GRAMMAR.md says about it under "Versions of Cargo and npm" and under
+# "Version texts": the version in Cargo's dialect, in npm's, and in the crate's two, or None if it
+# is invalid.
 VERSIONS: List[Tuple[String, Tuple[Optional[Version], Optional[Version], Optional[Version]]]] = [
     ("1.2.3", 3 * (Version(1, 2, 3),)),
     (b"1.2.3-rc.1+b5.05", 3 * (Version(1, 2, 3, ("rc", 1), ("b5", "05")),)),
@@ -82,7 +82,7 @@ VERSIONS: List[Tuple[String, Tuple[Optional[Version], Optional[Version], Optiona
 
 
 class ByDialect(unittest.TestCase):
-    """Versions by each dialect."""
+    """Versions in each dialect."""
 
     def test_dialects(self) -> None:
         for text, (by_cargo, by_npm, by_crate) in VERSIONS:
@@ -98,7 +98,7 @@ class ByDialect(unittest.TestCase):
                     self.assertIs(caught.exception.dialect, dialect)
 
     def test_offsets(self) -> None:
-        """Where and why a string is none."""
+        """Where and why a string is invalid."""
         for text, dialect, offset, reason in (
             ("", Dialect.CARGO, 0, "empty"),
             ("1.2", Dialect.CARGO, 3, "not-three-numbers"),
@@ -123,7 +123,7 @@ class ByDialect(unittest.TestCase):
             self.assertIn(caught.exception.sentence, str(caught.exception))
 
     def test_read_once(self) -> None:
-        """Where and why a string is none is found once, and isn't pickled."""
+        """Where and why a string is invalid is determined only once, and isn't pickled."""
         with self.assertRaises(VersionError) as caught:
             Version.parse("1.2", dialect="cargo")
         error = caught.exception
@@ -147,7 +147,7 @@ class ByDialect(unittest.TestCase):
 
 
 class Versions(unittest.TestCase):
-    """Versions of the crate's grammar."""
+    """Versions in the crate's grammar."""
 
     def test_fields(self) -> None:
         for dialect in CRATE:
@@ -173,13 +173,13 @@ class Versions(unittest.TestCase):
             self.assertEqual(str(Version.parse(f" {text} ", dialect=Dialect.CRATE_NPM)), text)
 
     def refuses_parts(self, kind: type, part: object) -> None:
-        """As a pre-release and as build metadata."""
+        """Checks a part as a pre-release and as build metadata."""
         for parts in ((part, ()), ((), part)):
             with self.assertRaises(kind):
                 Version(1, 2, 3, *parts)
 
     def test_made_by_hand(self) -> None:
-        """A printed version is parsed as that version by each dialect that has it."""
+        """A printed version is parsed to the same version in each dialect that accepts it."""
         of_all = (0, MOST, "a", "1-2", "a-b-3", str(MOST + 1), "9" * 100)
         of_tools = ("-", "--", "-a", "a-", "a--b", "-1", "-01", "0-")
         for number in (0, 7, MOST_OF_NPM):
@@ -266,7 +266,7 @@ class Ranges(unittest.TestCase):
             self.assertIs(type(comparators), Comparators)
 
     def test_dialects(self) -> None:
-        """What docs/man/semver-ranges.7 has of each range, with exact bounds."""
+        """What docs/man/semver-ranges.7 says about each range, with exact bounds."""
         for text, wanted in DIALECTS:
             for dialect, set_text in zip(Dialect, wanted):
                 with self.subTest(text=text, dialect=dialect):
@@ -279,7 +279,7 @@ class Ranges(unittest.TestCase):
                         self.assertEqual(str(answered), set_text)
 
     def test_bounds(self) -> None:
-        """They are exact, and by `crate_comparators` those of the crate."""
+        """They are exact; `crate_comparators` returns the crate's."""
         for string, exact, of_crate in (
             ("<=1.2", "<1.3.0-0", "<1.3.0"),
             ("^1.2.3", ">=1.2.3 <2.0.0-0", ">=1.2.3 <2.0.0"),
@@ -324,7 +324,7 @@ class Ranges(unittest.TestCase):
             f"{answered:d}"
 
     def test_counts(self) -> None:
-        """Of many comparators, and of long pre-releases."""
+        """Many comparators, and long pre-releases."""
         for count in (*range(1, 40), 1000):
             text = "||".join(["^1.2.3-rc.1"] * count)
             both = (Comparator(Op.GTE, 1, 2, 3, ("rc", 1)), Comparator(Op.LT, 2, 0, 0))
@@ -348,8 +348,8 @@ class Ranges(unittest.TestCase):
         self.assertEqual(many[0][0].pre, ("a", 1) * 50_000)
 
 
-# A string, and what it is rewritten to by each dialect, or None if it is no range: Cargo's, npm's,
-# and the crate's in Cargo mode and in npm mode.
+# A string, and its comparators in each dialect, or None if it is invalid: Cargo's, npm's, and the
+# crate's in Cargo mode and in npm mode.
 DIALECTS = [
     ("1.2.3", (">=1.2.3 <2.0.0-0", "=1.2.3", ">=1.2.3 <2.0.0-0", "=1.2.3")),
     ("1.2", (">=1.2.0 <2.0.0-0", *3 * (">=1.2.0 <1.3.0-0",))),
@@ -376,7 +376,7 @@ class Errors(unittest.TestCase):
             self.assertIs(caught.exception.dialect, dialect)
 
     def refuses_range(self, text: String, *reasons: str) -> None:
-        """By each dialect, for one of some reasons."""
+        """Checks each dialect. The reason has to be one of these."""
         for dialect in Dialect:
             calls = [Range, partial(satisfies, "1.0.0")]
             for call in calls if dialect not in CRATE else [*calls, crate_comparators]:
@@ -410,7 +410,7 @@ class Errors(unittest.TestCase):
         self.refuses_range(f"<={MOST + 1}", "too-large", "npm-too-large")
 
     def test_offsets_of_ranges(self) -> None:
-        """The offset counts characters of a `str`, and bytes of `bytes`."""
+        """The offset counts characters in a `str`, and bytes in `bytes`."""
         for text, offset in (("\u3000>\u3000v\u2070", 4), ("\u3000>\u3000v\u2070".encode(), 8)):
             with self.assertRaises(RangeError) as caught:
                 Range(text, dialect="npm")
@@ -492,14 +492,14 @@ class Errors(unittest.TestCase):
                     getattr(fine, name)
 
     def test_base(self) -> None:
-        """One class has both, and is a `ValueError`."""
+        """Both errors have one base class, which is a `ValueError`."""
         for call in (partial(Version.parse, "1.2"), partial(Range, "v1")):
             with self.assertRaises(SemverError) as caught:
                 call(dialect="cargo")
             self.assertIsInstance(caught.exception, ValueError)
 
     def test_reasons(self) -> None:
-        """The type names those of the library, in their order, and no others."""
+        """The type has the names of the library, in the same order, and no others."""
         names: List[str] = []
         while name := LIBRARY.semver_parser_reason_name(len(names) + 1):
             names.append(name.decode("ascii"))
@@ -507,7 +507,7 @@ class Errors(unittest.TestCase):
         self.assertEqual(tuple(names), get_args(Reason))
 
     def test_statuses(self) -> None:
-        """Their numbers are those of the header."""
+        """Their numbers are those in the header."""
         header = Path(__file__).resolve().parents[2] / "rust/capi/include/semver_parser.h"
         numbers = dict(re.findall(r"^ *SEMVER_PARSER_(\w+) = (\d+),?$", header.read_text(), re.M))
         names = ("OK", "INVALID_RANGE", "NUMBER_TOO_LARGE", "INVALID_VERSION", "OUT_OF_MEMORY")
@@ -515,7 +515,8 @@ class Errors(unittest.TestCase):
             self.assertEqual(getattr(_interface, name), int(numbers[name]), name)
 
     def test_explained_when_asked_for(self) -> None:
-        """The library isn't asked where and why a string is wrong before an error is."""
+        """The library isn't called to find out where and why a string is invalid before that is
+        needed."""
         asked = []
 
         class Watched:

@@ -1,5 +1,5 @@
-"""Which versions satisfy a range by each dialect and each rule for pre-releases, in order and with
-repeats, and the highest and lowest of them."""
+"""Tests of which versions satisfy a range, in each dialect and by each rule for pre-releases, in
+order and with repeats, and of the highest and lowest of them."""
 
 import ctypes
 import operator
@@ -28,7 +28,7 @@ from semver_parser._options import c_options
 from semver_parser._strings import c_string
 from tests.table import rows
 
-# The versions of the standard's section 11, from the lowest to the highest.
+# The versions in section 11 of the standard, from the lowest to the highest.
 ORDERED = [
     "1.0.0-alpha",
     "1.0.0-alpha.1",
@@ -43,13 +43,13 @@ ORDERED = [
     "2.1.1",
 ]
 
-# In the order in which the tables below have what satisfies.
+# In the order of the columns in the tables below.
 DIALECTS = (Dialect.CARGO, Dialect.NPM, Dialect.CRATE_CARGO, Dialect.CRATE_NPM)
 RULES = (PreReleases.EXCLUDED, PreReleases.DEFAULT, PreReleases.INCLUDED)
 
-# Of docs/man/semver-ranges.7, and what docs/MEANING.md has of each tool: a range, a version, and whether
-# it satisfies by each dialect, in the order above and with the default pre-releases; None if the
-# string is no range.
+# From docs/man/semver-ranges.7 and docs/MEANING.md: a range, a version, and whether it satisfies
+# the range in each dialect, in the order above, by the default rule. None if the string isn't a
+# range.
 BY_DIALECT = [
     ("1.2.3", "1.9.0", (True, False, True, False)),
     ("1.2", "1.9.0", (True, False, False, False)),
@@ -69,8 +69,8 @@ BY_DIALECT = [
     ("^1.2.3-beta", "1.3.0-rc", (False, False, False, False)),
 ]
 
-# Of docs/man/semver-ranges.7 and docs/MEANING.md ("Pre-releases"): range, version, and by which rules it
-# satisfies.
+# From docs/man/semver-ranges.7 and docs/MEANING.md ("Pre-releases"): a range, a version, and by
+# which rules it satisfies the range.
 THREE_RULES = [
     ("^1.2.3-beta.4", "1.9.0", (True, True, True)),
     ("^1.2.3-beta.4", "1.2.3-rc", (False, True, True)),
@@ -101,7 +101,7 @@ class Satisfying(unittest.TestCase):
     def check_dialect(
         self, string: str, version: str, dialect: Dialect, wanted: Optional[bool]
     ) -> None:
-        """Whether a version satisfies with the default pre-releases, and with none."""
+        """Checks whether a version satisfies a range by default, and without pre-releases."""
         if wanted is None:
             for rule in PreReleases:
                 with self.assertRaises(RangeError):
@@ -129,7 +129,7 @@ class Satisfying(unittest.TestCase):
                     self.check_dialect(string, version, dialect, is_wanted)
 
     def test_releases_satisfy_the_comparators(self) -> None:
-        """A release satisfies a range if it satisfies its comparators, by each dialect."""
+        """A release satisfies a range if it satisfies its comparators, in each dialect."""
         for string, version, wanted in BY_DIALECT:
             for dialect, is_wanted in zip(DIALECTS, wanted):
                 if is_wanted is not None and "-" not in version:
@@ -140,7 +140,7 @@ class Satisfying(unittest.TestCase):
                         self.assertIs(satisfies(version, printed, dialect="crate-npm"), is_wanted)
 
     def test_errors(self) -> None:
-        """A version is refused first."""
+        """An invalid version is reported first."""
         for call in (
             lambda version, string: satisfies(version, string, dialect="cargo"),
             lambda version, string: version in Range(string, dialect="cargo"),
@@ -171,7 +171,7 @@ class Satisfying(unittest.TestCase):
 
 
 class Options(unittest.TestCase):
-    """Each function that takes options takes the same, and nothing else."""
+    """Each function that takes options takes the same ones, and no others."""
 
     CALLS = (
         partial(satisfies, "1.2.3", "^1"),
@@ -227,7 +227,7 @@ class Options(unittest.TestCase):
                     call(dialect="npm", pre_releases=wrong)
 
     def test_numbers_of_the_library(self) -> None:
-        """Each number is one of an option, and beside these there is none."""
+        """Each number belongs to an option, and there are no others."""
         for dialect in Dialect:
             for rule in PreReleases:
                 self.assertEqual(self.status(c_options(dialect, rule)), OK)
@@ -238,7 +238,7 @@ class Options(unittest.TestCase):
         self.assertNotEqual(self.status(COptions(0, 0, (0, 0, 0, 0, 0, 1))), OK)
 
     def status(self, options: COptions) -> int:
-        """The status that the library returns."""
+        """Returns the status that the library returns."""
         flag = LIBRARY.semver_parser_satisfies.argtypes[3]._type_()
         strings = (c_string("1.0.0"), c_string("1"))
         status: int = LIBRARY.semver_parser_satisfies(*strings, options, flag, None)
@@ -291,7 +291,7 @@ class Filtered(unittest.TestCase):
                 call([], "skip")
 
     def test_dialects(self) -> None:
-        """The versions are read by the dialect of the range, as docs/GRAMMAR.md has them."""
+        """Versions are parsed in the dialect of the range, by docs/GRAMMAR.md."""
         of_crate = (Dialect.CRATE_CARGO, Dialect.CRATE_NPM)
         for string, has in (
             ("1.0.0--a", (Dialect.CARGO, Dialect.NPM)),
@@ -323,7 +323,7 @@ class Filtered(unittest.TestCase):
                     self.assertEqual(chosen.filter([string, "1.2.3"], invalid="skip"), ["1.2.3"])
 
     def test_canaries(self) -> None:
-        """Versions whose pre-release begins with a hyphen, as npm and Cargo have them."""
+        """Versions whose pre-release begins with a hyphen, in npm's and Cargo's dialects."""
         canary = "6.2.0--canary.14175.ab12.0"
         given = ["6.2.0--canary.9.0", canary, "6.2.0--canary.14175.ab12", "6.2.1--canary.1"]
         given.append("5.0.0")
@@ -367,7 +367,7 @@ class Highest(unittest.TestCase):
         self.assertEqual(both("1", given, Dialect.NPM), ("1.10.0", "1.2.0"))
 
     def test_order_of_the_standard(self) -> None:
-        """The order of section 11, by the library."""
+        """The order of section 11, as the library has it."""
         every = Range("*", dialect="cargo", pre_releases="included")
         for at, lower in enumerate(ORDERED):
             for higher in ORDERED[at + 1 :]:
@@ -393,14 +393,14 @@ class Precedence(unittest.TestCase):
             self.assertLess(precedence(lower), precedence(higher))
 
     def goes_as_comparators(self, ends: List[str], dialects: Tuple[Dialect, ...]) -> None:
-        """The order of the keys is that of the comparators."""
+        """The keys have the same order as the comparators."""
         versions = [f"1.2.3{end}" for end in ends]
         for dialect in dialects:
             keys = {it: precedence(Version.parse(it, dialect=dialect)) for it in versions}
             for one in versions:
                 for other in versions:
                     if "-01" in other or "+" in other:
-                        continue  # a range has it as another identifier, or drops it
+                        continue  # in a range this is another identifier, or is dropped
                     below = Range(f"<{other}", dialect=dialect, pre_releases="included")
                     self.assertIs(keys[one] < keys[other], one in below, (one, other, dialect))
 
@@ -414,9 +414,9 @@ class Precedence(unittest.TestCase):
         self.goes_as_comparators([*ends, largest, *hyphens], (Dialect.CARGO, Dialect.NPM))
 
     def test_precedence_is_the_one_of_comparing(self) -> None:
-        """Versions of the table are ordered as the library compares them, each with its neighbours
-        by the key, and with others at random. By the crate's dialects identifiers of more than 64
-        bits are strings to the library."""
+        """The versions of the table are ordered as the library compares them: each with its
+        neighbours by the key, and with random others. In the crate's dialects, identifiers of more
+        than 64 bits are strings to the library."""
         found = {row.text for row in rows() if row.call.startswith("version")}
         for dialect in Dialect:
             of_tool = dialect in (Dialect.CARGO, Dialect.NPM)
@@ -430,14 +430,14 @@ class Precedence(unittest.TestCase):
                 self.assertEqual(self.compared(one, other, dialect), wanted, (one, other))
 
     def key_of(self, version: str, dialect: Dialect) -> object:
-        """The key of a version, or None."""
+        """Returns the key of a version, or None."""
         try:
             return precedence(version, dialect=dialect)
         except VersionError:
             return None
 
     def compared(self, one: str, other: str, dialect: Dialect) -> int:
-        """What the library says of two versions."""
+        """Returns how the library compares two versions."""
         compare, order = LIBRARY.semver_parser_compare_versions, ctypes.c_int32(7)
         compare.argtypes = [CString, CString, ctypes.c_int32, *2 * (ctypes.c_void_p,)]
         strings = (c_string(one), c_string(other))
@@ -445,7 +445,7 @@ class Precedence(unittest.TestCase):
         return order.value
 
     def test_numbers_of_any_size(self) -> None:
-        """Identifiers of digits are numbers, and below others, as section 11 has it."""
+        """Identifiers of digits are numbers, and are below others, as section 11 says."""
         numbers = ["9", str(2**64 - 1), str(2**64), "9" * 20, "1" + "0" * 20, "1" + "0" * 5000]
         strings = [f"1.2.3-{it}" for it in (*numbers, "0a", "a")]
         versions = [Version.parse(it, dialect="cargo") for it in strings]
@@ -480,7 +480,8 @@ class Precedence(unittest.TestCase):
                 precedence(value, dialect="npm")
 
     def test_build_metadata_ends_the_order(self) -> None:
-        """By precedence it is ignored. By `<` two versions are equal only if all fields are."""
+        """It is ignored by precedence. By `<`, two versions are equal only if all their fields
+        are."""
         builds = [(), (1,), (2,), (2, 0), (10,), (2**64 - 1,), ("05",), ("1a",), ("B",), ("a",)]
         builds += [("a", 1), ("a", "b"), ("ab",)]
         versions = [Version(1, 0, 0, ("a",), build) for build in builds]
@@ -526,7 +527,7 @@ class Threads(unittest.TestCase):
             thread.join()
 
     def test_ranges_of_each(self) -> None:
-        """Calls from several threads return each its own."""
+        """Calls from several threads each return their own result."""
         wrong: List[object] = []
 
         def call(number: int) -> None:
@@ -543,7 +544,7 @@ class Threads(unittest.TestCase):
         self.assertEqual(wrong, [])
 
     def test_one_range(self) -> None:
-        """One range is used by several threads, which combine it and let go of it."""
+        """One range is used by several threads, which combine it and drop the results."""
         wrong: List[object] = []
         given = [f"1.{minor}.0" for minor in range(50)]
         shared = Range("^1.10", dialect="npm")

@@ -1,5 +1,5 @@
-"""The rows of the table: versions, ranges by each dialect, printing, exact bounds, which versions
-satisfy a range, and sets."""
+"""Tests with the rows of the table: versions, ranges in each dialect, printing, exact bounds, which
+versions satisfy a range, and sets."""
 
 import re
 import unittest
@@ -29,12 +29,12 @@ _DIALECTS_OF_REFUSED = {**_DIALECTS_OF_TOOLS, "crate": Dialect.CRATE_CARGO}
 _DIALECTS_OF_RANGES = {**_DIALECTS_OF_REFUSED, **_DIALECTS_OF_CRATE}
 # Which pre-releases a row includes.
 _RULES_OF_MEANT = {"meant": PreReleases.DEFAULT, "meant-with-all": PreReleases.INCLUDED}
-# How the table names the errors of ranges.
+# The names of the errors of ranges in the table.
 _NAMES = {False: "not-a-range", True: "number-too-large"}
 
 
 def fits_npm(version: str) -> bool:
-    """Whether the numbers of a version are such that npm reads it."""
+    """Returns whether the numbers of a version fit npm's limit."""
     return all(int(it) < 2**53 for it in re.split("[-+]", version)[0].split("."))
 
 
@@ -61,7 +61,7 @@ class Table(unittest.TestCase):
 
 
 class Tools(unittest.TestCase):
-    """The rows that were made beside Cargo's `semver` and beside node-semver, by their dialects."""
+    """The rows that were made with Cargo's `semver` and with node-semver, in their dialects."""
 
     def test_rows(self) -> None:
         counts: Counts[Tuple[str, str]] = Counter()
@@ -92,7 +92,7 @@ class Tools(unittest.TestCase):
             self.assertGreaterEqual(counts[tool, _NO_RANGE], 69)
 
     def check_refusal(self, text: str, dialect: Dialect, wanted: str) -> None:
-        """Where and why a version is invalid; the table has the offset in bytes."""
+        """Checks where and why a version is invalid; the table has the offset in bytes."""
         try:
             Version.parse(text, dialect=dialect)
             answered = "a version"
@@ -101,7 +101,7 @@ class Tools(unittest.TestCase):
         self.assertEqual(answered, wanted)
 
     def check_no_range(self, text: str, dialect: Dialect, wanted: str) -> None:
-        """Where and why a string is no range."""
+        """Checks where and why a string is an invalid range."""
         try:
             Range(text, dialect=dialect)
             answered = "a range"
@@ -112,7 +112,7 @@ class Tools(unittest.TestCase):
         self.assertEqual(answered, wanted)
 
     def check_version(self, call: str, text: str, dialect: Dialect, wanted: str) -> None:
-        """The fields, or `none`; a long result by its checksum."""
+        """Checks the fields of a version, or `none`; a long result by its checksum."""
         try:
             answered = fields_of_version(Version.parse(text, dialect=dialect))
         except VersionError:
@@ -120,7 +120,7 @@ class Tools(unittest.TestCase):
         self.assertEqual(checksum(answered) if call.startswith(_SUM) else answered, wanted)
 
     def check_rewriting(self, text: str, dialect: Dialect, wanted: str) -> None:
-        """The comparators of a range, with exact bounds."""
+        """Checks the comparators of a range, with exact bounds."""
         try:
             self.assertEqual(str(Range(text, dialect=dialect).comparators), wanted)
         except RangeError as error:
@@ -129,8 +129,8 @@ class Tools(unittest.TestCase):
     def check_meaning(
         self, text: str, dialect: Dialect, rule: PreReleases, versions: List[str], wanted: str
     ) -> None:
-        """Of the pre-releases of a rule, and of the releases among them. Versions whose numbers are
-        too large for npm are left out."""
+        """Checks which versions satisfy a range by a rule, and the releases among them. Versions
+        whose numbers are too large for npm are left out."""
         try:
             chosen = Range(text, dialect=dialect, pre_releases=rule)
             releases = Range(text, dialect=dialect, pre_releases="excluded")

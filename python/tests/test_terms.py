@@ -1,4 +1,5 @@
-"""The terms of ranges: what is written, and where. The expected values are read off the strings."""
+"""Tests of the terms of ranges: what is written, and where. The expected values are read off the
+strings."""
 
 import dataclasses
 import unittest
@@ -21,7 +22,7 @@ from semver_parser import (
 NPM, CARGO = Dialect.NPM, Dialect.CARGO
 CRATE_NPM, CRATE_CARGO = Dialect.CRATE_NPM, Dialect.CRATE_CARGO
 
-# A range, the dialects that read it, and of each term the index of its range, its operator, its
+# A range, the dialects that accept it, and for each term the index of its range, its operator, its
 # string, and the strings of its versions.
 WRITTEN: List[Tuple[String, List[Dialect], List[Tuple[int, str, String, List[String]]]]] = [
     (
@@ -53,7 +54,8 @@ WRITTEN: List[Tuple[String, List[Dialect], List[Tuple[int, str, String, List[Str
             (1, "-", "1.2.3-a-b - 4.0.0+b", ["1.2.3-a-b", "4.0.0+b"]),
         ],
     ),
-    # White space of two and of three bytes: an offset is an index of the `str`, or of the `bytes`.
+    # White space of two and of three bytes: an offset is an index into the `str`, or into the
+    # `bytes`.
     (
         "\ufeff~1.2\u00a0\u20031 ||\u30002 -\u00a03",
         [NPM],
@@ -78,7 +80,7 @@ WRITTEN: List[Tuple[String, List[Dialect], List[Tuple[int, str, String, List[Str
 
 _Parts = Tuple[Component, Optional[Component], Optional[Component], str, str]
 
-# A range, and of its first version the components, the pre-release and the build metadata.
+# A range, and the components, the pre-release and the build metadata of its first version.
 PARTS: List[Tuple[str, _Parts]] = [
     ("~1", (1, None, None, "", "")),
     ("~1.2", (1, 2, None, "", "")),
@@ -90,12 +92,12 @@ PARTS: List[Tuple[str, _Parts]] = [
     ("x", ("x", None, None, "", "")),
     ("*.X.x", ("*", "X", "x", "", "")),
     ("0.0.0", (0, 0, 0, "", "")),
-    # A number after a wildcard doesn't count. The first one is 2**64 - 1, and the second one above.
+    # A number after a wildcard is ignored. The first one is 2**64 - 1, and the second one is above.
     ("1.x.18446744073709551615", (1, "x", 2**64 - 1, "", "")),
     ("1.x.18446744073709551616", (1, "x", 2**64 - 1, "", "")),
 ]
 
-# A range, and it with the numbers of 3.1.4-rc.1+b5 in place of each of its versions.
+# A range, and the range with the numbers of 3.1.4-rc.1+b5 instead of each of its versions.
 REPLACED: List[Tuple[String, Dialect, List[str]]] = [
     ("~1", NPM, ["~3"]),
     ("v1.2 || >= 1.2.3-a+b", NPM, ["v3.1 || >= 1.2.3-a+b", "v1.2 || >= 3.1.4-rc.1"]),
@@ -106,7 +108,7 @@ REPLACED: List[Tuple[String, Dialect, List[str]]] = [
     ("* || 1.0.0", CRATE_NPM, ["* || 1.0.0", "* || 3.1.4-rc.1"]),
 ]
 
-# A range that is invalid in a dialect, and where and why.
+# A range that is invalid in a dialect, with the offset and the reason.
 INVALID: List[Tuple[String, Dialect, int, str]] = [
     ("1 || 2", CARGO, 2, "cargo-bars"),
     (b"1 || 2", CARGO, 2, "cargo-bars"),
@@ -119,7 +121,7 @@ INVALID: List[Tuple[String, Dialect, int, str]] = [
 
 
 def strings_of_versions(string: String, term: Term) -> List[String]:
-    """The strings of the versions of a term."""
+    """Returns the strings of the versions of a term."""
     versions = [term.version] if term.upper is None else [term.version, term.upper]
     return [string[it.start : it.end] for it in versions]
 
@@ -147,7 +149,7 @@ class Terms(unittest.TestCase):
                 combined.terms
 
     def test_whole(self) -> None:
-        """A term and a version by all their fields."""
+        """A term and a version with all their fields."""
         version = PartialVersion(11, 25, True, 2, 0, 0, "rc.1", "b5")
         self.assertEqual(
             terms("~1.2 || >= v2.0.0-rc.1+b5", dialect="npm"),
@@ -186,7 +188,7 @@ class Terms(unittest.TestCase):
         self.assertEqual([it.range for it in found], numbers)
 
     def test_replacing(self) -> None:
-        """Another version may be at the offsets of a version, and the string is a range again."""
+        """With another version at the offsets of a version, the string is still a valid range."""
         for string, dialects, expected in WRITTEN:
             for dialect in dialects if isinstance(string, str) else ():
                 for it in terms(string, dialect=dialect):

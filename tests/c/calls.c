@@ -64,7 +64,7 @@ static void *block(size_t length) {
     return made;
 }
 
-/* The bytes of a text in a block of their own. */
+/* Returns the bytes of a text in a block of their own. */
 static semver_parser_string alone(const text *of) {
     char *bytes = (char *)block(of->length);
     memcpy(bytes, of->bytes, of->length);
@@ -134,7 +134,7 @@ static semver_parser_status make(
         strings[0], options.dialect, it->exact, (semver_parser_comparators **)out, error);
 }
 
-/* What the header says of the fields of an error. */
+/* Checks what the header says about the fields of an error. */
 static void require_error(const call *it, const outcome *error) {
     const text *of = it->strings[0];
     semver_parser_reason reason = error->reason;
@@ -185,7 +185,7 @@ static void free_made(const call *it, void *made) {
     }
 }
 
-/* The parts of a version in a text, in place of those in the string that was parsed. */
+/* Moves the parts of a parsed version to where they are in another copy of the string. */
 static void move_parts(semver_parser_version *parsed, const semver_parser_string *of,
                        const text *to) {
     semver_parser_string *parts[] = {&parsed->pre, &parsed->build};
@@ -210,15 +210,15 @@ static outcome call_once(const call *it, semver_parser_string *strings, bool ask
         move_parts((semver_parser_version *)to, &strings[0], it->strings[0]);
     }
     if (!is_ok && asks) {
-        require(told.status == status, "another status in the error", it->strings[0]);
+        require(told.status == status, "wrong status in the error", it->strings[0]);
         require_error(it, &told);
     }
     told.status = status;
     return told;
 }
 
-/* Makes a call with and without an error, and with empty strings in blocks and at null: the last of
- * them is what is taken. */
+/* Makes a call with and without an error, and with empty strings in blocks and at null. The last
+ * of these calls gives the result. */
 static outcome careful(const call *it, void *to) {
     semver_parser_string blocks[2] = {{NULL, 0}, {NULL, 0}};
     outcome last = no_error;
@@ -231,7 +231,7 @@ static outcome careful(const call *it, void *to) {
             strings[at].data = strings[at].length == 0 ? NULL : strings[at].data;
         }
         outcome told = call_once(it, strings, pass >= 2, to);
-        require(pass == 0 || told.status == last.status, "another status", it->strings[0]);
+        require(pass == 0 || told.status == last.status, "wrong status", it->strings[0]);
         if (pass < 3 && told.status == SEMVER_PARSER_OK) {
             free_made(it, to);
         }
@@ -275,7 +275,8 @@ static bool is_same(const outcome *one, const outcome *other) {
            && one->reason == other->reason;
 }
 
-/* A version in an array, alone and between two others: at null, and no version. */
+/* Checks a version in an array, alone and between two others: one at null, and an invalid
+ * version. */
 static void contains_in_array(
     const semver_parser_range *set, const text *version, const outcome *told, bool contains) {
     semver_parser_string own = alone(version);
@@ -289,15 +290,15 @@ static void contains_in_array(
         semver_parser_status of[3];
         semver_parser_status status = semver_parser_range_contains_each(
             set, versions + first, count, answers, first == 0 ? statuses : NULL);
-        require(status == SEMVER_PARSER_OK, "no answers of an array", version);
+        require(status == SEMVER_PARSER_OK, "no results for an array", version);
         take(answers, count * sizeof *answers, true, in, version);
         take(statuses, count * sizeof *statuses, first == 0, of, version);
         require(in[1 - first] == (told->status == SEMVER_PARSER_OK && contains),
-                "another answer of an array", version);
+                "wrong result for an array", version);
         require(first == 1
                     || (!in[0] && !in[2] && of[0] == SEMVER_PARSER_INVALID_VERSION
                         && of[1] == told->status && of[2] == SEMVER_PARSER_INVALID_VERSION),
-                "another status of an array", version);
+                "wrong status of an array", version);
     }
     free((char *)own.data);
 }
@@ -310,19 +311,19 @@ outcome satisfies(const text *version, const text *range, int dialect, int rule,
     outcome checked = check_range(range, dialect);
     require(is_same(&checked, &made)
                 || (made.status == SEMVER_PARSER_INVALID_ARGUMENT && rule != 0),
-            "another error of a check", range);
+            "wrong error of a check", range);
     if (made.status != SEMVER_PARSER_OK) {
         bool is_of_version = told.status == SEMVER_PARSER_INVALID_VERSION && told.index == 0;
-        require(is_of_version || is_same(&made, &told), "another error of a set", range);
+        require(is_of_version || is_same(&made, &told), "wrong error of a set", range);
         require(is_of_version || told.index == (made.status != SEMVER_PARSER_INVALID_ARGUMENT),
-                "another index", range);
+                "wrong index", range);
         return told;
     }
     bool contains = false;
     call ask = {CONTAINS, sizeof contains, {version, NULL}, dialect, rule, false, set};
     outcome has = careful(&ask, &contains);
-    require(is_same(&has, &told) && told.index == 0, "another error by a set", version);
-    require(has.status != SEMVER_PARSER_OK || contains == *answer, "another answer by a set",
+    require(is_same(&has, &told) && told.index == 0, "wrong error by a set", version);
+    require(has.status != SEMVER_PARSER_OK || contains == *answer, "wrong result by a set",
             version);
     contains_in_array(set, version, &has, contains);
     semver_parser_options options = semver_parser_range_options(set);
@@ -354,10 +355,10 @@ static void say_listed(text *to, const semver_parser_comparators *list, const te
         void *out = output(sizeof one);
         semver_parser_status status =
             semver_parser_comparators_get(list, at, (semver_parser_comparator *)out);
-        require((status == SEMVER_PARSER_OK) == (at < count), "another end of a list", of);
+        require((status == SEMVER_PARSER_OK) == (at < count), "wrong end of a list", of);
         take(out, sizeof one, at < count, &one, of);
         if (at == count) {
-            require(status == SEMVER_PARSER_INVALID_ARGUMENT, "another status after a list", of);
+            require(status == SEMVER_PARSER_INVALID_ARGUMENT, "wrong status after a list", of);
             break;
         }
         require(one.range == range || (at > 0 && one.range == range + 1), "a range out of turn",
@@ -419,8 +420,8 @@ static semver_parser_status call_two(
     }
 }
 
-/* Calls a function of two sets, with an error or without. What it says of different options has the
- * index of the second, and neither a reason nor an offset. */
+/* Calls a function of two sets, with an error or without. The error of different options has the
+ * index of the second set, and no reason and no offset. */
 static outcome of_two(const semver_parser_range *set, char operation,
                       const semver_parser_range *other, size_t size, bool asks, void *to) {
     text none = string("two sets");
@@ -432,7 +433,7 @@ static outcome of_two(const semver_parser_range *set, char operation,
     take(out, size, is_ok, to, &none);
     take(error, sizeof *error, asks && !is_ok, &told, &none);
     if (asks && !is_ok) {
-        require(told.status == status && told.index == 1, "another error of two sets", &none);
+        require(told.status == status && told.index == 1, "wrong error of two sets", &none);
         require(told.reason == SEMVER_PARSER_REASON_NONE && told.offset == 0,
                 "a reason of two sets", &none);
         for (int at = 0; at < 4; at++) {
@@ -450,7 +451,7 @@ outcome combine(const semver_parser_range *set, char operation, const semver_par
     semver_parser_range *first = NULL;
     outcome alone_told = of_two(set, operation, other, sizeof first, false, &first);
     outcome told = of_two(set, operation, other, sizeof *made, true, made);
-    require(alone_told.status == told.status, "another status without an error", &none);
+    require(alone_told.status == told.status, "wrong status without an error", &none);
     semver_parser_range_free(first);
     text_free(&none);
     return told;
@@ -463,7 +464,7 @@ outcome compare(const semver_parser_range *set, char operation, const semver_par
     outcome alone_told = of_two(set, operation, other, sizeof first, false, &first);
     outcome told = of_two(set, operation, other, sizeof *answer, true, answer);
     require(alone_told.status == told.status && first == *answer,
-            "another answer without an error", &none);
+            "wrong result without an error", &none);
     text_free(&none);
     return told;
 }

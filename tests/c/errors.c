@@ -1,6 +1,6 @@
-/* Errors: each status and each reason is returned for some string, with its offset, and has a text
- * and a name of its own; and their sentences. What is expected is in docs/GRAMMAR.md and in rows of
- * crates/replayed_cases. */
+/* Errors: each status and each reason is returned for some string, with its offset, and has its
+ * own text and name; and their messages. The expected values are in docs/GRAMMAR.md and in rows
+ * of crates/replayed_cases. */
 #include "calls.h"
 
 #include <stdio.h>
@@ -40,7 +40,7 @@ static const struct {
     {NPM, "1.2.3 x", 6, REASON(TEXT_AFTER)},
 };
 
-/* Strings that are no ranges, and such whose numbers are too large. */
+/* Invalid ranges, and ranges whose numbers are too large. */
 static const struct {
     int dialect;
     const char *range;
@@ -76,14 +76,14 @@ static const struct {
 
 static void is_error(outcome told, int status, size_t index, size_t offset,
                      semver_parser_reason reason, const char *of) {
-    check((int)told.status == status && told.index == index, "another error", of);
-    check(told.offset == offset, "another offset", of);
-    check(told.reason == reason, "another reason", of);
+    check((int)told.status == status && told.index == index, "wrong error", of);
+    check(told.offset == offset, "wrong offset", of);
+    check(told.reason == reason, "wrong reason", of);
     is_status_seen[status] = true;
     is_reason_seen[reason] = true;
 }
 
-/* The error of a version is the same as the first argument and as the second. */
+/* The error of a version is the same whether it is the first or the second argument. */
 static void version_error_is(int dialect, const char *bytes, size_t offset,
                              semver_parser_reason reason) {
     text version = string(bytes);
@@ -184,7 +184,7 @@ static void arguments(void) {
 static void message_of(const semver_parser_error *error, const text *of, bool caret,
                        const char *wanted);
 
-/* Two ranges of different options, whose error is about the second. */
+/* Two ranges with different options: the error is about the second. */
 static void two_ranges(void) {
     static const struct {
         int dialect;
@@ -215,7 +215,7 @@ static void two_ranges(void) {
     text_free(&of);
 }
 
-/* Texts and names: one for each number, each another, in one line; of other numbers null. */
+/* Texts and names: each number has its own, in one line; other numbers have null. */
 typedef const char *texts_of(int32_t number);
 
 static void texts(texts_of *text, int32_t count, const char *kind) {
@@ -233,7 +233,7 @@ static void texts(texts_of *text, int32_t count, const char *kind) {
     }
 }
 
-/* Names, which are those of README's options and of the table of cases. */
+/* The names are those of README's options and of the table of cases. */
 static void names(void) {
     static const char *const dialects[] = {"cargo", "npm", "crate-cargo", "crate-npm"};
     static const char *const of_rules[] = {"default", "included", "excluded"};
@@ -241,15 +241,15 @@ static void names(void) {
         "ok", "invalid-range", "number-too-large", "invalid-version", "out-of-memory",
         "invalid-argument", "different-dialects", "different-pre-releases"};
     for (int at = 0; at < DIALECTS; at++) {
-        check(strcmp(semver_parser_dialect_name(at), dialects[at]) == 0, "another name",
+        check(strcmp(semver_parser_dialect_name(at), dialects[at]) == 0, "wrong name",
               dialects[at]);
     }
     for (int at = 0; at < RULES; at++) {
-        check(strcmp(semver_parser_pre_releases_name(at), of_rules[at]) == 0, "another name",
+        check(strcmp(semver_parser_pre_releases_name(at), of_rules[at]) == 0, "wrong name",
               of_rules[at]);
     }
     for (int at = 0; at < STATUSES; at++) {
-        check(strcmp(semver_parser_status_name(at), statuses[at]) == 0, "another name",
+        check(strcmp(semver_parser_status_name(at), statuses[at]) == 0, "wrong name",
               statuses[at]);
     }
     check(strcmp(semver_parser_reason_name(REASON(LEADING_ZERO)), "leading-zero") == 0
@@ -257,10 +257,10 @@ static void names(void) {
               && strcmp(semver_parser_reason_text(REASON(CARGO_BARS)),
                         "Cargo takes no ||; npm does")
                      == 0,
-          "another name of a reason", "leading-zero");
+          "wrong name of a reason", "leading-zero");
 }
 
-/* tests/c/refused.c has OUT_OF_MEMORY returned. */
+/* tests/c/refused.c makes functions return OUT_OF_MEMORY. */
 static void all_are_returned(void) {
     is_status_seen[OUT_OF_MEMORY] = true;
     for (int status = 0; status < STATUSES; status++) {
@@ -273,7 +273,7 @@ static void all_are_returned(void) {
     }
 }
 
-/* ---- the sentence of an error */
+/* ---- the message of an error */
 
 static void message_of(const semver_parser_error *error, const text *of, bool caret,
                        const char *wanted) {
@@ -282,11 +282,11 @@ static void message_of(const semver_parser_error *error, const text *of, bool ca
     check(semver_parser_error_message(error, string_of_error, caret, &made) == SEMVER_PARSER_OK
               && made != NULL,
           "no message", wanted);
-    check(made != NULL && strcmp(made, wanted) == 0, "another message", made);
+    check(made != NULL && strcmp(made, wanted) == 0, "wrong message", made);
     semver_parser_free(made);
 }
 
-/* A range, and its message with a caret; without one it is the first line alone. */
+/* A range, and its message with a caret. Without one, the message is only the first line. */
 static const struct {
     int dialect;
     const char *range;
@@ -300,7 +300,7 @@ static const struct {
      "invalid range \">=\" at offset 2: a number is expected\n"
      "    >=\n"
      "      ^"},
-    /* Quotes and control characters are escaped, and are one column in the second line. */
+    /* Quotes and control characters are escaped, and take one column in the second line. */
     {NPM, "1\t\"",
      "invalid range \"1\\t\\\"\" at offset 2: unexpected character\n"
      "    1\xEF\xBF\xBD\"\n"
@@ -322,7 +322,7 @@ static const struct {
      "is above 2^64 - 1\n"
      "    ~1.18446744073709551615\n"
      "       ^"},
-    /* Of a long string 32 bytes before the offset and after it. */
+    /* Of a long string, 32 bytes before the offset and after it are shown. */
     {NPM, "1.0.0 || 2.0.0 || 3.0.0 || 4.0.0 || 5.0.0, 6 || 7.0.0 || 8.0.0 || 9.0.0 || 10.0.0",
      "invalid range ...\"2.0.0 || 3.0.0 || 4.0.0 || 5.0.0, 6 || 7.0.0 || 8.0.0 || 9.0.0 |\"... at "
      "offset 41: npm separates comparators by spaces; Cargo takes commas\n"
@@ -350,7 +350,7 @@ static void other_messages(void) {
     message_of(&error, &version, false,
                "invalid version \"1.2.03\" at offset 5: numbers and identifiers of digits may not "
                "have a leading zero");
-    /* Another string than that of the error: the offset is beyond its end. */
+    /* A string that isn't the one of the error: the offset is after its end. */
     message_of(&error, &empty, true,
                "invalid version \"\" at offset 5: numbers and identifiers of digits may not "
                "have a leading zero\n    \n    ^");
@@ -365,13 +365,13 @@ static void other_messages(void) {
 }
 
 static void library_version(void) {
-    check(strcmp(semver_parser_library_version(), SEMVER_PARSER_VERSION) == 0, "another version",
+    check(strcmp(semver_parser_library_version(), SEMVER_PARSER_VERSION) == 0, "wrong version",
           "");
     check(semver_parser_library_version_number()
               == SEMVER_PARSER_VERSION_MAJOR * 1000000 + SEMVER_PARSER_VERSION_MINOR * 1000
                      + SEMVER_PARSER_VERSION_PATCH
               && semver_parser_library_version_number() == SEMVER_PARSER_VERSION_NUMBER,
-          "another number of the version", "");
+          "wrong number of the version", "");
 }
 
 int main(void) {

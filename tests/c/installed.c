@@ -1,4 +1,4 @@
-/* Prints the releases of a range by the installed library: for tests/installed-programs.sh and
+/* Prints the releases of a range with the installed library, for tests/installed-programs.sh and
  * tests/packages.sh. */
 #include <semver_parser.h>
 #include <stdio.h>

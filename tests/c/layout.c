@@ -1,5 +1,5 @@
-/* Prints the size of each type of the header and the offset of each field, which no flag of a
- * compiler changes: tests/c-calls.sh compares what it prints with and without -fshort-enums. */
+/* Prints the size of each type of the header and the offset of each field. No flag of a compiler
+ * may change these: tests/c-calls.sh compares the output with and without -fshort-enums. */
 #include "../../rust/capi/include/semver_parser.h"
 
 #include <stdio.h>

@@ -1,6 +1,6 @@
-/* A null pointer with a length above 0 for each string and array: it isn't taken for an empty one,
- * so the call ends by a fault at null, and no variable of the program changes. Each call is made in
- * a child. */
+/* Passes a null pointer with a length above 0 for each string and array. It isn't treated as
+ * empty: the call ends by a segmentation fault at null, and no variable of the program changes.
+ * Each call is made in a child process. */
 #define _POSIX_C_SOURCE 200809L
 #include "../../rust/capi/include/semver_parser.h"
 
@@ -20,7 +20,7 @@ static void check(bool holds, const char *what, const char *of) {
     }
 }
 
-/* ---- the calls, each by these options, with a set and a list of them */
+/* ---- the calls, each with these options, and a set and a list made with them */
 
 static semver_parser_options options;
 static semver_parser_range *set;
@@ -126,11 +126,11 @@ static const struct {
 
 enum { RETURNED = 0, FAULT_AT_NULL = 77, FAULT_ELSEWHERE = 78, SOMETHING_CHANGED = 79 };
 
-/* Where the program's variables begin and end, as the linker has it. */
+/* The beginning and end of the program's variables, from the linker. */
 extern char __data_start[];
 extern char _end[];
 
-/* A sum over all of them, and over what a sanitizer has between them. */
+/* Returns a checksum of all of them, and of what a sanitizer puts between them. */
 __attribute__((no_sanitize("address"))) static uint64_t sum_of_variables(void) {
     uint64_t sum = 0;
     for (const volatile char *at = __data_start; at < _end; at++) {
@@ -139,10 +139,11 @@ __attribute__((no_sanitize("address"))) static uint64_t sum_of_variables(void) {
     return sum;
 }
 
-/* The sum before the call, in a block, since it would count itself. */
+/* The checksum before the call. It is in a block of its own, since otherwise it would include
+ * itself. */
 static uint64_t *sum_before;
 
-/* The library uses null as another address of the lowest pages, where nothing is. */
+/* The library uses another address of the lowest pages instead of null. Nothing is mapped there. */
 enum { LOWEST_PAGES = 65536 };
 
 static void end_by_fault(int signal, siginfo_t *information, void *context) {

@@ -1,11 +1,12 @@
-/* Tests that what a function returns doesn't depend on the calls before it:
+/* Tests that what a function returns doesn't depend on earlier calls:
  *
  *     order COUNT SEED
  *
- * COUNT random calls are made, each in a child that makes no other, except for those that make the
- * ranges and lists that it takes. Then one process makes them in random order, each several times,
- * with many ranges and lists alive, which are freed and made again. Each call has to return the
- * same as alone. Errors of this kind are planted, too, and each has to be found. */
+ * COUNT random calls are made, each in a child process that makes no other calls, except for
+ * those that make the ranges and lists that it takes. Then one process makes them in random
+ * order, each several times, while many ranges and lists exist, which are freed and made again.
+ * Each call has to return the same as alone. Errors of this kind are planted, too, and each has
+ * to be found. */
 #define _POSIX_C_SOURCE 200809L
 #include "order_calls.h"
 
@@ -29,7 +30,7 @@ static void give_up(const char *why) {
     exit(2);
 }
 
-/* Appends what a child writes, and returns whether it ended with status 0. */
+/* Appends what a child writes, and returns whether it exited with 0. */
 static bool is_read(pid_t child, int from, text *to) {
     char some[4096];
     ssize_t length;
@@ -82,8 +83,8 @@ static void print_call(size_t at) {
            it->flag, it->ranges[0], it->ranges[1], it->list, it->index);
 }
 
-/* Makes the calls in random order. Appends the index of the first that differs, and of the one
- * before it, and what it wrote, if there is one. */
+/* Makes the calls in random order. At the first one that differs, appends its index, the index
+ * of the one before it, and its output. */
 static void make_sequence(text *said, size_t error) {
     planted = (int)error;
     size_t last = 0;
@@ -108,7 +109,7 @@ static void make_sequence(text *said, size_t error) {
     free_all();
 }
 
-/* Whether a sequence has a difference, which is printed. */
+/* Returns whether a sequence has a difference, which is printed. */
 static bool differs(void) {
     text said = {NULL, 0, 0};
     size_t last = 0;
@@ -118,7 +119,7 @@ static bool differs(void) {
     make_sequence(&said, 0);
     bool is_other = sscanf(said.bytes, "%zu %zu %n", &last, &at, &begin) == 2;
     if (is_other) {
-        printf("order: after other calls a result is another one. The last calls:\n");
+        printf("order: after other calls a result differs. The last calls:\n");
         print_call(last);
         print_call(at);
         printf("returns: %s\nby itself: %s\n", said.bytes + begin, expected[at].bytes);
@@ -145,7 +146,7 @@ static int not_found(void) {
     return missing;
 }
 
-/* Makes the calls, each in a child. Returns whether all of these end. */
+/* Makes the calls, each in a child. Returns whether all of these finish. */
 static bool are_made_alone(void) {
     calls = (call *)calloc(count, sizeof *calls);
     expected = (text *)calloc(count, sizeof *expected);

@@ -45,12 +45,12 @@ static const struct {
 };
 enum {
     SHORT = sizeof strings / sizeof *strings,
-    VERSIONS = 32, /* The first of the short ones are versions, or nearly. */
+    VERSIONS = 32, /* The first of the short ones are versions, or nearly so. */
     LONG = 8,
     STRINGS = SHORT + LONG
 };
 
-/* Appends a string, of which the last ones are long. */
+/* Appends a string. The last ones are long. */
 static void add_string(text *to, int index) {
     if (index < SHORT) {
         text_add(to, strings[index].bytes, strings[index].length);
@@ -68,7 +68,7 @@ static void add_string(text *to, int index) {
     text_add(to, "1.2.3", at == 5 || at == 6 ? 5 : 0);
 }
 
-/* The strings of a call are at the same addresses as those of other calls, and are written over
+/* The strings of a call are at the same addresses as those of other calls, and are overwritten
  * after it: no result may depend on where a string was. */
 static text blocks[2 + MOST_VERSIONS];
 
@@ -90,7 +90,7 @@ static void write_over(void) {
 
 /* ---- the ranges and lists that calls take */
 
-/* A range is read from a string, or combined of two before it. */
+/* A range is parsed from a string, or combined from two earlier ones. */
 static struct {
     int string;
     int dialect;
@@ -109,7 +109,7 @@ static struct {
 static semver_parser_range *ranges[RECIPES];
 static semver_parser_comparators *listed[LISTS];
 
-/* One of the strings that are ranges in each dialect, or nearly. */
+/* Returns one of the strings that are valid ranges in each dialect, or nearly so. */
 static int random_range(void) {
     int some = (int)random_below(12);
     return some == 0 ? (int)random_below(STRINGS) : VERSIONS + (int)random_below(20);
@@ -152,7 +152,7 @@ static semver_parser_status combine(
     return semver_parser_range_difference(one, other, made, error);
 }
 
-/* The range of a recipe; that of `*` if it has none. */
+/* Returns the range of a recipe, or the range `*` if it has none. */
 static semver_parser_range *range_of(int recipe) {
     if (ranges[recipe] != NULL) {
         return ranges[recipe];
@@ -175,7 +175,7 @@ static semver_parser_range *range_of(int recipe) {
     return ranges[recipe];
 }
 
-/* The comparators of a list, or those of `1`. */
+/* Returns the comparators of a list, or those of `1`. */
 static semver_parser_comparators *list_of(int at) {
     if (listed[at] != NULL) {
         return listed[at];
@@ -231,7 +231,7 @@ static void say_static(text *to, const char *string) {
     text_say(to, " %s", string == NULL ? "null" : string);
 }
 
-/* What an error has before a call, which after OK it still has. */
+/* The error before a call. After OK it has to be unchanged. */
 static const semver_parser_error before = {77, 78, 79, 80, {81, 82, 83, 84}};
 
 static void say_error(text *to, semver_parser_status status, const semver_parser_error *error) {
@@ -242,7 +242,7 @@ static void say_error(text *to, semver_parser_status status, const semver_parser
     }
 }
 
-/* Prints what was made, if it was, and frees it. */
+/* Prints what was made, if anything, and frees it. */
 static void say_made(text *to, semver_parser_status status, char *made) {
     text_say(to, "status %d", (int)status);
     say_static(to, made);
@@ -329,7 +329,7 @@ static semver_parser_status check_range(
     return status;
 }
 
-/* ---- the calls: each makes one, by its strings at their addresses, and prints what it wrote */
+/* ---- the calls: each makes one, with its strings at their addresses, and prints what it wrote */
 
 static semver_parser_string first_of(const call *it) {
     return placed(0, it->strings[0]);
@@ -421,7 +421,7 @@ static void contains(const call *it, text *to) {
     text_say(to, " %d", is_in);
 }
 
-/* The versions of a call, as an array. */
+/* Returns the versions of a call, as an array. */
 static const semver_parser_string *versions_of(const call *it) {
     static semver_parser_string versions[MOST_VERSIONS];
     for (size_t at = 0; at < it->count; at++) {
@@ -540,7 +540,7 @@ static void say_partial(text *to, const semver_parser_partial_version *of) {
     text_say(to, "]");
 }
 
-/* The terms of a range, of which a random number fits into the array. */
+/* Prints the terms of a range. A random number of them fits into the array. */
 static void terms(const call *it, text *to) {
     semver_parser_term found[8];
     semver_parser_error error = before;
@@ -561,7 +561,8 @@ static void terms(const call *it, text *to) {
     }
 }
 
-/* A range with a version of another string at an offset, which is mostly no version's. */
+/* Replaces the version at an offset of a range by another one. Mostly there is no version at the
+ * offset. */
 static void replaced(const call *it, text *to) {
     semver_parser_error error = before;
     char *string = NULL;
@@ -571,7 +572,7 @@ static void replaced(const call *it, text *to) {
     say_made(to, status, string);
 }
 
-/* Some are there more than once, and are called more often. */
+/* Some functions are listed more than once, and are called more often. */
 static const struct {
     const char *name;
     void (*make)(const call *it, text *to);
@@ -613,7 +614,8 @@ void make_call(const call *it, text *to) {
     write_over();
 }
 
-/* Another range, mostly of the same options, since others can't be combined. */
+/* Returns another range, mostly with the same options, since otherwise the two can't be
+ * combined. */
 static int beside(int recipe) {
     for (int tries = 0; tries < 20; tries++) {
         int other = (int)random_below(RECIPES);
@@ -629,13 +631,13 @@ static int random_version(void) {
     return (int)random_below(random_below(6) == 0 ? STRINGS : VERSIONS);
 }
 
-/* A dialect, seldom one that isn't there. */
+/* Returns a dialect, rarely one that doesn't exist. */
 static int random_dialect(void) {
     int some = (int)random_below(20) - 1;
     return some > 3 ? some % 4 : some;
 }
 
-/* The same call with another string, version, option, range or list. */
+/* Returns the same call with another string, version, option, range or list. */
 static call changed(call it) {
     switch (random_below(8)) {
     case 0: it.strings[0] = random_version(); break;

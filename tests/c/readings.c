@@ -1,6 +1,6 @@
-/* How the four dialects read versions and ranges: the parts of versions, precedence, what ranges
- * are rewritten to, and comparators. What is expected is in the tables of docs/man/semver-ranges.7,
- * docs/GRAMMAR.md, docs/MEANING.md and docs/CRATE.md. */
+/* How the four dialects read versions and ranges: the parts of versions, precedence, the
+ * comparators of ranges as text and as fields, and terms. The expected values are in the tables
+ * of docs/man/semver-ranges.7, docs/GRAMMAR.md, docs/MEANING.md and docs/CRATE.md. */
 #include "calls.h"
 
 #include <stdio.h>
@@ -8,13 +8,13 @@
 
 /* ---- versions */
 
-/* Where a part is. */
+/* The offset and length of a part. */
 typedef struct {
     size_t offset;
     size_t length;
 } part;
 
-/* A string, its parts if it is a version, and whether each dialect reads it. */
+/* A string, its parts if it is a version, and whether each dialect accepts it. */
 enum { NO = INVALID_VERSION };
 typedef struct {
     const char *bytes;
@@ -24,7 +24,7 @@ typedef struct {
     int statuses[DIALECTS];
 } version_by_dialect;
 
-/* The highest number of npm's versions. */
+/* The highest number in a version in npm's dialect. */
 #define MOST_OF_NPM 9007199254740991
 
 static const version_by_dialect versions_by_dialect[] = {
@@ -77,13 +77,13 @@ static void version_is(int dialect, const text *of, int status, const uint64_t *
                        part build) {
     semver_parser_version parsed;
     outcome told = parse(of, dialect, &parsed);
-    check((int)told.status == status, "another status of a version", of->bytes);
+    check((int)told.status == status, "wrong status of a version", of->bytes);
     if (status == OK && told.status == SEMVER_PARSER_OK) {
         check(parsed.major == numbers[0] && parsed.minor == numbers[1]
                   && parsed.patch == numbers[2],
               "other numbers", of->bytes);
-        check(is_part(&parsed.pre, of, pre), "another pre-release", of->bytes);
-        check(is_part(&parsed.build, of, build), "another build", of->bytes);
+        check(is_part(&parsed.pre, of, pre), "wrong pre-release", of->bytes);
+        check(is_part(&parsed.build, of, build), "wrong build", of->bytes);
     }
 }
 
@@ -93,15 +93,15 @@ static void order_is(int dialect, const char *bytes, const char *other_bytes, in
     int32_t order = 7;
     check(order_of(&version, &other, dialect, &order).status == SEMVER_PARSER_OK
               && order == wanted,
-          "another order", bytes);
+          "wrong order", bytes);
     check(order_of(&other, &version, dialect, &order).status == SEMVER_PARSER_OK
               && order == -wanted,
-          "another order the other way round", bytes);
+          "wrong order the other way round", bytes);
     text_free(&version);
     text_free(&other);
 }
 
-/* The error of the first of two invalid versions comes first. */
+/* The error of the first of two invalid versions is returned. */
 static void order_error_is(int dialect, const text *invalid) {
     text version = string("1.2.3-rc.1+b");
     int32_t order;
@@ -115,7 +115,7 @@ static void order_error_is(int dialect, const text *invalid) {
         check(all[at]->status == SEMVER_PARSER_INVALID_VERSION
                   && all[at]->index == (size_t)(at == 1) && all[at]->offset == alone.offset
                   && all[at]->reason == alone.reason,
-              "another error of an order", invalid->bytes);
+              "wrong error of an order", invalid->bytes);
     }
     text_free(&version);
 }
@@ -134,7 +134,7 @@ static void versions(void) {
         }
         text_free(&of);
     }
-    /* A zero byte is a byte like others. */
+    /* A zero byte is treated like any other byte. */
     const part no_part = {0, 0};
     text zero = string_of("1.2.3\0", 6);
     for (int dialect = 0; dialect < DIALECTS; dialect++) {
@@ -143,7 +143,7 @@ static void versions(void) {
     text_free(&zero);
 }
 
-/* A version of a long part. */
+/* Checks a version with a long part. */
 static void long_part(int dialect, const char *front, const char *unit, int count, int status) {
     const uint64_t numbers[3] = {1, 2, 3};
     const part none = {0, 0};
@@ -154,7 +154,7 @@ static void long_part(int dialect, const char *front, const char *unit, int coun
     text_free(&of);
 }
 
-/* npm takes 256 characters at most, of which a no-break space is one. */
+/* npm accepts at most 256 characters. A no-break space is one of them. */
 static void long_versions(void) {
     const part none = {0, 0};
     const uint64_t numbers[3] = {1, 2, 3};
@@ -179,16 +179,16 @@ static void long_versions(void) {
 
 /* ---- precedence */
 
-/* Each is below those after it, by the examples of section 11 of SemVer 2.0.0 and as its rules go
- * on: numbers as numbers, others in ASCII order, a number below any other, more identifiers above
- * fewer. */
+/* Each is below those after it, by the examples in section 11 of SemVer 2.0.0 and by its rules:
+ * numbers are compared as numbers, others in ASCII order, a number is below any other
+ * identifier, and more identifiers are above fewer. */
 static const char *const in_order[] = {
     "0.0.0-0", "0.0.0", "0.0.1", "1.0.0-0", "1.0.0-2", "1.0.0-10", "1.0.0-18446744073709551615",
     "1.0.0-18446744073709551616", "1.0.0-A", "1.0.0-alpha", "1.0.0-alpha.1", "1.0.0-alpha.beta",
     "1.0.0-beta", "1.0.0-beta.2", "1.0.0-beta.11", "1.0.0-rc.1", "1.0.0", "1.0.10", "1.2.0",
     "1.10.0", "2.0.0", "2.1.0", "2.1.1", "9007199254740991.0.0"};
 
-/* By the dialects of the tools: a hyphen is below any letter and digit. */
+/* In the dialects of the tools: a hyphen is below any letter and digit. */
 static const char *const with_hyphens[] = {
     "1.0.0-1", "1.0.0-10", "1.0.0--", "1.0.0---", "1.0.0--1", "1.0.0--a", "1.0.0-a", "1.0.0-a-",
     "1.0.0-a--b", "1.0.0-a-b", "1.0.0", "6.2.0--canary.9.z", "6.2.0--canary.14175.ab12",
@@ -231,12 +231,11 @@ static void precedence(void) {
     text_free(&built);
 }
 
-/* ---- what a range is rewritten to */
+/* ---- the comparators of a range */
 
 #define MOST "18446744073709551615"
 
-/* A range, and what it is rewritten to by each dialect, with exact bounds, or the word of its
- * error. */
+/* A range, and its comparators in each dialect, with exact bounds, or the word for its error. */
 typedef struct {
     const char *range;
     const char *rewritten[DIALECTS];
@@ -245,13 +244,13 @@ typedef struct {
 static const char not_a_range[] = "not-a-range";
 static const char too_large[] = "number-too-large";
 
-/* The comparators of all four dialects. */
+/* The comparators are the same in all four dialects. */
 #define IN_ALL(set)                                                                                \
     { set, set, set, set }
-/* Those of npm's own and of the crate's two, where Cargo refuses the text. */
+/* The same in npm's dialect and the crate's two; Cargo rejects the text. */
 #define BUT_IN_CARGO(set)                                                                          \
     { not_a_range, set, set, set }
-/* Those of a text that one dialect alone takes. */
+/* Only one dialect accepts the text. */
 #define IN_CARGO(set)                                                                              \
     { set, not_a_range, not_a_range, not_a_range }
 #define IN_NPM(set)                                                                                \
@@ -291,11 +290,11 @@ static const rewriting rewritings[] = {
 static const char *error_word(semver_parser_status status) {
     return status == SEMVER_PARSER_INVALID_RANGE      ? not_a_range
            : status == SEMVER_PARSER_NUMBER_TOO_LARGE ? too_large
-                                                      : "another status";
+                                                      : "wrong status";
 }
 
-/* A range without the pre-releases `0` of raised bounds, as those of the crate are if they aren't
- * exact. */
+/* Returns a range without the pre-releases `0` of raised bounds, as the crate prints it if the
+ * bounds aren't exact. */
 static text with_plain_bounds(const char *range) {
     text made = string("");
     for (const char *at = range; *at != 0; at++) {
@@ -313,7 +312,7 @@ static void is_rewritten(int dialect, bool exact, const text *of, const char *wa
     outcome told = rewrite(of, dialect, exact, &printed);
     check(strcmp(told.status == SEMVER_PARSER_OK ? printed.bytes : error_word(told.status), wanted)
               == 0,
-          exact ? "another range" : "another range without exact bounds", of->bytes);
+          exact ? "wrong range" : "wrong range without exact bounds", of->bytes);
     text_free(&printed);
 }
 
@@ -332,7 +331,7 @@ static void rewritten(void) {
     }
 }
 
-/* A requirement of Cargo has 32 comparators at most; others have as many as one likes. */
+/* A requirement of Cargo has at most 32 comparators; in the other dialects there is no limit. */
 static void many_comparators(void) {
     text comparators = string("");
     text wanted = string("");
@@ -364,9 +363,9 @@ static void many_comparators(void) {
     text_free(&wanted_ranges);
 }
 
-/* npm has a comparator's version of 256 characters at most. */
+/* In npm's dialect, the version of a comparator has at most 256 characters. */
 static void long_identifiers(void) {
-    /* Strings of each length about that of the first buffer. */
+    /* Strings of each length around that of the first buffer. */
     for (int count = 40; count < 80; count++) {
         text near = repeated("=1.2.3-", "a", count, "");
         is_rewritten(CARGO, true, &near, near.bytes);
@@ -398,19 +397,19 @@ static void comparators_are(int dialect, bool exact, const char *bytes,
     semver_parser_comparators *list = NULL;
     check(comparators_of(&of, dialect, exact, &list).status == SEMVER_PARSER_OK
               && semver_parser_comparators_count(list) == count,
-          "another number of comparators", bytes);
+          "wrong number of comparators", bytes);
     for (size_t at = 0; at < count; at++) {
         semver_parser_comparator one;
         check(semver_parser_comparators_get(list, at, &one) == SEMVER_PARSER_OK, "no comparator",
               bytes);
-        check(one.range == wanted[at].range, "another range", bytes);
-        check(one.op == wanted[at].op, "another operator", bytes);
+        check(one.range == wanted[at].range, "wrong range", bytes);
+        check(one.op == wanted[at].op, "wrong operator", bytes);
         check(one.major == wanted[at].numbers[0] && one.minor == wanted[at].numbers[1]
                   && one.patch == wanted[at].numbers[2],
               "other numbers", bytes);
         check(one.pre.length == strlen(wanted[at].pre)
                   && memcmp(one.pre.data, wanted[at].pre, one.pre.length) == 0,
-              "another pre-release", bytes);
+              "wrong pre-release", bytes);
     }
     semver_parser_comparators_free(list);
     text_free(&of);
@@ -457,7 +456,7 @@ typedef struct {
     const char *upper;
 } wanted_term;
 
-/* Whether so many bytes from an offset on are a text; the text may be null for none. */
+/* Returns whether the bytes between two offsets are a text. The text may be null for no bytes. */
 static bool is_at(const char *bytes, size_t start, size_t end, const char *wanted) {
     if (wanted == NULL) {
         return start == 0 && end == 0;
@@ -471,7 +470,7 @@ static void terms_are(int dialect, const char *bytes, const wanted_term *wanted,
     size_t read = 77;
     check(semver_parser_terms_of_range(of, dialect, NULL, 0, &read, NULL) == SEMVER_PARSER_OK
               && read == count,
-          "another number of terms", bytes);
+          "wrong number of terms", bytes);
     memset(found, 1, sizeof found);
     found[4].range = 88;
     check(semver_parser_terms_of_range(of, dialect, found, 4, &read, NULL) == SEMVER_PARSER_OK
@@ -479,16 +478,16 @@ static void terms_are(int dialect, const char *bytes, const wanted_term *wanted,
           "other terms", bytes);
     for (size_t at = 0; at < count && at < 4; at++) {
         const semver_parser_term *it = &found[at];
-        check(it->range == wanted[at].range && it->op == wanted[at].op, "another range", bytes);
-        check(is_at(bytes, it->start, it->end, wanted[at].term), "another term", bytes);
+        check(it->range == wanted[at].range && it->op == wanted[at].op, "wrong range", bytes);
+        check(is_at(bytes, it->start, it->end, wanted[at].term), "wrong term", bytes);
         check(is_at(bytes, it->version.start, it->version.end, wanted[at].version),
-              "another version", bytes);
-        check(is_at(bytes, it->upper.start, it->upper.end, wanted[at].upper), "another upper version",
+              "wrong version", bytes);
+        check(is_at(bytes, it->upper.start, it->upper.end, wanted[at].upper), "wrong upper version",
               bytes);
     }
 }
 
-/* The parts of the version of the first term. */
+/* Checks the parts of the version of the first term. */
 static void parts_are(const char *bytes, bool has_v, const semver_parser_component *wanted,
                       const char *pre, const char *build) {
     semver_parser_term it;
@@ -497,31 +496,32 @@ static void parts_are(const char *bytes, bool has_v, const semver_parser_compone
               semver_parser_str(bytes), SEMVER_PARSER_DIALECT_NPM, &it, 1, &count, NULL)
                   == SEMVER_PARSER_OK
               && it.version.has_v == has_v,
-          "another v", bytes);
+          "wrong v", bytes);
     const semver_parser_component found[] = {it.version.major, it.version.minor, it.version.patch};
     for (int at = 0; at < 3; at++) {
         check(found[at].kind == wanted[at].kind && found[at].number == wanted[at].number,
-              "another component", bytes);
+              "wrong component", bytes);
     }
     check(it.version.pre.length == strlen(pre)
               && memcmp(it.version.pre.data, pre, strlen(pre)) == 0,
-          "another pre-release", bytes);
+          "wrong pre-release", bytes);
     check(it.version.build.length == strlen(build)
               && memcmp(it.version.build.data, build, strlen(build)) == 0,
-          "another build", bytes);
+          "wrong build", bytes);
 }
 
-/* A range, and it with 3.1.4-rc.1+b5 in place of the version at an offset. */
+/* Checks a range in which the version at an offset is replaced by 3.1.4-rc.1+b5. */
 static void replaced_is(
     semver_parser_dialect dialect, const char *range, size_t start, const char *wanted) {
     char *made = NULL;
     semver_parser_status status = semver_parser_replace_version(
         semver_parser_str(range), start, semver_parser_str("3.1.4-rc.1+b5"), dialect, &made, NULL);
-    check(status == SEMVER_PARSER_OK && strcmp(made, wanted) == 0, "another replacement", range);
+    check(status == SEMVER_PARSER_OK && strcmp(made, wanted) == 0, "wrong replacement", range);
     semver_parser_free(made);
 }
 
-/* What is no version of the range, or no range, or no version. */
+/* Checks that nothing is replaced: there is no version at the offset, or the range or version is
+ * invalid. */
 static void not_replaced(
     const char *range, size_t start, const char *version, semver_parser_status wanted,
     size_t wanted_index) {
@@ -531,7 +531,7 @@ static void not_replaced(
     semver_parser_status status = semver_parser_replace_version(
         semver_parser_str(range), start, semver_parser_str(version), NPM, &made, &error);
     check(status == wanted && error.status == wanted && error.index == wanted_index && made == NULL,
-          "another error of a replacement", range);
+          "wrong error of a replacement", range);
 }
 
 static void replaced(void) {
@@ -568,13 +568,13 @@ static void terms(void) {
     parts_are("<v1.2.3-rc.1+b.5", true, all, "rc.1", "b.5");
     static const semver_parser_component one[] = {{NUMBER, 10}, {NO, 0}, {NO, 0}};
     parts_are("~10", false, one, "", "");
-    /* 2^64 after a wildcard, where a number doesn't count. */
+    /* 2^64 after a wildcard, where a number is ignored. */
     static const semver_parser_component after[] = {
         {NUMBER, 1}, {SEMVER_PARSER_COMPONENT_WILDCARD, 'x'}, {NUMBER, UINT64_MAX}};
     parts_are("1.x.18446744073709551616", false, after, "", "");
     static const char *const signs[] = {"<", "<=", ">", ">=", "=", "~", "^", "", "-"};
     for (int at = 0; at < 9; at++) {
-        check(strcmp(semver_parser_operator_sign(at), signs[at]) == 0, "another sign", signs[at]);
+        check(strcmp(semver_parser_operator_sign(at), signs[at]) == 0, "wrong sign", signs[at]);
     }
     check(semver_parser_operator_sign(9) == NULL && semver_parser_operator_sign(-1) == NULL,
           "a sign", "of no operator");

@@ -1,7 +1,7 @@
-/* Refuses each allocation of a function in turn: it has to return OUT_OF_MEMORY, or without an
- * `error` the error that it returns with ample memory, to leave its outputs as they were, and to
- * free all that it allocated. It may allocate only if the header says so. Linked by
- * -Wl,--wrap=malloc,--wrap=realloc,--wrap=free. */
+/* Lets each allocation of a function fail in turn. The function has to return OUT_OF_MEMORY, or,
+ * without an `error`, the error that it returns with enough memory. It has to leave its outputs
+ * unchanged, and free everything that it allocated. It may allocate only if the header says so.
+ * Linked with -Wl,--wrap=malloc,--wrap=realloc,--wrap=free. */
 #include "../../rust/capi/include/semver_parser.h"
 
 #include <stdio.h>
@@ -21,7 +21,7 @@ void __wrap_free(void *block);
 }
 #endif
 
-/* ---- allocations: how many are granted, below 0 all; and how many blocks there are */
+/* ---- allocations: how many succeed (all if negative), and how many blocks exist */
 
 static int granted = -1;
 static bool refused;
@@ -62,8 +62,8 @@ static void check(bool holds, const char *what, const char *of, int request) {
 
 /* ---- the functions */
 
-/* What a call is about, and what it may write to: bytes, which are compared, with a pointer to what
- * it makes. */
+/* The arguments of a call, and its outputs: bytes, which are compared, with a pointer to what it
+ * makes. */
 typedef struct {
     semver_parser_string strings[2];
     semver_parser_options options;
@@ -195,7 +195,7 @@ static semver_parser_status print_list(const arguments *with, outputs *to) {
     return semver_parser_comparators_to_string(with->list, &to->string);
 }
 
-/* What a function makes, and whether the header says that it allocates if there is no error, and
+/* What a function makes, whether the header says that it allocates if there is no error, and
  * whether it has an `error`. */
 enum { NOTHING, STRING, SET, LIST };
 enum { MOST_REQUESTS = 1000 };
@@ -240,9 +240,9 @@ static void free_made(int makes, outputs *made) {
     }
 }
 
-/* ---- each allocation refused */
+/* ---- each allocation failing */
 
-/* A call with so many allocations granted. Returns whether one was refused. */
+/* Makes a call in which this many allocations succeed. Returns whether one failed. */
 static bool call_once(size_t which, const arguments *with, int request,
                       semver_parser_status wanted) {
     outputs to;
@@ -259,20 +259,20 @@ static bool call_once(size_t which, const arguments *with, int request,
     bool runs_out = refused && (with->error != NULL || !is_error);
     check(status == (runs_out ? SEMVER_PARSER_OUT_OF_MEMORY : wanted)
               || (refused && is_error && status == wanted),
-          "another status", name, request);
+          "wrong status", name, request);
     if (status == SEMVER_PARSER_OK) {
         free_made(functions[which].makes, &to);
     } else {
         check(memcmp(&to, &before, sizeof to) == 0, "an output that changes", name, request);
     }
     bool tells = with->error != NULL && functions[which].has_error && status != SEMVER_PARSER_OK;
-    check(!tells || with->error->status == status, "another status in the error", name, request);
+    check(!tells || with->error->status == status, "wrong status in the error", name, request);
     check(blocks == kept, "a block that isn't freed", name, request);
     return refused;
 }
 
-/* A call with each of its allocations refused, with an error and without. Returns whether it
- * allocates. */
+/* Makes a call with each of its allocations failing, with an error and without. Returns whether
+ * it allocates. */
 static bool call_all(size_t which, arguments *with, semver_parser_status wanted) {
     semver_parser_error error;
     bool any = false;
@@ -296,7 +296,7 @@ static bool call_all(size_t which, arguments *with, semver_parser_status wanted)
     return any;
 }
 
-/* A string of an error, and the status of the functions of versions and of ranges then. */
+/* Checks a string that gives an error, and the status of the functions for versions and ranges. */
 static void errors_by(int dialect) {
     static const struct {
         const char *version;
@@ -329,7 +329,7 @@ static void errors_by(int dialect) {
     }
 }
 
-/* Two sets of different options: no function of both allocates, with an error or without. */
+/* Two sets with different options: no function of both allocates, with an error or without. */
 static void different_by(int dialect) {
     static const struct {
         int dialects;
@@ -361,7 +361,7 @@ static void different_by(int dialect) {
     }
 }
 
-/* The ranges of a set and of another: short ones, and such that don't fit the first buffers. */
+/* Ranges of a set and of another one: short ones, and some that don't fit the first buffers. */
 static void functions_by(int dialect, const char *range, const char *other) {
     const semver_parser_string versions[] = {
         {"1.2.3", 5}, {"1.2.3-rc.1.0/", 13}, {NULL, 0}, {"1.2.4", 5}};

@@ -1,10 +1,10 @@
-/* Replays the table of cases through the C library: replay STDIN STDOUT, where these are the files
- * of crates/replayed_cases. What the functions return is written as the table writes it, and
- * compared with what the table has. Ends with status 1 if a row differs or a call has few rows.
+/* Replays the table of cases with the C library: replay STDIN STDOUT, which are the files of
+ * crates/replayed_cases. What the functions return is written as the table writes it, and
+ * compared with the expected result. Exits with 1 if a row differs or a call has too few rows.
  *
- * Rows of calls that C hasn't are skipped: tokens, steps of a parser, joined identifiers, sentences
- * of errors, lines. Of the error of a version in the crate's dialects the table has more than C
- * says: there any of its names is right if the version is invalid. */
+ * Rows of calls that C doesn't have are skipped: tokens, steps of a parser, joined identifiers,
+ * messages of errors, lines. For the error of a version in the crate's dialects, the table has
+ * more than C returns; any of its names is right there if the version is invalid. */
 #include "calls.h"
 #include "table.h"
 
@@ -13,15 +13,15 @@
 #include <stdlib.h>
 #include <string.h>
 
-/* Writes what C returns for a row. False if C says less than the row has. */
+/* Writes what C returns for a row. Returns false if C returns less than the row has. */
 typedef bool answering(text *to, const row *of, int dialect, int rule);
 
-/* What begins the names of the calls of which the table has the checksum of the answer. */
+/* The prefix of calls for which the table has a checksum of the result. */
 static const char sum[] = "sum-of-";
 
 /* ---- versions */
 
-/* The name of an error of a version that a row begins with, or null. */
+/* Returns the name of an error of a version that a row begins with, or null. */
 static const char *version_error(const char *expected) {
     static const char *const names[] = {"UnexpectedEnd", "UnexpectedToken(", "Lexer(",
                                         "MoreInput(", "unexpected-end", "unexpected-token",
@@ -34,8 +34,8 @@ static const char *version_error(const char *expected) {
     return NULL;
 }
 
-/* Says the name that the row has, if it has one: of an error the table may have a checksum alone,
- * which isn't known. */
+/* Prints the name that the row has, if it has one. For an error the table may have only a
+ * checksum, which can't be computed here. */
 static bool say_version_error(text *to, const row *of) {
     bool is_sum = strncmp(of->call, sum, strlen(sum)) == 0;
     bool is_named = version_error(of->expected) != NULL;
@@ -104,7 +104,7 @@ static const char *range_error(semver_parser_status status, int how) {
     static const char *const large[] = {"NumberTooLarge", "number too large", "number-too-large"};
     return status == SEMVER_PARSER_INVALID_RANGE      ? invalid[how]
            : status == SEMVER_PARSER_NUMBER_TOO_LARGE ? large[how]
-                                                      : "another status";
+                                                      : "wrong status";
 }
 
 static bool say_rewritten(text *to, const text *of, int dialect, bool exact, int how) {
@@ -127,13 +127,13 @@ static bool say_exact(text *to, const row *of, int dialect, int rule) {
     return true;
 }
 
-/* By a tool's dialect it doesn't matter what `exact` says. */
+/* In the dialect of a tool, `exact` makes no difference. */
 static bool say_by_tool(text *to, const row *of, int dialect, int rule) {
     text other = string("");
     (void)rule;
     say_rewritten(to, &of->of, dialect, false, BY_WORD);
     say_rewritten(&other, &of->of, dialect, true, BY_WORD);
-    check(strcmp(to->bytes, other.bytes) == 0, "another range if exact", of->of.bytes);
+    check(strcmp(to->bytes, other.bytes) == 0, "wrong range if exact", of->of.bytes);
     text_free(&other);
     return true;
 }
@@ -197,7 +197,8 @@ static bool say_refused_range(text *to, const row *of, int dialect, int rule) {
 
 /* ---- which versions satisfy a range */
 
-/* The next of the versions of a list, which spaces separate; false after the last. */
+/* Reads the next version of a list that is separated by spaces. Returns false after the last
+ * one. */
 static bool next_version(const char **list, text *version) {
     *list += strspn(*list, " ");
     size_t length = strcspn(*list, " ");
@@ -209,7 +210,7 @@ static bool next_version(const char **list, text *version) {
     return length > 0;
 }
 
-/* Whether a version is read by a tool's dialect alone: npm's has no large numbers. */
+/* Returns whether a version is invalid in npm's dialect only because of a large number. */
 static bool is_too_large(const text *version, int dialect) {
     const uint64_t most = 9007199254740991;
     semver_parser_version parsed;
@@ -240,7 +241,7 @@ static bool say_satisfying(text *to, const row *of, int dialect, int rule) {
     return true;
 }
 
-/* As `meant` has it, by a rule. */
+/* Prints the same as the call `meant`, with a rule. */
 static void say_meant_by(text *to, const row *of, int dialect, int rule) {
     text version;
     text_say(to, "means");
@@ -262,8 +263,8 @@ static void say_meant_by(text *to, const row *of, int dialect, int rule) {
     }
 }
 
-/* What the table has without the versions that are too large for npm, and, of releases only, those
- * with a pre-release. */
+/* Returns the expected result without versions that are too large for npm and, for releases
+ * only, without pre-releases. */
 static text wanted_of(const char *expected, int dialect, bool releases) {
     text kept = string("");
     text word;
@@ -304,7 +305,7 @@ static void say_lowest_or_none(text *to, const semver_parser_range *set) {
     say_lowest(to, set);
 }
 
-/* The set of a range, or its error. */
+/* Returns the set of a range, or prints its error. */
 static semver_parser_range *read_set(text *to, const text *range, int dialect, int rule) {
     semver_parser_range *set = NULL;
     outcome told = set_of(range, dialect, rule, &set);
@@ -331,7 +332,7 @@ static bool say_set(text *to, const row *of, int dialect, int rule) {
     return true;
 }
 
-/* What two sets have: the first alone, the second alone, and both. */
+/* What two sets contain: only the first, only the second, and both. */
 static const char *const part_names[] = {"lost ", "gained ", "shared "};
 typedef struct {
     semver_parser_range *of[5];
@@ -437,21 +438,21 @@ typedef struct {
     answering *say;
     int dialect;
     int rule;
-    /* How many rows it has at least, and how many passed and failed. */
+    /* The minimum number of rows, and how many passed and failed. */
     int least;
     int passed;
     int failed;
 } table_call;
 
-/* By both dialects of the crate. */
+/* In both dialects of the crate. */
 #define CRATE(name, say, rule, cargo, npm)                                                         \
     {name "-cargo", say, CRATE_CARGO, rule, cargo, 0, 0},                                          \
     {name "-npm", say, CRATE_NPM, rule, npm, 0, 0}
-/* By both, and by each rule. */
+/* In both dialects, and with each rule. */
 #define RULED(name, say, cargo, npm)                                                               \
     CRATE(name "releases", say, EXCLUDED, cargo, npm),                                             \
     CRATE(name "stated", say, DEFAULT, cargo, npm), CRATE(name "mean", say, INCLUDED, cargo, npm)
-/* By the dialects of both tools. */
+/* In the dialects of both tools. */
 #define TOOLS(name, say, rule, cargo, npm)                                                         \
     {name "-as-cargo", say, CARGO, rule, cargo, 0, 0}, {name "-as-npm", say, NPM, rule, npm, 0, 0}
 
@@ -488,7 +489,7 @@ static table_call calls[] = {
 };
 enum { CALLS = sizeof calls / sizeof *calls };
 
-/* The call of a row, or null, and whether its answer is a checksum. */
+/* Returns the call of a row, or null, and whether its result is a checksum. */
 static table_call *call_of(const char *name, bool *is_sum) {
     *is_sum = strncmp(name, sum, strlen(sum)) == 0;
     name += *is_sum ? strlen(sum) : 0;

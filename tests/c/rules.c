@@ -1,6 +1,6 @@
-/* Which versions satisfy which ranges, by each dialect and each rule for pre-releases: of short
- * strings and of long ones, one by one and many at once; which error comes first; and options that
- * aren't any. What is expected is in the tables of docs/man/semver-ranges.7 and of
+/* Which versions satisfy which ranges, in each dialect and by each rule for pre-releases: for
+ * short and long strings, one by one and many at once; which error is returned first; and
+ * invalid options. The expected values are in the tables of docs/man/semver-ranges.7 and of
  * docs/MEANING.md. */
 #include "calls.h"
 
@@ -8,7 +8,7 @@
 #include <stdlib.h>
 #include <string.h>
 
-/* What is expected of a version and a range. */
+/* What is expected for a version and a range. */
 enum { NO, YES, BAD_RANGE, TOO_LARGE, BAD_VERSION };
 
 static int told_of(const text *version, const text *range, int dialect, int rule) {
@@ -26,7 +26,7 @@ static int told_of(const text *version, const text *range, int dialect, int rule
     }
 }
 
-/* A range after a long front, by which it contains the same versions above 0.0.7. */
+/* Returns a range with a long prefix, which contains the same versions above 0.0.7. */
 static text after_a_front(int dialect, const char *range) {
     text made = repeated("", dialect == CARGO ? "          " : "=0.0.7 || ", 300, "");
     for (int at = 0; at < 20 && dialect == CARGO; at++) {
@@ -36,8 +36,8 @@ static text after_a_front(int dialect, const char *range) {
     return made;
 }
 
-/* A version as a long string, if its dialect has one: Cargo's has no white space, and npm's have
- * 256 characters at most. */
+/* Returns a version as a long string, if its dialect has one: Cargo's versions have no white
+ * space, and npm's have at most 256 characters. */
 static text long_version(int dialect, const char *version) {
     if (dialect == CARGO) {
         text front = string(version);
@@ -55,13 +55,13 @@ static text long_version(int dialect, const char *version) {
 static void satisfy(int dialect, int rule, const char *range, const char *version, int wanted) {
     text short_range = string(range);
     text short_version = string(version);
-    check(told_of(&short_version, &short_range, dialect, rule) == wanted, "another answer", range);
-    /* Nothing of 0.0.0 is above the front, and build metadata is there once. */
+    check(told_of(&short_version, &short_range, dialect, rule) == wanted, "wrong result", range);
+    /* The prefix matches nothing of 0.0.0, and build metadata is allowed only once. */
     if (strncmp(version, "0.0.0", 5) != 0 && strchr(version, '+') == NULL && wanted <= YES) {
         text long_range = after_a_front(dialect, range);
         text longer = long_version(dialect, version);
         check(told_of(&longer, &long_range, dialect, rule) == wanted,
-              "another answer of long strings", range);
+              "wrong result for long strings", range);
         text_free(&long_range);
         text_free(&longer);
     }
@@ -73,7 +73,7 @@ static bool is_release(const char *version) {
     return strchr(version, '-') == NULL;
 }
 
-/* A range, a version, and what is expected by each dialect, by the default rule. */
+/* A range, a version, and what is expected in each dialect, by the default rule. */
 static const struct {
     const char *range;
     const char *version;
@@ -98,7 +98,7 @@ static const struct {
     {"=1.2.3-a--b", "1.2.3-a--b", {YES, YES, BAD_VERSION, BAD_VERSION}},
 };
 
-/* A range of a tool, and versions that satisfy it and don't by the default rule. */
+/* A range in a tool's dialect, and versions that satisfy it, or don't, by the default rule. */
 static const struct {
     int dialect;
     const char *range;
@@ -119,7 +119,7 @@ static const struct {
     {NPM, "* || =1.0.0-a", {"0.0.0", "1.0.0", NULL, NULL}, {"1.0.0-a", NULL, NULL}},
 };
 
-/* By the default rule, and among releases only. */
+/* Checks the default rule, and releases only. */
 static void satisfy_by_default(int dialect, const char *range, const char *version, int wanted) {
     bool counts = wanted > YES || is_release(version);
     satisfy(dialect, DEFAULT, range, version, wanted);
@@ -145,8 +145,8 @@ static void tables(void) {
     }
 }
 
-/* A range and a version, and what is expected by both dialects of the crate: of releases only, by
- * the default rule, and of all pre-releases within the bounds. */
+/* A range and a version, and what is expected in both of the crate's dialects: for releases
+ * only, by the default rule, and with all pre-releases within the bounds. */
 static const struct {
     const char *range;
     const char *version;
@@ -192,7 +192,7 @@ static void ranges_of_the_crate(void) {
     }
 }
 
-/* Long identifiers of a range and of a version. Build metadata is ignored. */
+/* Long identifiers in a range and in a version. Build metadata is ignored. */
 static void long_identifiers(void) {
     static const struct {
         const char *front;
@@ -209,7 +209,7 @@ static void long_identifiers(void) {
         for (int rule = 0; rule < RULES; rule++) {
             for (int dialect = CRATE_CARGO; dialect <= CRATE_NPM; dialect++) {
                 check(told_of(&version, &range, dialect, rules[rule]) == versions[at].wanted[rule],
-                      "another answer of a long identifier", version.bytes);
+                      "wrong result for a long identifier", version.bytes);
             }
         }
         text_free(&version);
@@ -217,7 +217,7 @@ static void long_identifiers(void) {
     text_free(&range);
 }
 
-/* The error of the version, which is the first argument, comes first. */
+/* The error of the version, which is the first argument, is returned first. */
 static void errors_in_order(void) {
     static const struct {
         const char *version;
@@ -241,7 +241,7 @@ static void errors_in_order(void) {
     }
 }
 
-/* More versions than fit any table, each with the number of its index; the first is invalid. */
+/* More versions than fit any table, each with its index as a number; the first is invalid. */
 static void many(int dialect) {
     enum { MANY = 3000 };
     static char strings[MANY][16];
@@ -258,26 +258,26 @@ static void many(int dialect) {
     size_t index = 0;
     check(semver_parser_range_contains_each(set, versions, MANY, contains, statuses)
               == SEMVER_PARSER_OK,
-          "no answers of many", "^1.1000");
+          "no results for many", "^1.1000");
     for (int at = 0; at < MANY; at++) {
-        check(contains[at] == (at >= 1000), "another answer of many", strings[at]);
+        check(contains[at] == (at >= 1000), "wrong result for many", strings[at]);
         check((int)statuses[at] == (at == 0 ? (int)INVALID_VERSION : (int)OK),
-              "another status of many", strings[at]);
+              "wrong status of many", strings[at]);
     }
     check(semver_parser_range_highest_of(set, versions, MANY, true, &index, NULL)
                   == SEMVER_PARSER_OK
               && index == MANY - 1,
-          "another highest of many", "^1.1000");
+          "wrong highest of many", "^1.1000");
     check(semver_parser_range_lowest_of(set, versions, MANY, true, &index, NULL)
                   == SEMVER_PARSER_OK
               && index == 1000,
-          "another lowest of many", "^1.1000");
+          "wrong lowest of many", "^1.1000");
     check(semver_parser_range_contains_each(set, NULL, 0, NULL, NULL) == SEMVER_PARSER_OK,
-          "no answer of none", "^1.1000");
+          "no result for none", "^1.1000");
     semver_parser_range_free(set);
 }
 
-/* INVALID_ARGUMENT comes first: of a number that is no dialect, or no rule. */
+/* INVALID_ARGUMENT is returned first, for a number that isn't a dialect or a rule. */
 static void no_such_options(void) {
     static const int numbers[] = {-1, 3, 4, 5, 20, 256, 65537, INT32_MAX, INT32_MIN};
     static const char *const strings[] = {"1", "", "v1", "\xFF", "<=18446744073709551615",

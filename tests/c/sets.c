@@ -1,6 +1,5 @@
-/* Ranges that were read: what is printed of them, two of them combined and compared, ranges of
- * other options, and the highest and lowest version of a list. What is expected follows from
- * docs/MEANING.md. */
+/* Parsed ranges: how they are printed, combined and compared, ranges with different options, and
+ * the highest and lowest version of a list. The expected values follow from docs/MEANING.md. */
 #include "calls.h"
 
 #include <stdlib.h>
@@ -29,8 +28,8 @@ static void set_prints(const char *range, int dialect, int rule, printing *print
 
 static const int rules[] = {EXCLUDED, DEFAULT, INCLUDED};
 
-/* A range and its lowest version: of releases only, by the default rule, and with all pre-releases.
- * An empty string is none. */
+/* A range and its lowest version: for releases only, by the default rule, and with all
+ * pre-releases. An empty string means that there is none. */
 static const struct {
     int dialect;
     const char *range;
@@ -75,7 +74,7 @@ static void lowest(void) {
                        say_lowest, lowest_versions[at].lowest[rule]);
         }
     }
-    /* Strings of each length about that of the first buffer. */
+    /* Strings of each length around that of the first buffer. */
     for (int count = 40; count < 80; count++) {
         text near = repeated(">=1.2.3-", "a", count, "");
         set_prints(near.bytes, CRATE_CARGO, DEFAULT, say_lowest, near.bytes + 2);
@@ -105,8 +104,8 @@ static void printed(void) {
     text_free(&wanted);
 }
 
-/* What is printed of a set reads back in the crate's npm mode: the releases, and the pre-releases,
- * but `*`, which has those above 0.0.0 alone there. */
+/* What is printed for a set can be parsed in the crate's npm mode to the same set: the releases
+ * and the pre-releases, except `*`, which has only those above 0.0.0 there. */
 static void reads_back(void) {
     static const char *const ranges[] = {"^1.2.3", ">1.0.0-rc.1", "=3.0.0-a || >5", "<*", ">2 <1",
                                          "*", ">=0.0.0-0", "<0.0.0-a.1 || =1.2.3-rc.0.b"};
@@ -129,8 +128,8 @@ static void reads_back(void) {
 
 /* ---- two sets */
 
-/* Two ranges and the lowest version of what one alone, the other alone, and both have, by each
- * rule. */
+/* Two ranges, and the lowest version that only the first, only the second, and both contain, by
+ * each rule. */
 static const struct {
     int dialect;
     const char *ranges[2];
@@ -183,9 +182,9 @@ static void compared_is(const semver_parser_range *one, const semver_parser_rang
     bool is_subset = !within;
     bool equal = !same;
     check(compare(one, '<', other, &is_subset).status == SEMVER_PARSER_OK && is_subset == within,
-          "another subset", of);
+          "wrong subset", of);
     check(compare(one, '=', other, &equal).status == SEMVER_PARSER_OK && equal == same,
-          "another equality", of);
+          "wrong equality", of);
 }
 
 static void disjoint_is(const semver_parser_range *one, const semver_parser_range *other,
@@ -196,14 +195,14 @@ static void disjoint_is(const semver_parser_range *one, const semver_parser_rang
           "disjoint, or not", of);
 }
 
-/* Whether what an operation makes of two sets has a lowest version, and is a set of the same
- * options. */
+/* Checks the lowest version of what an operation makes of two sets, and that it is a set with
+ * the same options. */
 static void combined_is(const semver_parser_range *one, char operation,
                         const semver_parser_range *other, const char *wanted) {
     semver_parser_range *made = combined(one, operation, other);
     check(made != NULL, "not combined", wanted);
     prints(made, say_lowest, wanted);
-    check(semver_parser_range_is_empty(made) == (wanted[0] == 0), "another emptiness", wanted);
+    check(semver_parser_range_is_empty(made) == (wanted[0] == 0), "wrong emptiness", wanted);
     semver_parser_options options = semver_parser_range_options(made);
     semver_parser_options before = semver_parser_range_options(one);
     check(options.dialect == before.dialect && options.pre_releases == before.pre_releases,
@@ -252,7 +251,8 @@ static void whole_sets(void) {
     semver_parser_range_free(other);
 }
 
-/* What a function says of two sets of these options: the dialects come first. */
+/* Returns the status of a function for two sets with these options: the dialects are compared
+ * first. */
 static int status_of_two(int one, int other) {
     if (one / RULES != other / RULES) {
         return DIFFERENT_DIALECTS;
@@ -260,7 +260,8 @@ static int status_of_two(int one, int other) {
     return one == other ? OK : DIFFERENT_PRE_RELEASES;
 }
 
-/* Sets of other options are neither combined nor compared, also if they have the same versions. */
+/* Sets with different options are neither combined nor compared, even if they have the same
+ * versions. */
 static void other_options(void) {
     semver_parser_range *sets[DIALECTS * RULES];
     for (int at = 0; at < DIALECTS * RULES; at++) {
@@ -282,7 +283,7 @@ static void other_options(void) {
         }
         check(answers[0] == (one == other) && answers[1] == (one == other)
                   && answers[2] == (one != other),
-              "another answer about other options", "=1.2.3");
+              "wrong result about other options", "=1.2.3");
     }
     for (int at = 0; at < DIALECTS * RULES; at++) {
         semver_parser_range_free(sets[at]);
@@ -292,10 +293,10 @@ static void other_options(void) {
     semver_parser_free(NULL);
 }
 
-/* ---- the highest and the lowest of a list */
+/* ---- the highest and the lowest version of a list */
 
-/* Versions, of which the last is "", and the indices of the highest and the lowest: the first of
- * equal ones, or how many there are if none is in the set. */
+/* Versions, which end with "", and the indices of the highest and the lowest: the first among
+ * equal ones, or the number of versions if none is in the set. */
 static const struct {
     int dialect;
     int rule;
@@ -347,7 +348,7 @@ static void first_invalid_is(const semver_parser_range *set, const semver_parser
                                    && error.status == status && error.index == first
                                    && error.offset == wanted.offset
                                    && error.reason == wanted.reason,
-              "another invalid version", of);
+              "wrong invalid version", of);
     }
 }
 
@@ -364,17 +365,17 @@ static void highest_and_lowest(void) {
         check(semver_parser_range_highest_of(set, list, count, true, &index, NULL)
                       == SEMVER_PARSER_OK
                   && index == lists[at].highest,
-              "another highest version", lists[at].versions[0]);
+              "wrong highest version", lists[at].versions[0]);
         check(semver_parser_range_lowest_of(set, list, count, true, &index, NULL)
                       == SEMVER_PARSER_OK
                   && index == lists[at].lowest,
-              "another lowest version", lists[at].versions[0]);
+              "wrong lowest version", lists[at].versions[0]);
         first_invalid_is(set, list, count);
         semver_parser_range_free(set);
     }
 }
 
-/* More versions than are compared at once, with an invalid one at an index, or with none: the
+/* More versions than are compared at once, with an invalid one at an index, or with none. The
  * highest is at `last`, and the lowest is after it. */
 static void many_versions(size_t count, size_t invalid) {
     semver_parser_range *set = made_of("*", CARGO, DEFAULT);
@@ -389,12 +390,12 @@ static void many_versions(size_t count, size_t invalid) {
               && semver_parser_range_highest_of(set, list, count, skips, &index, &error)
                      == SEMVER_PARSER_OK
               && index == (invalid == 1 ? 3 : 1),
-          "another highest of many", "1.10.0+b");
+          "wrong highest of many", "1.10.0+b");
     check(list != NULL
               && semver_parser_range_lowest_of(set, list, count, skips, &index, &error)
                      == SEMVER_PARSER_OK
               && index == (invalid == 0 ? 2 : 0),
-          "another lowest of many", "1.2.0");
+          "wrong lowest of many", "1.2.0");
     if (list != NULL) {
         first_invalid_is(set, list, count);
     }

@@ -17,7 +17,7 @@ void table_free(table *it) {
     text_free(&it->answers);
 }
 
-/* The line at a place, ended by a zero byte, and the place moved after it. */
+/* Returns the line at a position, ended by a zero byte, and moves the position after it. */
 static char *next_line(char **at) {
     char *line = *at;
     char *end = strchr(line, '\n');
@@ -64,7 +64,7 @@ void row_free(row *it) {
     text_free(&it->steps);
 }
 
-/* Whether an identifier is a number: digits without a zero in front, up to 2^64 - 1. */
+/* Returns whether an identifier is a number: digits without a leading zero, up to 2^64 - 1. */
 static bool is_number(const char *bytes, size_t length) {
     for (size_t at = 0; at < length; at++) {
         if (bytes[at] < '0' || bytes[at] > '9') {

@@ -1,4 +1,4 @@
-/* The table of cases of crates/replayed_cases, row by row. */
+/* The table of cases in crates/replayed_cases, row by row. */
 #ifndef TABLE_H
 #define TABLE_H
 
@@ -13,7 +13,7 @@ typedef struct {
     char *answer_at;
 } table;
 
-/* A row: its call, the text and the steps that are meant, and the wanted answer. */
+/* A row: its call, its text and its steps without escapes, and the expected result. */
 typedef struct {
     const char *call;
     text of;
@@ -21,16 +21,16 @@ typedef struct {
     const char *expected;
 } row;
 
-/* The table whose files are STDIN and STDOUT. A file that can't be read ends the program. */
+/* Reads the table from the files STDIN and STDOUT. Exits if a file can't be read. */
 table table_of_files(const char *rows, const char *answers);
 void table_free(table *it);
 
-/* Whether there is a next row, which the caller then frees. What isn't a row ends the program, and
- * so does a file that ends before the other. */
+/* Reads the next row, which the caller has to free, and returns whether there is one. Exits at a
+ * line that isn't a row, and if one file ends before the other. */
 bool next_row(table *of, row *next);
 void row_free(row *it);
 
-/* Writes identifiers, which are joined by dots, as the table has them: by their variants. */
+/* Writes identifiers, which are joined by dots, as the table does: with their kinds. */
 void say_identifiers(text *to, const char *bytes, size_t length);
 
 /* Writes the fields of a version. */

@@ -10,7 +10,7 @@ static void give_up(const char *why) {
     exit(2);
 }
 
-/* Makes room for bytes and a zero byte after them. */
+/* Makes sure that there is capacity for bytes and a zero byte after them. */
 static void grow(text *to, size_t length) {
     if (to->room - to->length <= length) {
         to->room = 2 * (to->length + length) + 64;
@@ -68,7 +68,7 @@ text text_of_file(const char *path) {
     return whole;
 }
 
-/* Appends a text without repetitions, which stands at a place of a list, or at none (-1). */
+/* Appends a text without repetitions. `place` is its index in a list, or -1. */
 static bool add_unescaped(text *to, const char *escaped, size_t length, long place) {
     for (size_t at = 0; at < length; at++) {
         if (escaped[at] != '\\') {
@@ -117,7 +117,7 @@ static bool add_repeated(text *to, const char *repeated, size_t length) {
     return true;
 }
 
-/* Where the next `\(` begins, or the end. */
+/* Returns the beginning of the next `\(`, or the end. */
 static const char *next_repeated(const char *at, const char *end) {
     while (at < end && !(at + 1 < end && at[0] == '\\' && at[1] == '(')) {
         at++;

@@ -1,5 +1,5 @@
-/* Uses all that the header has, as a program in C or in C++ does: it is compiled by each standard
- * of both, with all warnings as errors. And two threads that read one set and one list. */
+/* Uses everything in the header, as a program in C or in C++ does: it is compiled with each
+ * standard of both, with all warnings as errors. Two threads read one set and one list. */
 #include "../../rust/capi/include/semver_parser.h"
 
 #include <pthread.h>
@@ -18,7 +18,7 @@ static bool is_string(semver_parser_string string, const char *wanted) {
     return string.length == strlen(wanted) && memcmp(string.data, wanted, string.length) == 0;
 }
 
-/* Whether a made string is as wanted, which is freed. */
+/* Returns whether a string that was made is as expected, and frees it. */
 static bool is_made(semver_parser_status status, char *made, const char *wanted) {
     bool is_same = status == SEMVER_PARSER_OK && strcmp(made, wanted) == 0;
     semver_parser_free(made);
@@ -74,7 +74,7 @@ static bool use_versions(void) {
                   == SEMVER_PARSER_OK;
 }
 
-/* What one can ask of a set alone. */
+/* Calls the functions of a single set. */
 static bool use_set(const semver_parser_range *set) {
     const semver_parser_string versions[] = {{"1.2.0", 5}, {NULL, 0}, {"1.9.0", 5}};
     semver_parser_status statuses[3];
@@ -138,7 +138,7 @@ static bool use_list(const semver_parser_comparators *list) {
            && semver_parser_comparators_get(list, 4, &last) == SEMVER_PARSER_INVALID_ARGUMENT;
 }
 
-/* What both threads read, and whether each was right. */
+/* What both threads read, and whether each got the right results. */
 static semver_parser_range *shared_set;
 static semver_parser_comparators *shared_list;
 
