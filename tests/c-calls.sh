@@ -6,7 +6,7 @@
 set -eu
 unset CDPATH
 cd "$(dirname "$0")/.."
-command -v cc > /dev/null || { echo 'C functions: no cc, so they are not tried' && exit; }
+command -v cc > /dev/null || { echo 'C functions: no cc, so they are not tested' && exit; }
 work=$(mktemp -d)
 trap 'rm -rf "$work"' EXIT
 trap 'exit 2' HUP INT TERM

@@ -149,7 +149,7 @@ def errors_of_statuses():
     yield from differences(statuses, statuses_by_name())
     path = 'python/semver_parser/_interface.py'
     in_python = re.findall(r'^[A-Z_]+ = \d+$', read(path), re.M)
-    yield from (f'{path}: {it} is no status' for it in in_python if it not in statuses)
+    yield from (f'{path}: {it} is not a status' for it in in_python if it not in statuses)
     if len(statuses) < 8 or len(in_python) < 7:
         yield f'{len(statuses)} statuses and {len(in_python)} of Python are too few'
 

@@ -117,7 +117,7 @@ def errors_of_made(header, pages):
 def errors_of_links(name, page, there):
     for other in named_in(page):
         if other != OVERVIEW and other not in there and other != 'memset':
-            yield f'{name}.3 names {other}(3), which there is not'
+            yield f'{name}.3 names {other}(3), which does not exist'
 
 
 def errors_of_overview(header, page):

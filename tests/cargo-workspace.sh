@@ -13,10 +13,10 @@ set -eu
 unset CDPATH
 cd "$(dirname "$0")/.."
 for tool in cargo git; do
-    command -v $tool > /dev/null || { echo "cargo in a clone: no $tool, so it is not tried" && exit; }
+    command -v $tool > /dev/null || { echo "cargo in a clone: no $tool, so it is not tested" && exit; }
 done
 git rev-parse --git-dir > /dev/null 2>&1 ||
-    { echo 'cargo in a clone: this is not a repository of git, so it is not tried' && exit; }
+    { echo 'cargo in a clone: this is not a repository of git, so it is not tested' && exit; }
 top=$PWD
 work=$(mktemp -d)
 trap 'rm -rf "$work"' EXIT

@@ -267,7 +267,7 @@ def main():
         sys.exit('\n'.join(messages))
     else:
         print(f'erased: {counts["files"]} files, {counts["written"]} tokens, as their sources; '
-              f'{must_fail(top, right)} planted changes refused')
+              f'{must_fail(top, right)} planted changes rejected')
 
 
 main()

@@ -27,7 +27,7 @@ stub() {
 #!/bin/sh
 $2
 echo "ran \${0##*/} \$*"
-case " \$SKIPPING " in *" \${0##*/} "*) echo "\${0##*/}: no tool, so nothing is tried" ;; esac
+case " \$SKIPPING " in *" \${0##*/} "*) echo "\${0##*/}: no tool, so nothing is tested" ;; esac
 case " \$FAILING " in *" \${0##*/} "*) exit 3 ;; esac
 END
     chmod +x "$1"
@@ -114,8 +114,8 @@ ends 0
 all=$(grep -c '^ran ' "$work/said")
 SKIPPING='serde.sh documents.py'
 ends 0
-skips 'serde.sh: no tool, so nothing is tried' 'documents.py: no tool, so nothing is tried' \
-    'documents.py: no tool, so nothing is tried'
+skips 'serde.sh: no tool, so nothing is tested' 'documents.py: no tool, so nothing is tested' \
+    'documents.py: no tool, so nothing is tested'
 SKIPPING=''
 FAILING='rust-crate.sh c-header.py js-package.sh packages.sh release-filter-runs.sh'
 ends 1
@@ -139,7 +139,7 @@ names_failed tests/gate.sh tests/documents.py 'tests/documents.py --must-fail' \
 # Without the kit.
 tools=$work/without-the-kit:/usr/bin:/bin
 if PATH=$tools command -v rt > /dev/null; then
-    echo 'gate: rt is in /usr/bin, so a run without the kit is not tried'
+    echo 'gate: rt is in /usr/bin, so a run without the kit is not tested'
 else
     FAILING=''
     ends 2

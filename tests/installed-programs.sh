@@ -109,7 +109,7 @@ try_installed_library() {
     libraries=$lib
     try_library -I "$prefix/include" -L "$lib" -lsemver_parser
     libraries=''
-    command -v pkg-config > /dev/null || { echo 'installed programs: no pkg-config, so its file is not tried' && return; }
+    command -v pkg-config > /dev/null || { echo 'installed programs: no pkg-config, so its file is not tested' && return; }
     flags=$(PKG_CONFIG_PATH=$lib/pkgconfig pkg-config --cflags --libs semver_parser)
     libraries=$lib
     eval "try_library $flags"
@@ -135,7 +135,7 @@ try_example() {
     ends 0 env -i PATH=/usr/bin:/bin sh "$work/example"
     has "$prefix/bin/release-filter" stdout
     install_into "$work/plain" make install PREFIX="$work/plain"
-    command -v pkg-config > /dev/null || { echo 'installed programs: no pkg-config, so the example is not tried' && return; }
+    command -v pkg-config > /dev/null || { echo 'installed programs: no pkg-config, so the example is not tested' && return; }
     are_to_set "$work/to-set"
     printf '%s\n' "$(cat "$work/to-set")" 'make -s -C docs/examples/c clean out/check-ranges CC=cc' \
         'docs/examples/c/out/check-ranges < docs/examples/lines' > "$work/example"
@@ -222,7 +222,7 @@ sonames() {
 
 # The Python packages, with a link to the library, and their programs.
 installed_for_python() {
-    command -v python3 > /dev/null || { echo 'installed programs: no python3, so its package is not tried' && return; }
+    command -v python3 > /dev/null || { echo 'installed programs: no python3, so its package is not tested' && return; }
     ends 0 make install-python PREFIX="$work/python"
     tail -n 1 "$work/stdout" | grep -q "^    export PYTHONPATH=$work/python/" || fail "it doesn't say where the package is"
     package=$(dirname "$(find "$work/python" -name py.typed)")
@@ -344,7 +344,7 @@ $proving"
     has 'proving semver-parser, which takes several minutes
 crate 1 of 2: a
 crate 2 of 2: semver_parser_main' stderr
-    command -v script > /dev/null || { echo 'installed programs: no script, so no terminal is tried' && return; }
+    command -v script > /dev/null || { echo 'installed programs: no script, so no terminal is tested' && return; }
     touch "$small/crates.txt"
     rm -r "$small"/crates/*/out
     AT_TERMINAL=yes
@@ -394,7 +394,7 @@ where_nothing_may_be_written() {
 
 # In a checkout of another user root builds nothing, but runs and installs what is built there.
 where_root_may_not_build() {
-    [ "$(id -u)" = 0 ] || { echo 'installed programs: not as root, so what root may not do is not tried' && return; }
+    [ "$(id -u)" = 0 ] || { echo 'installed programs: not as root, so what root may not do is not tested' && return; }
     chown 65534 "$small" "$checkout"
     root="root builds nothing in a checkout of another user: run make as its owner, then sudo make install"
     refuses "semver-parser: semver-parser isn't built, and $root" "$small/semver-parser" 1.2.3
@@ -429,7 +429,7 @@ where_no_tool_is() {
 }
 
 for tool in cargo cc python3; do
-    command -v $tool > /dev/null || { echo "installed programs: no $tool, so nothing is tried" && exit; }
+    command -v $tool > /dev/null || { echo "installed programs: no $tool, so nothing is tested" && exit; }
 done
 as_built
 installed

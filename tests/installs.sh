@@ -8,10 +8,10 @@ set -eu
 unset CDPATH
 cd "$(dirname "$0")/.."
 for tool in cargo git python3; do
-    command -v $tool > /dev/null || { echo "installs: no $tool, so nothing is tried" && exit; }
+    command -v $tool > /dev/null || { echo "installs: no $tool, so nothing is tested" && exit; }
 done
 git rev-parse --git-dir > /dev/null 2>&1 ||
-    { echo 'installs: this is not a repository of git, so nothing is tried' && exit; }
+    { echo 'installs: this is not a repository of git, so nothing is tested' && exit; }
 top=$PWD
 work=$(mktemp -d)
 trap 'rm -rf "$work"' EXIT
@@ -90,7 +90,7 @@ block_after() {
 # Python: installs the package with its library and the checkers, by the URL and in the clone.
 for_python() {
     command -v "$python" > /dev/null && alone "$python" -c 'import ensurepip' 2> /dev/null ||
-        { echo 'installs: no ensurepip (Debian: python3-venv), so pip is not tried' && return; }
+        { echo 'installs: no ensurepip (Debian: python3-venv), so pip is not tested' && return; }
     for command in "$(as_written 'pip install git+URL')" "$(as_written 'pip install .')"; do
         rm -rf "$work/environment"
         ends 0 python3 -m venv "$work/environment"
@@ -159,7 +159,7 @@ hook() {
 # other hook also runs if one is deleted.
 for_pre_commit() {
     alone sh -c 'command -v pre-commit' > /dev/null ||
-        { echo 'installs: no pre-commit (Debian: pre-commit), so it is not tried' && return; }
+        { echo 'installs: no pre-commit (Debian: pre-commit), so it is not tested' && return; }
     cp -R "$work/monorepo" "$work/hooked"
     git -C "$work/hooked" init -q
     git -C "$work/hooked" add -f .
@@ -204,7 +204,7 @@ END
 # has_yaml WHAT: returns whether python3 has PyYAML, which the tests with YAML need.
 has_yaml() {
     "$python" -c 'import yaml' 2> /dev/null && return
-    echo "installs: python3 has no PyYAML (Debian: python3-yaml), so $1 is not tried"
+    echo "installs: python3 has no PyYAML (Debian: python3-yaml), so $1 is not tested"
     return 1
 }
 

@@ -135,8 +135,8 @@ const IN_ORDER = [
 ];
 for (const dialect of ['npm', 'cargo', 'crate-npm', 'crate-cargo']) {
     IN_ORDER.forEach((version, at) => IN_ORDER.forEach((other, against) => {
-        expect(`${version} beside ${other}`, semver.compare(`${version}+b`, other, { dialect }), Math.sign(at - against));
+        expect(`${version} and ${other}`, semver.compare(`${version}+b`, other, { dialect }), Math.sign(at - against));
     }));
 }
 
-console.log(`JavaScript rows: ${asked} answers, passed`);
+console.log(`JavaScript rows: ${asked} results, passed`);

@@ -103,7 +103,7 @@ has_modules() {
 # try_by_pkg_config DIRECTORY ROOT: a C program can be compiled with the flags that pkg-config
 # prints, with the shared library and with the static one.
 try_by_pkg_config() {
-    command -v pkg-config > /dev/null || { echo 'packages: no pkg-config, so its file is not tried' && return; }
+    command -v pkg-config > /dev/null || { echo 'packages: no pkg-config, so its file is not tested' && return; }
     flags=$(PKG_CONFIG_SYSROOT_DIR=$2 PKG_CONFIG_PATH=$1/pkgconfig pkg-config --cflags --libs semver_parser)
     libraries=$1
     eval "try_library $flags"
@@ -115,7 +115,7 @@ try_by_pkg_config() {
 # the one that the system finds in the directory.
 try_python() {
     [ -s python/semver_parser/_versions.py ] && command -v python3 > /dev/null ||
-        { echo 'packages: no python3, so the package for Python is not tried' && return; }
+        { echo 'packages: no python3, so the package for Python is not tested' && return; }
     ends 0 env PYTHONDONTWRITEBYTECODE=1 PYTHONPATH="$1/${modules%/*}" LD_LIBRARY_PATH="$2" python3 -c \
         'from semver_parser import Version; print(Version.parse("1.2.3-rc.4", dialect="npm"))'
     has 1.2.3-rc.4 stdout
@@ -253,7 +253,7 @@ refused() {
 }
 
 for tool in cargo cc strip; do
-    command -v "$tool" > /dev/null || { echo "packages: no $tool, so they are not tried" && exit; }
+    command -v "$tool" > /dev/null || { echo "packages: no $tool, so they are not tested" && exit; }
 done
 version=$(cat VERSION)
 architecture=$(dpkg --print-architecture 2> /dev/null || uname -m) triplet=$(cc -print-multiarch)
@@ -271,7 +271,7 @@ if dpkg-checkbuilddeps -d "$(sed -n 's/^Build-Depends: //p' debian/control | sed
     packages_serve
     lint
 else
-    echo "packages: what debian/control builds with is missing, so Debian's are not tried"
+    echo "packages: what debian/control builds with is missing, so Debian's packages are not tested"
 fi
 refused
 echo 'packages: passed'

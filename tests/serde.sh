@@ -6,10 +6,10 @@ set -eu
 unset CDPATH
 cd "$(dirname "$0")/.."
 registry=/usr/share/cargo/registry
-command -v cargo > /dev/null || { echo 'serde: no cargo, so it is not tried' && exit; }
+command -v cargo > /dev/null || { echo 'serde: no cargo, so it is not tested' && exit; }
 for crate in serde serde_derive serde_json; do
     ls -d $registry/$crate-[0-9]* > /dev/null 2>&1 ||
-        { echo "serde: $registry has no $crate, so it is not tried" && exit; }
+        { echo "serde: $registry has no $crate, so it is not tested" && exit; }
 done
 work=$(mktemp -d)
 trap 'rm -rf "$work"' EXIT

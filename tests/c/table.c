@@ -51,7 +51,7 @@ bool next_row(table *of, row *next) {
         || strncmp(answer + length, ": ", 2) != 0
         || !text_expand(&made.of, fields[2], strlen(fields[2]))
         || !text_expand(&made.steps, fields[3], strlen(fields[3]))) {
-        fprintf(stderr, "not a row: %s, answered %s\n", fields[0], answer);
+        fprintf(stderr, "not a row: %s, expected %s\n", fields[0], answer);
         exit(2);
     }
     made.expected = answer + length + 2;

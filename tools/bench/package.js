@@ -39,7 +39,7 @@ function seconds (run, library) {
 
 console.log('| call | node-semver, µs | here, µs | relative time |\n|---|---|---|---|')
 for (const [name, count, run] of ROWS) {
-  if (run(semver) !== run(ours)) throw new Error(`${name}: another answer`)
+  if (run(semver) !== run(ours)) throw new Error(`${name}: different results`)
   const best = [Infinity, Infinity]
   for (let pass = 0; pass < PASSES; pass += 1) {
     [semver, ours].forEach((library, at) => { best[at] = Math.min(best[at], seconds(run, library)) })

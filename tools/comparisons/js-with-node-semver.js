@@ -127,7 +127,7 @@ function compareRange (random, range) {
   const versions = [...list.slice(0, 6), version(random)]
   for (const options of OPTIONS) {
     if (!isRead(range, options)) continue
-    const isKnown = () => plain(range) !== range && count('a build or a `v` beside 0.0.0')
+    const isKnown = () => plain(range) !== range && count('a build or a `v` with 0.0.0')
     const known = (wanted, found) => isLarge([range, ...versions])() || isKnown()
     for (const one of versions) compareCall('satisfies', [one, range, options], known)
     for (const call of ['maxSatisfying', 'minSatisfying']) compareCall(call, [versions, range, options], known)
@@ -157,15 +157,15 @@ const isOfBounds = (range) => ours.toComparators(range).every(([one, other = '<'
 
 function compareRanges (random, range, other) {
   if (![range, other].every((it) => isRead(it))) return
-  const isKnown = () => ![range, other].every(isPlain) && count('two ranges of which one has pre-releases or a part without versions')
+  const isKnown = () => ![range, other].every(isPlain) && count('two ranges, one with pre-releases or a part without versions')
   const isWhole = () => semver.validRange(other) === '*' && count('a range from 0.0.0 on within `*`')
   compareCall('intersects', [range, other], isKnown)
   const isTogether = (found) => /\|\|/.test(other) && found === 'true' && count('a range within several together')
   compareCall('subset', [range, other], (wanted, found) => isWhole() || isTogether(found) || isKnown())
   compareCall('minVersion', [range], isKnown)
   const one = random.of(asked(random, range))
-  const isBeside = () => /-/.test(one) ? count('a pre-release beside a range') : isKnown() ||
-    (!isOfBounds(range) && count('a version beside several bounds'))
+  const isBeside = () => /-/.test(one) ? count('a pre-release outside of a range') : isKnown() ||
+    (!isOfBounds(range) && count('a version outside of several bounds'))
   for (const call of ['gtr', 'ltr']) compareCall(call, [one, range], isBeside)
   compareCall('outside', [one, range, random.of(['<', '>', ''])], isBeside)
 }

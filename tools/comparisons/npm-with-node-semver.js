@@ -50,7 +50,7 @@ const ESCAPES = { '\\': '\\\\', '\n': '\\n', '\r': '\\r', '\t': '\\t' }
 const escaped = (of) => of.replace(/[\\\n\r\t]/g, (character) => ESCAPES[character])
 
 function differ (of, wanted, answered) {
-  console.log(`differ: ${JSON.stringify(of)}: by node-semver ${wanted}, here ${answered}`)
+  console.log(`differ: ${JSON.stringify(of)}: in node-semver ${wanted}, here ${answered}`)
   process.exit(1)
 }
 

@@ -115,7 +115,7 @@ def main():
     wrong += [f"no longer fails: {line} ({kind})" for line, kind in expected.items() if line not in failed]
     print(*wrong, sep="\n", end="\n" if wrong else "")
     total = sum(map(sum, shim.values()))
-    print(f"semver {version}: {sum(map(sum, own.values()))} assertions, with Dialect::Cargo {total}, of which {sum(failed.values())} fail:")
+    print(f"semver {version}: {sum(map(sum, own.values()))} assertions, with Dialect::Cargo {total}; {sum(failed.values())} fail:")
     kinds = collections.Counter()
     for line, fails in failed.items():
         kinds[expected.get(line, "not expected")] += fails

@@ -104,14 +104,14 @@ function compare (program, what, all, completions = COMPLETIONS) {
     for (let at = 0; at < all.length; at += BATCH) {
       const batch = all.slice(at, at + BATCH)
       const told = answers(program, batch.map((of) => `refused-as-${name}\t${escaped(of)}`))
-      if (told.length !== batch.length) throw new Error(`${told.length} of ${batch.length} answers`)
+      if (told.length !== batch.length) throw new Error(`${told.length} of ${batch.length} results`)
       told.forEach((answer, place) => {
         const want = wanted(tool, batch[place], completions)
         refused += want === 'a version' ? 0 : 1
         if (answer === want) return
         differences++
         if (differences > 20) return
-        console.log(`differ: ${JSON.stringify(batch[place])}: wanted by ${name} ${want}, here ${answer}`)
+        console.log(`differ: ${JSON.stringify(batch[place])}: ${name} expects ${want}, here ${answer}`)
       })
     }
     counts.push(`${refused} to ${name}`)

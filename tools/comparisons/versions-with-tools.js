@@ -154,7 +154,7 @@ function compare (program, cargo, what, all) {
     const asked = { npm: batch.map(byNpm), cargo: byCargo(cargo, batch) }
     for (const tool of ['cargo', 'npm']) {
       const told = answers(program, batch.map((of) => `version-as-${tool}\t${escaped(of)}`))
-      if (told.length !== batch.length) throw new Error(`${told.length} of ${batch.length} answers`)
+      if (told.length !== batch.length) throw new Error(`${told.length} of ${batch.length} results`)
       told.forEach((answer, place) => {
         const wanted = asked[tool][place]
         counts[tool] += wanted === 'none' ? 0 : 1
@@ -162,7 +162,7 @@ function compare (program, cargo, what, all) {
         differences++
         if (differences > 20) return
         const of = JSON.stringify(batch[place])
-        console.log(`differ: ${of}: by ${tool} ${wanted}, here ${answer}`)
+        console.log(`differ: ${of}: in ${tool} ${wanted}, here ${answer}`)
       })
     }
   }

@@ -175,12 +175,12 @@ def main(program, count, seed):
     assert len(answered) == 2 * count + 1
     for line, answer, said in zip(lines, answers, answered):
         if answer != said:
-            sys.exit(f"differ: {line}\n  the grid {answer}\n  answered {said}")
+            sys.exit(f"differ: {line}\n  the grid {answer}\n  result {said}")
     for (first, second, line), said in zip(sets, answered[count:]):
         if differs(first, second, said):
-            sys.exit(f"differ: {line}\n  answered {said}")
+            sys.exit(f"differ: {line}\n  result {said}")
     told = ", ".join(f"{word} {times}" for word, times in met.items())
-    print(f"{count} pairs of texts, seed {seed}, on {len(GRID)} versions, {len(TERMS)} terms: no difference; there was {told}")
+    print(f"{count} pairs of texts, seed {seed}, on {len(GRID)} versions, {len(TERMS)} terms: no difference; counts: {told}")
 
 
 main(sys.argv[1], int(sys.argv[2]), int(sys.argv[3]))

@@ -187,7 +187,7 @@ function compare (program, cases, { call, options }, seed) {
     }
   })
   console.log(`${call}: ${cases.length * VERSIONS} pairs compared, seed ${seed}, ${met} met: no difference but the known ones`)
-  for (const [departure, times] of occurred) console.log(`  ${times} times beside: ${departure}`)
+  for (const [departure, times] of occurred) console.log(`  ${times} times: ${departure}`)
 }
 
 module.exports = { Random, range, version, answers }

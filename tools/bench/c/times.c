@@ -66,7 +66,7 @@ static double time_of(asking *ask, const char *range, size_t count) {
 int main(void) {
     cargo = semver_parser_options_of(SEMVER_PARSER_DIALECT_CARGO);
     static asking *const ways[] = {ask_range, ask_each};
-    printf("| ns for so many versions | 1 | 2 | 3 | 4 | 5 | 6 |\n");
+    printf("| ns by number of versions | 1 | 2 | 3 | 4 | 5 | 6 |\n");
     printf("|---|---|---|---|---|---|---|\n");
     for (size_t i = 0; i < 2 * sizeof ranges / sizeof *ranges; i++) {
         printf("| `%s`, %s |", ranges[i / 2], i % 2 == 0 ? "read once" : "read for each");

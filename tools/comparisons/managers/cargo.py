@@ -135,7 +135,7 @@ def run(top: Path, count: int, seed: int) -> Differences:
         folder.mkdir(parents=True)
         write_world(folder, world)
         if cargo(folder, "generate-lockfile") is None:
-            found.count("worlds that Cargo refuses")
+            found.count("worlds that Cargo rejects")
             continue
         made += 1
         graph = graph_at(folder)

@@ -87,6 +87,6 @@ fn report(program: &str, case: &Case) {
     let ours = answers(program, std::slice::from_ref(&smallest));
     println!("{} differ: {smallest}", smallest.kind.name());
     println!("  the crate: {}", real::answer(&smallest));
-    println!("  wanted here: {}", expected(&smallest).answer);
-    println!("  answered here: {}", ours[0]);
+    println!("  expected here: {}", expected(&smallest).answer);
+    println!("  here: {}", ours[0]);
 }

@@ -200,7 +200,7 @@ fn main() -> ExitCode {
     }
     println!("{} pairs compared, seed {seed}: no difference but the known ones", cases.len() * VERSIONS);
     for (departure, times) in occurred {
-        println!("  {times} times beside: {departure}");
+        println!("  {times} times: {departure}");
     }
     ExitCode::SUCCESS
 }
