@@ -106,7 +106,7 @@ async function main() {
         'crate, Cargo mode: >=1.2.0 <2.0.0-0: =1.2.0: >=2.0.0', 'crate, npm mode: >=1.2.0 <2.0.0-0: =1.2.0: >=2.0.0',
     ]);
     await type('other', '>=1.2.1 <2');
-    expect('another range that is refused', (await ranges())[0], 'Cargo: >=1.2.0 <2.0.0-0: refused: refused');
+    expect('another range that is rejected', (await ranges())[0], 'Cargo: >=1.2.0 <2.0.0-0: refused: refused');
     expect('its error', (await errors())[0], 'Cargo refuses the range: Cargo separates comparators by commas\n>=1.2.1 <2\n        ^');
     expect('the same range by npm', (await ranges())[1], 'npm: >=1.2.0 <2.0.0-0: =1.2.0: nothing');
 

@@ -73,7 +73,7 @@ test('rules for pre-releases', () => {
   assert.equal(semver.satisfies('1.3.0-rc.1', '^1.2', { includePrerelease: true }), true)
 })
 
-test('loose is taken and read strictly', () => {
+test('loose is accepted, and strings are parsed strictly', () => {
   for (const options of [true, 1, 'x', { loose: true }]) {
     assert.equal(semver.satisfies('1.2.3', '^1', options), true)
     assert.equal(semver.valid('1.2.3beta', options), null)
@@ -98,7 +98,7 @@ test('with rejectLoose, loose throws', () => {
   }
 })
 
-test('wrong options are refused', () => {
+test('wrong options are rejected', () => {
   for (const options of [{ dialect: 'yarn' }, { dialect: 'toString' }, { preReleases: 'all' }, { includePrerelease: true, preReleases: 'excluded' }]) {
     for (const call of [() => semver.satisfies('1.2.3', '*', options), () => semver.valid('1.2.3', options), () => semver.parse('x', options),
       () => semver.sort(['1.2.3'], options), () => new semver.Range('1', options), () => semver.maxSatisfying([], '1', options)]) {
@@ -107,7 +107,7 @@ test('wrong options are refused', () => {
   }
 })
 
-test('where and why a string is refused', () => {
+test('where and why a string is invalid', () => {
   assert.deepEqual(semver.explainVersion('1.2.03', cargo),
     { offset: 5, reason: 'leading-zero', sentence: 'numbers and identifiers of digits may not have a leading zero' })
   assert.deepEqual(semver.explainRange('1.2 || 3', cargo),
@@ -124,7 +124,7 @@ test('where and why a string is refused', () => {
   assert.throws(() => semver.explainRange(5), /Invalid range\. Must be a string\. Got type "number"/)
 })
 
-test('errors are of a class, with what is known', () => {
+test('errors have a class and all that is known', () => {
   assert.throws(() => semver.compare('1.2.3', '1.2'), (error) => {
     assert.ok(error instanceof semver.SemverError && error instanceof TypeError)
     assert.match(error.message, /^Invalid Version: 1\.2 \(offset 3: /)
@@ -138,7 +138,7 @@ test('errors are of a class, with what is known', () => {
   assert.throws(() => new semver.SemVer('1'.repeat(100000)), (error) => error.message.length < 300)
 })
 
-test('an error says what was refused, and which argument it was', () => {
+test('an error says what was rejected, and which argument it was', () => {
   const version = new semver.SemVer('1.2.3')
   const refused = [
     ['version', 0, () => semver.compare('1.2', '1.2.3')], ['version', 1, () => semver.gt('1.2.3', '1.2')], ['version', 0, () => semver.rcompare('1.2', '1.2.3')],
@@ -152,7 +152,7 @@ test('an error says what was refused, and which argument it was', () => {
   for (const [kind, argument, call] of refused) assert.throws(call, { name: 'SemverError', kind, argument }, String(call))
 })
 
-test('what of an invalid range or version throws not', () => {
+test('which calls do not throw for an invalid range or version', () => {
   const none = { satisfies: false, maxSatisfying: null, minSatisfying: null, simplifyRange: '' }
   for (const [name, right] of Object.entries(none)) {
     const first = name === 'satisfies' ? '1.2.3' : ['1.2.3']
@@ -198,7 +198,7 @@ test('the terms of a range are what is written, and where', () => {
   assert.throws(() => semver.terms(5), /Invalid range\. Must be a string\. Got type "number"/)
 })
 
-test('a version of a range has the numbers of another one', () => {
+test('a version in a range gets the numbers of another one', () => {
   const replaced = (range, version, options) => semver.terms(range, options)
     .flatMap((term) => [term.version, term.upper])
     .filter((written) => written !== null)
@@ -236,7 +236,7 @@ test('what two ranges lose and gain', () => {
   assert.deepEqual(semver.compareRanges('^1.2', '1.x >=1.2'), { lost: null, gained: null })
 })
 
-test('versions and ranges that were read may be given again', () => {
+test('parsed versions and ranges can be passed again', () => {
   const version = semver.parse('v1.2.3-rc.1+b')
   assert.equal(`${version}`, '1.2.3-rc.1')
   assert.equal(semver.parse(version), version)
@@ -291,7 +291,7 @@ test('objects of two dialects need options', () => {
 })
 
 // node-semver 7.6.2 parses a range again with the options of the call.
-test('of npm, a range with includePrerelease is read again without', () => {
+test("in npm's dialect, a range with includePrerelease is parsed again without it", () => {
   const range = new semver.Range('^1.2', { includePrerelease: true })
   assert.equal(range.test('1.3.0-a'), true)
   assert.equal(semver.satisfies('1.3.0-a', range), false)
@@ -301,7 +301,7 @@ test('of npm, a range with includePrerelease is read again without', () => {
   assert.deepEqual(new semver.Range(new semver.Range('^1.2'), { includePrerelease: true }), range)
 })
 
-test('objects are compared by what was read', () => {
+test('objects are compared by what was parsed', () => {
   for (const [name, one, other] of [['SemVer', '1.2.3', '2.0.0'], ['SemVer', '1.2.3+a', '1.2.3+b'], ['Range', '^1', '^2'], ['Comparator', '>1.0.0', '<1.0.0']]) {
     assert.deepStrictEqual(new semver[name](one), new semver[name](one))
     assert.deepStrictEqual(new semver[name](one), new semver[name](one, {}))
@@ -312,7 +312,7 @@ test('objects are compared by what was read', () => {
   assert.notDeepStrictEqual(new semver.Range('1'), new semver.Range('1', { includePrerelease: true }))
 })
 
-test('a copy of the package takes what another one made', () => {
+test('a copy of the package accepts objects of another copy', () => {
   cpSync('node_modules/semver-parser-proved', 'node_modules/copy', { recursive: true })
   const copy = require('copy')
   assert.notEqual(copy, common)
@@ -322,7 +322,7 @@ test('a copy of the package takes what another one made', () => {
   assert.equal(copy.satisfies('1.2.4', new semver.Range('1.2.3', cargo)), true)
 })
 
-test('fields can not be written, and inc changes them', () => {
+test('fields can not be written, but inc changes them', () => {
   const version = new semver.SemVer('1.2.3-a.1+b')
   for (const [name, value] of Object.entries(version.toJSON())) assert.throws(() => { version[name] = value }, TypeError, name)
   assert.throws(() => { version.prerelease.push('x') }, TypeError)
@@ -364,7 +364,7 @@ test('calls within calls change nothing', () => {
   assert.equal(semver.valid(foreign('1.2.3')), '1.2.3')
 })
 
-test('strings of megabytes are taken', () => {
+test('strings of megabytes are accepted', () => {
   const spaces = ' '.repeat(3_000_000)
   assert.equal(semver.satisfies('1.2.3', `${spaces}1`), true)
   assert.equal(semver.validRange(`${spaces}^1.2`), '>=1.2.0 <2.0.0-0')
@@ -411,12 +411,12 @@ const inWorker = (code) => new Promise((resolve, reject) => {
 })
 const SEND = "require('node:worker_threads').parentPort.postMessage"
 
-test('workers have their own', async () => {
+test('workers have their own module', async () => {
   const code = `import('semver-parser-proved').then((it) => ${SEND}(it.satisfies('1.9.0', '^1.2')))`
   assert.deepEqual(await Promise.all([inWorker(code), inWorker(code)]), [true, true])
 })
 
-test('where bytes are refused, init takes a module', async () => {
+test('if bytes are rejected, init takes a module', async () => {
   const refuse = `const Module = WebAssembly.Module
     WebAssembly.Module = new Proxy(Module, { construct() { throw new WebAssembly.CompileError('refused') } })
     const semver = require('semver-parser-proved')
@@ -427,7 +427,7 @@ test('where bytes are refused, init takes a module', async () => {
   assert.deepEqual(await inWorker(refuse), [true, '1.2.3'])
 })
 
-test('the file for browsers has no bytes, and takes them', async () => {
+test('the file for browsers has no bytes, but takes them', async () => {
   const code = `import('semver-parser-proved/browser').then((it) => {
     let refused = ''
     try { it.valid('1.2.3') } catch (error) { refused = error.message }

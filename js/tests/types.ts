@@ -29,7 +29,7 @@ export { isMet, isMetToo, highest, parts, next, ofCargo, large, order, sorted, k
 semver.valid('1.2.3', { dialect: 'yarn' })
 // @ts-expect-error: a range is a string
 semver.satisfies('1.2.3', 1)
-// @ts-expect-error: numbers of Cargo's are bigint
+// @ts-expect-error: Cargo's numbers are bigint
 semver.major('1.2.3', { dialect: 'cargo' }) + 1
 // @ts-expect-error: a field can't be written
 new semver.SemVer('1.2.3').major = 5
@@ -69,9 +69,9 @@ semver.terms(new semver.Range('1'))
 semver.terms('1')[0].upper.start
 // @ts-expect-error: a component may be a wildcard
 const noWildcard: number = semver.terms('1')[0].version.major
-// @ts-expect-error: a component of Cargo's is bigint
+// @ts-expect-error: Cargo's components are bigint
 const smallComponent: number | 'x' | 'X' | '*' = semver.terms('1', C)[0].version.major
-// @ts-expect-error: a number of Cargo's is bigint, of each class and call
+// @ts-expect-error: Cargo's numbers are bigint in each class and call
 new semver.SemVer('1.2.3', C).major + 1
 // @ts-expect-error
 semver.coerce('1.2.3', C)!.major + 1
@@ -81,7 +81,7 @@ semver.minVersion('1.2.3', C)!.major + 1
 new semver.SemVer(new semver.SemVer('1.2.3', C)).major + 1
 // @ts-expect-error
 bound === semver.Comparator.ANY ? 0 : bound.major + 1
-// @ts-expect-error: of a dialect that isn't known it may be either
+// @ts-expect-error: if the dialect isn't known, it may be either
 semver.major('1.2.3', { dialect: 'npm' as semver.Dialect }) + 1
 // @ts-expect-error: no reason has this name
 const wrongReason: semver.Reason = 'broken'

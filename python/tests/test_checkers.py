@@ -55,7 +55,7 @@ def sentences(*requirements: Requirement, scheme: Optional[Scheme] = None) -> Li
 
 
 class Judge(unittest.TestCase):
-    """The judge goes from the model to findings."""
+    """The judge turns the model into findings."""
 
     def test_a_version_is_held_against_a_range(self) -> None:
         self.assertEqual(sentences(required("^1.0.0", "1.2.0")), [])
@@ -133,7 +133,7 @@ class Findings(unittest.TestCase):
 
 
 class Locating(unittest.TestCase):
-    """Locating rejects nothing."""
+    """Locating never rejects a file."""
 
     def test_json(self) -> None:
         text = b'{"a": {"x": 1},\n"b": {"x": 2}}'
@@ -159,7 +159,7 @@ class Locating(unittest.TestCase):
 
 
 class Shared(unittest.TestCase):
-    """What tools share."""
+    """The modules that several tools use."""
 
     def test_specifiers(self) -> None:
         for text, reason in (("latest", "tag"), ("user/part", "git"), ("file:../a", "path")):
@@ -199,7 +199,7 @@ def forget_paths() -> None:
 
 
 class Tools(unittest.TestCase):
-    """Each tool recognizes its own files, and has what the list needs."""
+    """Each tool recognizes its own files, and has what the list of tools needs."""
 
     def test_each_file_has_one_tool(self) -> None:
         texts = {

@@ -405,7 +405,7 @@ class Precedence(unittest.TestCase):
                     self.assertIs(keys[one] < keys[other], one in below, (one, other, dialect))
 
     def test_precedence_is_the_library_s(self) -> None:
-        """For identifiers of all kinds."""
+        """Checks identifiers of all kinds."""
         ends = ["", "-0", "-1", "-10", "-2", "-a", "-A", "-a-b", "-a.0", "-a.a", "-a.0.0", "-a+b"]
         largest = f"-{2**64 - 1}"
         hyphens = ["--", "--a", "--1", "-a-", "-a--b", "-a.-", "---"]

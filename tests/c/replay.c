@@ -94,7 +94,7 @@ static bool say_refused(text *to, const row *of, int dialect, int rule) {
     return true;
 }
 
-/* ---- what a range is rewritten to */
+/* ---- the comparators of a range */
 
 /* The error of a range: by the name of its case, as a sentence, and as a word. */
 enum { BY_NAME, BY_SENTENCE, BY_WORD };
