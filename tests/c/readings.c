@@ -96,7 +96,7 @@ static void order_is(int dialect, const char *bytes, const char *other_bytes, in
           "wrong order", bytes);
     check(order_of(&other, &version, dialect, &order).status == SEMVER_PARSER_OK
               && order == -wanted,
-          "wrong order the other way round", bytes);
+          "wrong order the other way around", bytes);
     text_free(&version);
     text_free(&other);
 }
