@@ -187,19 +187,19 @@ pub fn one_more(count: &mut usize)
 }
 
 /// However a text is cut'''),
-    ('crates/release_filter/src/kept.rt', '        count += usize::from(are_in[at]);\n',
+    ('crates/release_filter/src/contained.rt', '        count += usize::from(are_in[at]);\n',
      '''        if are_in[at] {
             crate::laws::one_more(&mut count);
         }
 '''),
         ],
         careless=[
-    ('release_filter/kept.rs', '        count += usize::from(are_in[at]);\n',
+    ('release_filter/contained.rs', '        count += usize::from(are_in[at]);\n',
      '''        if are_in[at] {
             }
 '''),
         ],
-        at=('crates/release_filter/src/kept.rt', 'crate::laws::one_more'),
+        at=('crates/release_filter/src/contained.rt', 'crate::laws::one_more'),
         why='an argument of a law that is more than a name or its reference'),
     Attack(
         'a law changes a reference that it is passed',
@@ -219,7 +219,7 @@ pub fn one_more(count: &mut usize)
 }
 
 /// However a text is cut'''),
-    ('crates/release_filter/src/kept.rt', '        count += usize::from(are_in[at]);\n',
+    ('crates/release_filter/src/contained.rt', '        count += usize::from(are_in[at]);\n',
      '''        let more = &mut count;
         if are_in[at] {
             crate::laws::one_more(more);
@@ -227,7 +227,7 @@ pub fn one_more(count: &mut usize)
 '''),
         ],
         careless=[
-    ('release_filter/kept.rs', '        count += usize::from(are_in[at]);\n',
+    ('release_filter/contained.rs', '        count += usize::from(are_in[at]);\n',
      '''        let more = &mut count;
         if are_in[at] {
             }
@@ -245,14 +245,14 @@ pub fn counted(count: &usize) {
 }
 
 /// However a text is cut'''),
-    ('crates/release_filter/src/kept.rt', '        count += usize::from(are_in[at]);\n',
+    ('crates/release_filter/src/contained.rt', '        count += usize::from(are_in[at]);\n',
      '''        count += usize::from(are_in[at]);
         let seen = &count;
         crate::laws::counted(seen);
 '''),
         ],
         careless=[
-    ('release_filter/kept.rs',
+    ('release_filter/contained.rs',
      '''        count += usize::from(are_in[at]);
     }
 ''',
@@ -320,11 +320,11 @@ pub fn one_more(count: &mut usize)
      '''mod counting;
 mod filter;
 '''),
-    ('crates/release_filter/src/kept.rt', 'use semver_versions::version::Version;\n',
+    ('crates/release_filter/src/contained.rt', 'use semver_versions::version::Version;\n',
      '''use crate::counting as laws;
 use semver_versions::version::Version;
 '''),
-    ('crates/release_filter/src/kept.rt', '        count += usize::from(are_in[at]);\n',
+    ('crates/release_filter/src/contained.rt', '        count += usize::from(are_in[at]);\n',
      '''        let more = &mut count;
         if are_in[at] {
             laws::one_more(more);
@@ -342,7 +342,7 @@ pub(crate) fn one_more(count: &mut usize) {
     *count += 1;
 }
 '''),
-    ('release_filter/kept.rs', '        count += usize::from(are_in[at]);\n',
+    ('release_filter/contained.rs', '        count += usize::from(are_in[at]);\n',
      '''        let more = &mut count;
         if are_in[at] {
             }
@@ -353,12 +353,12 @@ pub(crate) fn one_more(count: &mut usize) {
 mod filter;
 '''),
         ],
-        at=('crates/release_filter/src/kept.rt', 'laws::one_more'),
+        at=('crates/release_filter/src/contained.rt', 'laws::one_more'),
         why='no rule for how this is imported'),
     Attack(
         'a module within another is named laws',
         edits=[
-    ('crates/release_filter/src/kept/laws.rt', '',
+    ('crates/release_filter/src/contained/laws.rt', '',
      '''//! What counts.
 
 ghost use Rattle.std.specs.Prelude.{◌≡◌, ◌+◌, ◌<◌, ◌^◌};
@@ -371,12 +371,12 @@ pub fn one_more(count: &mut usize)
     *count += 1;
 }
 '''),
-    ('crates/release_filter/src/kept.rt', 'use semver_versions::version::Version;\n',
+    ('crates/release_filter/src/contained.rt', 'use semver_versions::version::Version;\n',
      '''mod laws;
 
 use semver_versions::version::Version;
 '''),
-    ('crates/release_filter/src/kept.rt', '        count += usize::from(are_in[at]);\n',
+    ('crates/release_filter/src/contained.rt', '        count += usize::from(are_in[at]);\n',
      '''        let more = &mut count;
         if are_in[at] {
             laws::one_more(more);
@@ -384,13 +384,13 @@ use semver_versions::version::Version;
 '''),
         ],
         careless=[
-    ('release_filter/kept.rs', '        count += usize::from(are_in[at]);\n',
+    ('release_filter/contained.rs', '        count += usize::from(are_in[at]);\n',
      '''        let more = &mut count;
         if are_in[at] {
             }
 '''),
-    ('release_filter/kept/laws.rs', '',
-     '''// Made by tools/erase.py from crates/release_filter/src/kept/laws.rt; not edited by hand.
+    ('release_filter/contained/laws.rs', '',
+     '''// Made by tools/erase.py from crates/release_filter/src/contained/laws.rt; not edited by hand.
 //! What counts.
 
 use crate::rattle_std::prelude::*;
@@ -400,15 +400,15 @@ pub(crate) fn one_more(count: &mut usize) {
 }
 '''),
         ],
-        at=('crates/release_filter/src/kept.rt', 'mod laws;'),
+        at=('crates/release_filter/src/contained.rt', 'mod laws;'),
         why='laws that are not in the file laws.rt of a crate'),
     Attack(
         'a law is a function of another file that laws.rt passes on',
         edits=[
     ('crates/release_filter/src/laws.rt', 'use crate::lines::{Lines',
-     '''pub use crate::kept::one_more;
+     '''pub use crate::contained::one_more;
 use crate::lines::{Lines'''),
-    ('crates/release_filter/src/kept.rt', '/// Adds the versions that are in a set',
+    ('crates/release_filter/src/contained.rt', '/// Adds the versions that are in a set',
      '''/// One more.
 pub fn one_more(count: &mut usize)
     requires { count.old < 2 ^ 32 }
@@ -418,7 +418,7 @@ pub fn one_more(count: &mut usize)
 }
 
 /// Adds the versions that are in a set'''),
-    ('crates/release_filter/src/kept.rt', '        count += usize::from(are_in[at]);\n',
+    ('crates/release_filter/src/contained.rt', '        count += usize::from(are_in[at]);\n',
      '''        let more = &mut count;
         if are_in[at] {
             crate::laws::one_more(more);
@@ -426,7 +426,7 @@ pub fn one_more(count: &mut usize)
 '''),
         ],
         careless=[
-    ('release_filter/kept.rs',
+    ('release_filter/contained.rs',
      '''
 /// Adds the versions that are in a set, of at most 64. First all are checked, and the indices of
 ''',
@@ -438,13 +438,13 @@ pub(crate) fn one_more(count: &mut usize) {
 
 /// Adds the versions that are in a set, of at most 64. First all are checked, and the indices of
 '''),
-    ('release_filter/kept.rs', '        count += usize::from(are_in[at]);\n',
+    ('release_filter/contained.rs', '        count += usize::from(are_in[at]);\n',
      '''        let more = &mut count;
         if are_in[at] {
             }
 '''),
         ],
-        at=('crates/release_filter/src/kept.rt', 'crate::laws::one_more'),
+        at=('crates/release_filter/src/contained.rt', 'crate::laws::one_more'),
         why='a function that is not known to be a law'),
     Attack(
         'a message of an error has braces',
