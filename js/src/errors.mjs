@@ -1,4 +1,4 @@
-// Where and why a string is no version or no range.
+// Where and why a string is an invalid version or range.
 import { callWith, numberAt } from './calls.mjs'
 import { reasonOf, sentenceOf } from './names.mjs'
 import { field } from './options.mjs'

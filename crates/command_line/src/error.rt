@@ -19,7 +19,7 @@ pub enum ArgumentError {
     #[error("unknown dialect: {0:?}")]
     UnknownDialect(String),
     /// Nothing follows `--prefix`.
-    #[error("--prefix needs a text")]
+    #[error("--prefix needs a value")]
     NoPrefix,
     /// This option, or another one with the same meaning, was given before.
     #[error("{0} is given twice")]

@@ -31,7 +31,7 @@ use tool_ranges::version_range::VersionRange;
 /// lines.push(b"1.4.0\n1.2", &mut Vec::new()).unwrap();
 /// let error = lines.finish(&mut Vec::new()).unwrap_err();
 /// assert!(matches!(error, LinesError::NoVersion(2)));
-/// assert_eq!(error.to_string(), "line 2 is no version");
+/// assert_eq!(error.to_string(), "line 2 has no version");
 /// # Ok::<(), semver_parser::Error>(())
 /// ```
 #[derive(Clone, Copy, PartialEq, Eq, Debug, Error)]
@@ -40,7 +40,7 @@ pub enum LinesError {
     #[error("out of memory")]
     OutOfMemory,
     /// The line with this number is not empty and has no version. The first line is line 1.
-    #[error("line {0} is no version")]
+    #[error("line {0} has no version")]
     NoVersion(u64),
 }
 

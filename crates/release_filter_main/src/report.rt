@@ -36,9 +36,9 @@ pub fn report_invalid(rt: &HostRuntime, counts: &Counts, filtering: &Filtering, 
     let hint = if !lacks_prefix {
         ""
     } else if has_lines {
-        "; --prefix v --prefix '' takes it, too"
+        "; to match it, too, use --prefix v --prefix ''"
     } else {
-        "; --prefix v takes it"
+        "; try --prefix v"
     };
     let _ = eprintln!(rt;
         "release-filter: {} of {all} {line}{plural} {are}; the first, {line} {}: {}{more}{hint}",

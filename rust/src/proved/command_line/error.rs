@@ -42,7 +42,7 @@ impl crate::rattle_std::fmt::Display for ArgumentError {
             ArgumentError::UnknownOption(_0) => write!(f, "unknown option: {_0:?}"),
             ArgumentError::NoDialect => write!(f, "--dialect needs a name"),
             ArgumentError::UnknownDialect(_0) => write!(f, "unknown dialect: {_0:?}"),
-            ArgumentError::NoPrefix => write!(f, "--prefix needs a text"),
+            ArgumentError::NoPrefix => write!(f, "--prefix needs a value"),
             ArgumentError::GivenTwice(_0) => write!(f, "{_0} is given twice"),
             ArgumentError::Contradiction(_0, _1) => write!(f, "{_0} contradicts {_1}"),
             ArgumentError::NoKind => write!(f, "--only needs releases or pre-releases"),

@@ -23,7 +23,7 @@ use crate::proved::tool_ranges::version_range::VersionRange;
 /// lines.push(b"1.4.0\n1.2", &mut Vec::new()).unwrap();
 /// let error = lines.finish(&mut Vec::new()).unwrap_err();
 /// assert!(matches!(error, LinesError::NoVersion(2)));
-/// assert_eq!(error.to_string(), "line 2 is no version");
+/// assert_eq!(error.to_string(), "line 2 has no version");
 /// # Ok::<(), semver_parser::Error>(())
 /// ```
 #[derive(Clone, Copy, PartialEq, Eq, Debug)]
@@ -38,7 +38,7 @@ impl crate::rattle_std::fmt::Display for LinesError {
     fn fmt(&self, f: &mut crate::rattle_std::fmt::Formatter<'_>) -> crate::rattle_std::fmt::Result {
         match self {
             LinesError::OutOfMemory => write!(f, "out of memory"),
-            LinesError::NoVersion(_0) => write!(f, "line {_0} is no version"),
+            LinesError::NoVersion(_0) => write!(f, "line {_0} has no version"),
         }
     }
 }
