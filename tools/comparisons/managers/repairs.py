@@ -43,11 +43,11 @@ def repair(
     listed = listed_in(path)
     if ended.returncode:
         found.choose("a repair that the tool rejects, as without a release", shown)
-    elif listed and not is_taken():
+    elif not is_taken():
         found.choose("a repair that the tool itself rejects afterwards", shown)
     elif listed and is_chosen(listed):
         found.choose("a repair that leaves what is listed by choice", shown)
-    elif any(not it.advice for it in listed) or not (listed or is_taken()):
+    elif any(not it.advice for it in listed):
         found.add("a repair that repairs nothing", shown)
     else:
         found.count("repairs that repair")
