@@ -54,18 +54,26 @@ def shown_of(world: World, lock: str) -> Dict[str, Any]:
     return {"manifests": world.manifests, "lock": lock}
 
 
-def choice_of(what: str, finding: Finding) -> Optional[str]:
+def is_only_resolved(world: World, finding: Finding) -> bool:
+    """Returns whether the project requires what a finding is about only by a resolution."""
+    manifest, name = world.manifests[""], finding.record.dependency
+    tables = (manifest.get(it, {}) for it in ("dependencies", "devDependencies", "optionalDependencies"))
+    return name in manifest.get("resolutions", {}) and not any(name in it for it in tables)
+
+
+def choice_of(what: str, finding: Finding, world: World) -> Optional[str]:
     """Returns why a finding is listed, although yarn accepts the project, by a row of the README:
     it is about an alias, about an archive of another version after that damage, or about an entry
-    that a workspace or a package requires, and that yarn ignores."""
+    that only a workspace, a package or a resolution requires, and that yarn ignores."""
     record = finding.record
     wanted = record.range or ""
     if wanted.startswith("npm:"):
         return "yarn doesn't compare an alias"
     if finding.kind == TwoVersions.kind and what == ANOTHER_ARCHIVE:
         return "yarn doesn't compare an archive of another version"
-    if finding.kind == Unsatisfied.kind and record.requirer != PROJECT:
-        return "yarn ignores an entry that only a workspace or a package requires"
+    if finding.kind == Unsatisfied.kind:
+        if record.requirer != PROJECT or is_only_resolved(world, finding):
+            return "yarn ignores an entry that the project itself does not require"
     return None
 
 
@@ -80,7 +88,7 @@ def compare(
     found.count(f"{what}: yarn {'accepts' if taken else 'rejects'} it")
     findings = findings_in(folder / LOCK)
     listed = [it for it in findings if not it.excuse]
-    choices = {choice_of(what, it) for it in listed}
+    choices = {choice_of(what, it, world) for it in listed}
     if taken and listed and None not in choices:
         for choice in sorted(it for it in choices if it is not None):
             found.choose(choice, shown_of(world, lock))
