@@ -23,7 +23,7 @@ const FORMS: [Form; 9] = [
         calls: |text, times| reads(here_version, text, times),
     },
     Form {
-        name: "runs",
+        name: "alphanumerics",
         text: |count| format!("1.2.3-{}", joined("rc", "-", count)),
         calls: |text, times| reads(here_version, text, times),
     },
@@ -33,7 +33,7 @@ const FORMS: [Form; 9] = [
         calls: |text, times| reads(here_version, text, times),
     },
     Form {
-        name: "simples",
+        name: "terms",
         text: |count| joined("^1.2.3", " ", count),
         calls: |text, times| reads(here_range, text, times),
     },
@@ -43,12 +43,12 @@ const FORMS: [Form; 9] = [
         calls: |text, times| reads(here_range, text, times),
     },
     Form {
-        name: "simples, asked of one version",
+        name: "terms, matched with one version",
         text: |count| format!("{}\t9.9.9", joined("^1.2.3", " ", count)),
         calls: |text, times| reads(here_meets_npm, text, times),
     },
     Form {
-        name: "ranges, asked of one version",
+        name: "ranges, matched with one version",
         text: |count| format!("{}\t9.9.9", joined("^1.2.3", " || ", count)),
         calls: |text, times| reads(here_meets_npm, text, times),
     },

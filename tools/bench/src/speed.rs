@@ -84,22 +84,22 @@ fn reading_times(filters: &str, released: &str) -> Times {
     };
     let best = best(&stretches(released), &[here_read_kept, semver_read_kept].map(by_each));
     let count = ranges.len() as f64;
-    filtering("reading and filtering at once,", best[0] / count, best[1] / count, released)
+    filtering("parsing and filtering at once,", best[0] / count, best[1] / count, released)
 }
 
 /// Returns two times: versions that are parsed and filtered by the first range, and only filtering.
 fn filter_times(filters: &str, released: &str) -> [Times; 2] {
     let (first, further) = first_and_further(here_filter, filters, released);
     [
-        filtering("reading all, and then filtering,", first[0], first[1], released),
-        filtering("filtering alone,", further[0], further[1], released),
+        filtering("parsing all, and then filtering,", first[0], first[1], released),
+        filtering("only filtering,", further[0], further[1], released),
     ]
 }
 
 /// Returns the time for checking whether versions, with pre-releases, are in a set.
 fn has_times(filters: &str, mixed: &str) -> Times {
     let (_, further) = first_and_further(here_has, filters, mixed);
-    filtering("asking whether they are in a set,", further[0], further[1], mixed)
+    filtering("checking whether they are in a set,", further[0], further[1], mixed)
 }
 
 /// Returns the times for versions that are parsed and matched with the first range, here and with
