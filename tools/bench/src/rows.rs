@@ -22,7 +22,7 @@ pub const ROWS: [Row; 14] = [
     versions("versions, plain and with identifiers", Make::Mixed),
     versions("invalid versions", Make::Refused),
     Row {
-        title: "whether an invalid version is valid",
+        title: "invalid versions, only checked",
         make: Make::Refused,
         here: here_is_version,
         parser: Some(parser_is_version),
