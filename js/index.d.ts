@@ -68,7 +68,10 @@ export declare class SemVer<D extends Dialect = 'npm'> {
   comparePre(other: AnyVersion): -1 | 0 | 1
   /** Compares only the build metadata. */
   compareBuild(other: AnyVersion): -1 | 0 | 1
-  /** Changes the version to the next one, and returns it. */
+  /**
+   * Changes the version to the next one, and returns it. Throws an `Error` if there is no such kind of release, and a
+   * `SemverError` if the next version would be invalid.
+   */
   inc(release: ReleaseType | 'pre', identifier?: string, identifierBase?: inc.IdentifierBase | false): this
 }
 
@@ -180,7 +183,7 @@ export declare function init(module: object): void
 
 /** Returns the version without build metadata, or null if it is invalid. */
 export declare function valid(version: unknown, options?: OptionsOrLoose<Dialect> | number): string | null
-/** Returns the version, or null if it is invalid. */
+/** Returns the version. If it is invalid, returns null, or throws a `SemverError` if `throwErrors` is true. */
 export declare function parse<D extends Dialect = 'npm'>(version: string | SemVer<D>, options?: WithoutDialect, throwErrors?: boolean): SemVer<D> | null
 export declare function parse<D extends Dialect = 'npm'>(version: unknown, options?: OptionsOrLoose<D>, throwErrors?: boolean): SemVer<D> | null
 /** Returns the version in a string that may have `=`, `v` or white space before it; null if there is no version. */
@@ -188,7 +191,7 @@ export declare function clean(version: string, options?: OptionsOrLoose<Dialect>
 /** Returns the first version in a string, such as `2.3.4` in `v2.3.4.5`, or the last one with `rtl`; null if there is none. */
 export declare function coerce<D extends Dialect = 'npm'>(version: string | number | SemVer<D> | null | undefined, options?: CoerceOptions & { dialect?: undefined }): SemVer<D> | null
 export declare function coerce<D extends Dialect = 'npm'>(version: AnyVersion | number | null | undefined, options?: CoerceOptions<D>): SemVer<D> | null
-/** Returns the next version for a kind of release; null if the version is invalid. */
+/** Returns the next version for a kind of release; null if the version is invalid, there is no such kind, or the next version would be invalid. */
 export declare function inc(version: AnyVersion, release: ReleaseType, options?: OptionsOrLoose<Dialect>, identifier?: string, identifierBase?: inc.IdentifierBase | false): string | null
 export declare function inc(version: AnyVersion, release: ReleaseType, identifier?: string, identifierBase?: inc.IdentifierBase | false): string | null
 export declare namespace inc {
@@ -223,7 +226,10 @@ export declare function validRange(range: unknown, options?: OptionsOrLoose<Dial
 export declare function toComparators(range: AnyRange, options?: OptionsOrLoose<Dialect>): string[][]
 /** Returns where and why a string is an invalid range; null if it is valid. */
 export declare function explainRange(range: AnyRange, options?: OptionsOrLoose<Dialect>): Explanation | null
-/** A component of a version in a term: a number, or a wildcard as it is written. */
+/**
+ * A component of a version in a term: a number, or a wildcard as it is written. After a wildcard, a number may be above
+ * the dialect's limit. One above 2^64 - 1 is given as 2^64 - 1, and a `number` above 2^53 - 1 is rounded.
+ */
 export type TermComponent<D extends Dialect = 'npm'> = NumberOf<D> | 'x' | 'X' | '*'
 
 /** A version as it is written in a term of a range. Its indices are those of the range's string. */

@@ -276,6 +276,9 @@ class Range(Printed):
         """The releases in the range, as a range in npm's syntax: `*` for all, `<0.0.0-0` for none.
         Only the releases in it count.
 
+        To read it again, use `dialect="npm"` and `pre_releases="excluded"`. If a number is above
+        2**53 - 1, which npm's dialect rejects, use "crate-npm".
+
         >>> Range("^1.2", dialect="cargo").printed_releases
         '>=1.2.0 <2.0.0'
         """
@@ -285,6 +288,10 @@ class Range(Printed):
     def printed_pre_releases(self) -> str:
         """The pre-releases in the range, as a range in npm's syntax: `*` for all, `<0.0.0-0` for
         none. Only the pre-releases in it count.
+
+        To read it again, use `dialect="npm"` and `pre_releases="included"`, and check only
+        pre-releases. If a number is above 2**53 - 1, which npm's dialect rejects, use "crate-npm".
+        In that dialect `*` doesn't contain the pre-releases of 0.0.0.
 
         >>> Range("^1.2.3-rc", dialect="cargo").printed_pre_releases
         '>=1.2.3-rc <1.2.3'

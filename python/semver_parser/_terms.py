@@ -29,7 +29,8 @@ class PartialVersion:
     - `start`, `end`: where it is in the string of the range, including its `v`.
     - `has_v`: whether it begins with `v`.
     - `major`, `minor`, `patch`: its components. A wildcard is "x", "X" or "*", as it is written, and
-      a component that isn't written is None.
+      a component that isn't written is None. A number above 2**64 - 1, which is possible only after
+      a wildcard, is given as 2**64 - 1.
     - `pre`, `build`: the pre-release and the build metadata, without `-` and `+`. They are empty
       strings if they aren't written.
     """

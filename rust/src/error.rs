@@ -86,7 +86,8 @@ impl Error {
         self.kind
     }
 
-    /// Returns the string. Bytes that aren't UTF-8 are replaced.
+    /// Returns the string, or an empty one if an allocation failed. Bytes that aren't UTF-8 are
+    /// replaced.
     ///
     /// ```
     /// use semver_parser::{check_version, Dialect};

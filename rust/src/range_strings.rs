@@ -6,8 +6,8 @@ use crate::proved::semver_versions;
 use crate::{layers, Dialect, Error, Meaning, PreReleases, RangeSet};
 
 /// Returns whether a version satisfies a range. Both are read in the same dialect: Cargo's, npm's,
-/// or that of the crate in one of its modes. To check many versions against one range, read the
-/// range once, as a [`VersionRange`](crate::VersionRange).
+/// or that of the original `semver-parser` in one of its modes. To check many versions against one
+/// range, read the range once, as a [`VersionRange`](crate::VersionRange).
 ///
 /// The third argument is a [`Dialect`], or a [`Meaning`], which also says which pre-releases count.
 /// It allocates only if it returns an error.

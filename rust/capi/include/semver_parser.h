@@ -229,9 +229,9 @@ typedef struct {
  * `invalid range "1 || 2" at offset 2: Cargo takes no ||; npm does`. `string` is the string of the
  * call that `error->index` refers to. With `caret`, two more lines follow, indented by four spaces:
  * the string, shortened if it is long and with U+FFFD for control characters, and a caret under the
- * character. For an error that isn't about a string, such as DIFFERENT_DIALECTS, the sentence is
- * only its semver_parser_status_text, whatever `string` is. semver_parser_free frees the
- * sentence. */
+ * character. For an error that isn't about a string, such as that of ranges in different dialects,
+ * the sentence is only its semver_parser_status_text, whatever `string` is. semver_parser_free
+ * frees the sentence. */
 SEMVER_PARSER_CHECKED(1, 4)
 semver_parser_status semver_parser_error_message(
     const semver_parser_error *error, semver_parser_string string, bool caret, char **message);
