@@ -211,6 +211,7 @@ test('a version in a range gets the numbers of another one', () => {
   assert.deepEqual(replaced('>=1.2.0, <2', version, cargo), ['>=3.1.4-rc.1, <2', '>=1.2.0, <3'])
   const [{ version: written }] = semver.terms('^1.2')
   assert.throws(() => semver.replaceVersion('^1.02', written, '2.0.0'), { name: 'SemverError', kind: 'range', argument: 0, input: '^1.02' })
+  assert.throws(() => semver.replaceVersion('^1.02', written, '2.0'), { name: 'SemverError', kind: 'range' })
   assert.throws(() => semver.replaceVersion('^1.2', written, '2.0'), { name: 'SemverError', kind: 'version', argument: 1, input: '2.0' })
   assert.throws(() => semver.replaceVersion('1.2', written, '2.0.0'), { name: 'TypeError', message: 'no version of the range begins at index 1' })
   assert.throws(() => semver.replaceVersion(5, written, '2.0.0'), /Invalid range\. Must be a string/)

@@ -213,6 +213,8 @@ class Terms(unittest.TestCase):
         with self.assertRaises(RangeError) as range_error:
             replace_version("^1.02", term.version, "2.0.0", dialect="npm")
         self.assertEqual(range_error.exception.string, "^1.02")
+        with self.assertRaises(RangeError):
+            replace_version("^1.02", term.version, "2.0", dialect="npm")
         with self.assertRaises(VersionError) as version_error:
             replace_version("^1.2", term.version, "2.0", dialect="npm")
         self.assertEqual(version_error.exception.string, "2.0")

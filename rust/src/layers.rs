@@ -1,7 +1,6 @@
 //! Functions for the C and JavaScript layers. Their errors are plain values and copy no string.
 
 use crate::proved::{invalid_strings, tool_ranges};
-use crate::version::VersionRef;
 use crate::{AllocError, Dialect, Meaning, PartialVersion, PreReleases, RangeError, RangeSet, Terms};
 
 pub use crate::proved::invalid_strings::refusals::Refusal as VersionRefusal;
@@ -124,33 +123,31 @@ pub fn comparators_of_meaning(range: &str, meaning: Meaning) -> Result<RangeSet,
     }
 }
 
-/// Returns what is before the version that begins at an offset of a range string, that version with
-/// the numbers of another one ([`PartialVersion::with_version`]), and what is after it. Returns
-/// `None` if no version of a term begins there. It does not allocate.
+/// Returns the version of a term that begins at an offset of a range string, with what is before and
+/// after it. Returns `None` if no version of a term begins there. It does not allocate.
 ///
 /// # Errors
 ///
 /// The errors of [`check_range`].
 ///
 /// ```
-/// use semver_parser::layers::replace_version;
+/// use semver_parser::layers::version_at;
 /// use semver_parser::{Dialect, VersionRef};
 ///
-/// let to = VersionRef::parse("3.1.4", Dialect::Npm).unwrap();
-/// let (before, version, after) = replace_version("~1.2 || ^2.x", 9, &to, Dialect::Npm)?.unwrap();
+/// let (before, written, after) = version_at("~1.2 || ^2.x", 9, Dialect::Npm)?.unwrap();
+/// let version = written.with_version(&VersionRef::parse("3.1.4", Dialect::Npm).unwrap());
 /// assert_eq!(format!("{before}{version}{after}"), "~1.2 || ^3.x");
 /// # Ok::<(), semver_parser::RangeError>(())
 /// ```
-pub fn replace_version<'a>(
-    range: &'a str,
+pub fn version_at(
+    range: &str,
     start: usize,
-    version: &VersionRef<'a>,
     dialect: Dialect,
-) -> Result<Option<(&'a str, PartialVersion<'a>, &'a str)>, RangeError> {
+) -> Result<Option<(&str, PartialVersion<'_>, &str)>, RangeError> {
     let mut versions = Terms::try_parse(range, dialect)?
         .flat_map(|term| [Some(term.version), term.upper])
         .flatten();
     Ok(versions.find(|it| it.span.start == start).map(|written| {
-        (&range[..start], written.with_version(version), &range[written.span.end..])
+        (&range[..start], written, &range[written.span.end..])
     }))
 }

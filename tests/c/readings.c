@@ -545,6 +545,8 @@ static void replaced(void) {
     not_replaced("^1.02", 1, "2.0.0", SEMVER_PARSER_INVALID_RANGE, 0);
     not_replaced("^9007199254740992", 1, "2.0.0", SEMVER_PARSER_NUMBER_TOO_LARGE, 0);
     not_replaced("^1.2", 1, "2.0", SEMVER_PARSER_INVALID_VERSION, 1);
+    not_replaced("^1.02", 1, "2.0", SEMVER_PARSER_INVALID_RANGE, 0);
+    not_replaced("^1.2", 0, "2.0", SEMVER_PARSER_INVALID_ARGUMENT, 0);
 }
 
 static void terms(void) {

@@ -520,12 +520,12 @@ semver_parser_status semver_parser_terms_of_range(
     size_t capacity, size_t *count, semver_parser_error *error);
 
 /* Makes the string of a range in which a version of a term has the numbers of another version. The
- * version in the range is the one that begins at `start`; if none begins there, the status is
- * INVALID_ARGUMENT. Its form is kept: how many components it has, its wildcards and its `v`. If it
- * has three numbers, the pre-release of the other version is written, too; the build metadata of
- * the other version never is. With 3.1.4 at offset 8, `^1.x || v2` becomes `^1.x || v3`. Check the
- * result with semver_parser_check_range, since a raised bound may be too large. semver_parser_free
- * frees it. INVALID_RANGE, NUMBER_TOO_LARGE, INVALID_VERSION. */
+ * version in the range is the one that begins at `start`; if the range is valid and none begins
+ * there, the status is INVALID_ARGUMENT. Its form is kept: how many components it has, its wildcards
+ * and its `v`. If it has three numbers, the pre-release of the other version is written, too; the
+ * build metadata of the other version never is. With 3.1.4 at offset 8, `^1.x || v2` becomes
+ * `^1.x || v3`. Check the result with semver_parser_check_range, since a raised bound may be too
+ * large. semver_parser_free frees it. INVALID_RANGE, NUMBER_TOO_LARGE, INVALID_VERSION. */
 SEMVER_PARSER_CHECKED(5)
 semver_parser_status semver_parser_replace_version(
     semver_parser_string range, size_t start, semver_parser_string version,

@@ -65,7 +65,7 @@ pub fn terms(range: &[u8], number: i32) -> Answer<'_, Terms<'_>> {
 }
 
 /// Returns a range with the numbers of another version at an offset, if a version of a term begins
-/// there.
+/// there. The range is read before the other version, whose error comes last.
 pub fn replace_version<'a>(
     range: &'a [u8],
     start: usize,
@@ -74,10 +74,9 @@ pub fn replace_version<'a>(
 ) -> Answer<'a, *mut c_char> {
     let dialect = dialect(number)?;
     let range = text(range, 0)?;
-    let version = version(bytes, dialect, 1)?;
-    let replaced = layers::replace_version(range, start, &version, dialect);
-    let (before, version, after) =
-        replaced.map_err(refused(range, dialect, 0))?.ok_or(Problem::Argument)?;
+    let found = layers::version_at(range, start, dialect).map_err(refused(range, dialect, 0))?;
+    let (before, written, after) = found.ok_or(Problem::Argument)?;
+    let version = written.with_version(&version(bytes, dialect, 1)?);
     printed(format_args!("{before}{version}{after}"))
 }
 

@@ -111,14 +111,14 @@ pub unsafe extern "C" fn range_replaced(
     else {
         return status::INVALID_RANGE;
     };
+    let (before, written, after) = match layers::version_at(range, start, known) {
+        Ok(Some(found)) => found,
+        Ok(None) => return 1,
+        Err(_) => return status::INVALID_RANGE,
+    };
     let Some(version) = read_ref(unsafe { bytes(at, len) }, dialect) else {
         return status::INVALID_VERSION;
     };
-    match layers::replace_version(range, start, &version, known) {
-        Ok(Some((before, version, after))) => {
-            ranges::show(format_args!("{before}{version}{after}"))
-        }
-        Ok(None) => 1,
-        Err(_) => status::INVALID_RANGE,
-    }
+    let version = written.with_version(&version);
+    ranges::show(format_args!("{before}{version}{after}"))
 }
