@@ -131,8 +131,11 @@ fn a_version_takes_the_form_of_another() -> Result<(), Error> {
 fn a_version_of_a_range_is_replaced() -> Result<(), Error> {
     let to = VersionRef::parse("3.1.4", Dialect::Npm)?;
     let replaced = |range, start| {
-        layers::replace_version(range, start, &to, Dialect::Npm)
-            .map(|it| it.map(|(before, version, after)| format!("{before}{version}{after}")))
+        layers::version_at(range, start, Dialect::Npm).map(|it| {
+            it.map(|(before, written, after)| {
+                format!("{before}{}{after}", written.with_version(&to))
+            })
+        })
     };
     assert_eq!(replaced("1 - v2.x || ~3.0", 4), Ok(Some("1 - v3.x || ~3.0".to_string())));
     assert_eq!(replaced("1 - v2.x || ~3.0", 13), Ok(Some("1 - v2.x || ~3.1".to_string())));
