@@ -110,8 +110,9 @@ def replace_version(
     '~1.2 || ^3.x'
 
     Raises `RangeError` if the string isn't a range in the dialect, `VersionError` if the other
-    version is invalid, and `ValueError` if no version of the range begins where `written` does. The
-    result may be invalid if the other version is at one of the dialect's limits.
+    version is invalid, `ValueError` if no version of the range begins where `written` does, and
+    `TypeError` if `written` isn't a version of a term. The result may be invalid if the other
+    version is at one of the dialect's limits.
     """
     if not isinstance(written, PartialVersion):
         raise TypeError(f"not a PartialVersion of a term: {written!r}")

@@ -31,7 +31,7 @@ use Rattle.tool_ranges.specs.declared.dialect.Dialect.TheVariants.{Cargo, CrateC
 use Rattle.range_terms.specs.Replacing.{IsReplaceable, MayReplace, role_in}
 use Rattle.range_terms.specs.RewrittenVersions.{IsRewritable, MayBecome, text_with}
 use Rattle.range_terms.specs.Rewriting as rewriting
-use Rattle.range_terms.specs.WrittenTerms.{WrittenTerm, WrittenVersion, comparators_at, component_of, padded_at, range_at}
+use Rattle.range_terms.specs.WrittenTerms.{WrittenTerm, WrittenVersion, comparators_at, component_of, major_of, padded_at, range_at}
 use Rattle.range_terms.specs.WrittenTerms.{comparator_at, ranges_at, simple_at, simples_at, terms_in, version_of}
 use Rattle.range_terms.proofs.Places.{both}
 use Rattle.range_terms.proofs.RangePlaces.{same_role}
@@ -59,9 +59,9 @@ bare_written x v tree word is spelled =
     ∙ ap (λ b. text_with (version_of x.span b tree) v) (no_v word (partial_starts tree word spelled))
     ∙ word_written x.span false v tree
 
-crate_word : (role : Role) (x : WrittenVersion) (v : VersionRefValue) → IsOfGrammar grammar.Crate v → (w : IsWrittenAs SpellsPartial x)
+crate_word : (x : WrittenVersion) (v : VersionRefValue) → IsOfGrammar grammar.Crate v → (w : IsWrittenAs SpellsPartial x)
     → SpellsPartial (partial_with w.tree v) (text_with x v)
-crate_word role x v of w =
+crate_word x v of w =
     subst (SpellsPartial (partial_with w.tree v)) (sym (bare_written x v w.tree w.word w.is w.good))
     (core_spelled v w.tree w.word of w.good)
 
@@ -106,15 +106,20 @@ states_number : (x : Text) (xs : List Text) → is_wildcard x ≡ false
     → is_empty (map (digits_value 10) (take_while (λ c. not (is_wildcard c)) (x ∷ xs))) ≡ false
 states_number x xs e = rw (e, one-add) refl
 
-something_stated : {d : Grammar} (v : VersionRefValue) (p : PartialTree) → IsOfGrammar d v → (x : WrittenVersion) (has_v : Bool)
-    → x ≡ version_of x.span has_v p → rewriting.is_number (Some x.major) ≡ true → states_nothing (partial_with p v) ≡ false
-something_stated v (one a) of x has_v is e = states_number (with_number v.major a) []
-    (same_wildcard v.major a of.major ∙ first_number a (ap (λ (y : WrittenVersion). rewriting.is_number (Some y.major)) (sym is) ∙ e))
-something_stated v (two a b) of x has_v is e = states_number (with_number v.major a) (with_number v.minor b ∷ [])
-    (same_wildcard v.major a of.major ∙ first_number a (ap (λ (y : WrittenVersion). rewriting.is_number (Some y.major)) (sym is) ∙ e))
-something_stated v (three a b c pre build) of x has_v is e =
+-- the first component of a written version is that of its partial version
+major_number : (p : PartialTree) (x : WrittenVersion) (has_v : Bool) → x ≡ version_of x.span has_v p
+    → rewriting.is_number (Some x.major) ≡ true → rewriting.is_number (Some (major_of p)) ≡ true
+major_number p x has_v is e = ap (λ (y : WrittenVersion). rewriting.is_number (Some y.major)) (sym is) ∙ e
+
+something_stated : {d : Grammar} (v : VersionRefValue) (p : PartialTree) → IsOfGrammar d v
+    → rewriting.is_number (Some (major_of p)) ≡ true → states_nothing (partial_with p v) ≡ false
+something_stated v (one a) of e =
+    states_number (with_number v.major a) [] (same_wildcard v.major a of.major ∙ first_number a e)
+something_stated v (two a b) of e =
+    states_number (with_number v.major a) (with_number v.minor b ∷ []) (same_wildcard v.major a of.major ∙ first_number a e)
+something_stated v (three a b c pre build) of e =
     states_number (with_number v.major a) (with_number v.minor b ∷ with_number v.patch c ∷ [])
-    (same_wildcard v.major a of.major ∙ first_number a (ap (λ (y : WrittenVersion). rewriting.is_number (Some y.major)) (sym is) ∙ e))
+    (same_wildcard v.major a of.major ∙ first_number a e)
 
 abbrev IsOfCargo : PartialTree → Text → Type 0
 IsOfCargo p word = SpellsPartial p word × (is_partial_of_cargo p ≡ true)
@@ -129,7 +134,7 @@ cargo_word x v of w number =
     let cargo : is_partial_of_cargo (partial_with p v) ≡ true =
     and_from _ _ (last_wildcards v p of ∙ last) (and_from _ _ (no_qualifier v p of) (no_zeros v p of.zeros)) in (
       subst (SpellsPartial (partial_with p v)) (sym (bare_written x v p w.word w.is w.good.0)) (core_spelled v p w.word of w.good.0),
-      and_from _ _ cargo (ap not (something_stated v p of x (begins_with 118 w.word) w.is number)),
+      and_from _ _ cargo (ap not (something_stated v p of (major_number p x (begins_with 118 w.word) w.is number))),
     )
 
 -- ---- npm
@@ -354,10 +359,10 @@ rewritable Npm tree t spelled utf8 = zipped (one_rewritable Npm (λ role p word.
     (ranges_at grammar.Npm 0 0 tree t spelled.spelled) (replaceable Npm tree t spelled utf8)
     (ranges_written grammar.Npm 0 0 tree t spelled.spelled)
 rewritable CrateCargo tree t spelled utf8 = zipped (one_rewritable CrateCargo (λ role p word. SpellsWord grammar.Crate role p word)
-    (λ role x v read of w fits. crate_word role x v (of_grammar grammar.Crate v read of) w) t)
+    (λ role x v read of w fits. crate_word x v (of_grammar grammar.Crate v read of) w) t)
     (ranges_at grammar.Crate 0 0 tree t spelled) (replaceable CrateCargo tree t spelled utf8)
     (ranges_written grammar.Crate 0 0 tree t spelled)
 rewritable CrateNpm tree t spelled utf8 = zipped (one_rewritable CrateNpm (λ role p word. SpellsWord grammar.Crate role p word)
-    (λ role x v read of w fits. crate_word role x v (of_grammar grammar.Crate v read of) w) t)
+    (λ role x v read of w fits. crate_word x v (of_grammar grammar.Crate v read of) w) t)
     (ranges_at grammar.Crate 0 0 tree t spelled) (replaceable CrateNpm tree t spelled utf8)
     (ranges_written grammar.Crate 0 0 tree t spelled)

@@ -109,7 +109,7 @@ impl<'text> Terms<'text> {
         ensures replaceable { IfOk result
             (λ terms. AllByRecursion (IsReplaceable dialect range.now) terms) }
         // It is also a range again if the printed result of `with_version` replaces the string at
-        // the span of its version.
+        // the span of its version, under the dialect's conditions (`MayBecome`).
         ensures rewritable { IfOk result
             (λ terms. AllByRecursion (IsRewritable dialect range.now) terms) }
     {
