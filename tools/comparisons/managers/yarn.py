@@ -13,6 +13,7 @@ from typing import Any, Dict, Optional
 from differences import PROJECT, Differences, Finding, Missing, Unsatisfied, findings_in
 from projects import environment, write_project
 from registry import Registry
+from semver_parser import Range, RangeError
 from semver_parser.checks.findings import TwoVersions
 from worlds import Maker, World
 from yarn_edits import ANOTHER_ARCHIVE, damaged, edited
@@ -77,6 +78,20 @@ def choice_of(what: str, finding: Finding, world: World) -> Optional[str]:
     return None
 
 
+def is_absent(world: World, finding: Finding) -> bool:
+    """Returns whether a finding is about something that is missing, and that the registry of a
+    world doesn't have, either."""
+    wanted, name = finding.record.range or "", finding.record.dependency or ""
+    if finding.kind != Missing.kind or "://" in wanted:
+        return False
+    alias, _, wanted = wanted.removeprefix("npm:").rpartition("@") if "npm:" in wanted else (name, "", wanted)
+    versions = list(world.releases.get(alias, {}))
+    try:
+        return Range(wanted, dialect="npm").highest(versions) is None
+    except RangeError:
+        return not versions
+
+
 def compare(
     what: str, folder: Path, world: World, lock: str, yarn: Yarn, found: Differences
 ) -> None:
@@ -92,7 +107,7 @@ def compare(
     if taken and listed and None not in choices:
         for choice in sorted(it for it in choices if it is not None):
             found.choose(choice, shown_of(world, lock))
-    elif not taken and not listed and any(it.kind == Missing.kind for it in findings):
+    elif not taken and not listed and any(is_absent(world, it) for it in findings):
         found.choose("the registry doesn't have what is missing", shown_of(world, lock))
     elif taken == bool(listed):
         who = "rejected here, but yarn accepts it" if taken else "only yarn rejects it"

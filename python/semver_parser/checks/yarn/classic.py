@@ -167,14 +167,26 @@ class Reader:
                 if version is None or verdict_on(version, spec) is not RIGHT:
                     yield it._replace(specifier=spec)
 
-    def of_resolutions(self) -> Iterator[Requirement]:
+    def of_resolutions(self, stated: List[Requirement]) -> Iterator[Requirement]:
         """Yields what the project requires by resolutions, with what is found for it. If one is a
-        tag, yarn warns and ignores it. If the entry of one is missing, yarn asks the registry."""
+        tag, yarn warns and ignores it. If the entry of one is missing, yarn asks the registry,
+        unless it then drops an entry that the project itself requires."""
+        own = {(it.name, it.specifier) for it in stated if it.requirer.name == PROJECT}
+        is_root = has_workspaces(self.project.top)
+        others = {
+            (it.name, it.specifier) for it in stated if is_root or it.requirer.name != PROJECT
+        }
+        for package in self.lock.packages:
+            inner = requirements_of(package, self.lock.requirer(package))
+            others |= {(it.name, it.specifier) for it in inner}
+        shared = [(it[0], self.lock.found(*it)) for it in own & others if it[0] in self.resolutions]
         for name, groups in self.resolutions.items():
+            versions = [it.version for known, it in shared if known == name and it is not None]
             for spec in dict.fromkeys(it.spec for group in groups.values() for it in group):
                 if is_taken(spec):
+                    is_dropped = any(verdict_on(it, spec) == UNSATISFIED for it in versions)
                     found = self.own_found(Requirement(Requirer(PROJECT), name, spec))
-                    yield found._replace(excuse=FROM_REGISTRY)
+                    yield found._replace(excuse="" if is_dropped else FROM_REGISTRY)
 
     def of_keys(self) -> Iterator[Requirement]:
         """Yields the keys of packages that no package requires."""
@@ -230,7 +242,7 @@ class Reader:
         """Returns the contents of the lock file. What the project requires comes first."""
         stated = list(self.stated() if self.project.manifests else self.of_keys())
         found = [it for it in map(self.found, stated) if it is not None]
-        outside = [*found, *self.of_resolutions()]
+        outside = [*found, *self.of_resolutions(stated)]
         reached = self.reached(outside) if self.project.manifests else self.lock.packages
         lock = LockFile([], self.lock.own(), lambda: self.edges(outside, reached))
         lock.package_count, lock.stated = len(lock.packages), lambda: compared_in(self.project.manifests.items())
