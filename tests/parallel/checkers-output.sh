@@ -174,6 +174,8 @@ repaired() {
     echo "how to repair $1: passed"
 }
 repaired stale/package-lock.json 'npm install'
+repaired hiding/older/package-lock.json 'npm install'
+repaired hiding/another-above/package-lock.json 'npm install'
 # advised FILE ADVICE..: compares the lines that say what to change to repair a file of cases/.
 advised() {
     file=$1
@@ -184,10 +186,13 @@ advised() {
 }
 advised monorepo/package-lock.json 'change the version of the package, or what is required of it'
 advised overrides-conflict/package-lock.json 'have the override and the requirement say the same'
+advised hiding/newer/package-lock.json 'remove it, and have npm write it without the old one'
 ! has_toml || advised cargo-lock/conflicts/Cargo.lock 'correct the manifests: no lock file is right for them'
 ! has_toml || advised cargo-lock/checksums/Cargo.lock 'remove the checksum, and have it written anew'
 repaired monorepo/web/yarn.lock 'yarn install'
 advised yarn/stale/yarn.lock 'correct the manifests: no lock file is right for them'
+advised yarn/classic/yarn.lock 'run yarn install in cases/yarn/classic' \
+    'remove the entry, and have it written anew' 'correct the version of the package'
 advised yarn/gone/yarn.lock 'put the directory there, or remove what requires it'
 repaired yarn/stale-berry/yarn.lock 'yarn install'
 repaired pnpm/stale/pnpm-lock.yaml 'pnpm install'

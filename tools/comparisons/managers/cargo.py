@@ -22,9 +22,14 @@ from cargo_worlds import (
     write_world,
 )
 from differences import Differences, is_refused
-from repairs import repair
+from repairs import Repairs, repair
 
 CHANGES = 5
+
+# What Cargo prints if it can't repair a lock file.
+FAILURES = {
+    "the registry doesn't have what is required": "no matching package|failed to select a version",
+}
 
 
 def compare(what: str, is_taken: bool, path: Path, found: Differences, shown: object) -> None:
@@ -54,10 +59,20 @@ def edit_manifests(top: Path, world: World, maker: Maker, found: Differences) ->
 
 def mend(top: Path, world: World, lock: str, found: Differences) -> None:
     """Runs the repair that the checker proposes."""
-    path, environment = top / "Cargo.lock", {"CARGO_HOME": str(top / "home")}
+    path = top / "Cargo.lock"
     before = path.read_text()
-    taken = lambda: graph_at(top) is not None  # noqa: E731
-    repair(path, ["--offline", "--quiet"], environment, taken, found, shown_of(world, lock))
+    repair(
+        path,
+        Repairs(
+            program="cargo",
+            environment={"CARGO_HOME": str(top / "home")},
+            flags=["--offline", "--quiet"],
+            failures=FAILURES,
+            is_taken=lambda: graph_at(top) is not None,
+        ),
+        found,
+        shown_of(world, lock),
+    )
     path.write_text(before)
 
 

@@ -13,9 +13,9 @@ from typing import Any, Iterator, List, NamedTuple, Optional
 from differences import PROJECT, Differences, Finding, Unsatisfied, listed_in
 from npm_edits import Edited, edited, kinds_of
 from projects import environment, write_project
-from repairs import repair
 from registry import Json, Registry, in_order
-from semver_parser import Dialect
+from repairs import Repairs, repair
+from semver_parser import Dialect, Version
 from semver_parser.checks.findings import AnotherPackage, TwoVersions
 from semver_parser.checks.model import PEERS
 from semver_parser.checks.npm import NPM
@@ -23,6 +23,7 @@ from semver_parser.checks.node.specifiers import range_of
 from semver_parser.checks.npm.lock import (
     Packages,
     folders,
+    inside,
     name_by_place,
     package_at,
     packages_of,
@@ -36,6 +37,14 @@ HERE = os.path.dirname(os.path.abspath(__file__))
 LOCK = "package-lock.json"
 EDITS = 5
 WAITING = 60
+FLAGS = ["--package-lock-only", "--no-audit", "--no-fund", "--ignore-scripts"]
+
+# What npm prints if it can't repair a lock file.
+FAILURES = {
+    "the registry doesn't have what is required": "code (E404|ETARGET)",
+    "an archive or a repository isn't there": "code (ECONNREFUSED|ENOENT)|An unknown git error",
+    "peers conflict": "code ERESOLVE",
+}
 
 # How npm names the release that it would add to a lock file, use instead of another one, or that it
 # looks for in vain.
@@ -70,8 +79,10 @@ class Npm:
         found = subprocess.run(["npm", "root", "-g"], capture_output=True, text=True, check=True)
         npm = os.path.join(found.stdout.strip(), "npm")
         program = ["node", os.path.join(HERE, "npm-ci.js"), npm, registry.url, str(top / "cache")]
+        self.environment = environment(top)
+        self.flags = [*FLAGS, f"--registry={registry.url}"]
         self.process = subprocess.Popen(
-            program, text=True, env=environment(top), stdin=subprocess.PIPE,
+            program, text=True, env=self.environment, stdin=subprocess.PIPE,
             stdout=subprocess.PIPE, stderr=subprocess.DEVNULL,
         )  # fmt: skip
 
@@ -85,8 +96,7 @@ class Npm:
 
 def lock_by_npm(folder: Path, version: int, registry: Registry, top: Path) -> Optional[Json]:
     """Returns the lock file that npm writes, or None if it rejects the project."""
-    flags = ["--package-lock-only", "--no-audit", "--no-fund", "--ignore-scripts", "--silent"]
-    flags += [f"--lockfile-version={version}", f"--registry={registry.url}"]
+    flags = [*FLAGS, "--silent", f"--lockfile-version={version}", f"--registry={registry.url}"]
     ended = subprocess.run(
         ["npm", "install", *flags], cwd=folder, env=environment(top), timeout=WAITING,
         stdin=subprocess.DEVNULL, stdout=subprocess.DEVNULL, stderr=subprocess.DEVNULL, check=False,
@@ -129,14 +139,60 @@ def choice_of(finding: Finding, it: Case, answer: Answer) -> Optional[str]:
         return "what no registry has"
     if any(is_met(wanted, version, Dialect.NPM) for version in above(finding, it.lock)):
         return "what fits is further up"
+    if finding.kind == Unsatisfied.kind and is_hiding(finding, it):
+        return "a package that hides the one that npm would add"
     return "a peer whose newest version has no place" if is_left_peer(finding, it) else None
+
+
+def is_hiding(finding: Finding, it: Case) -> bool:
+    """Returns whether a package is inside of what requires it, nothing has its name in the next
+    package around that, and it is newer than the version that npm picks."""
+    packages, record = packages_of(it.lock, None), finding.record
+    requirer, name = "" if record.requirer == PROJECT else record.requirer or "", record.dependency or ""
+    around = [each for each in folders(requirer) if each in packages or not each]
+    if record.place != inside(requirer, name) or len(around) < 2:
+        return False
+    picked = picked_for(record.range or "", list(it.world.releases.get(record.package or "", {})))
+    if picked is None or version_in(picked) > version_in(record.version or ""):
+        return False
+    return inside(around[1], name) not in packages
+
+
+def version_in(text: str) -> Version:
+    """Returns the version that a text has for npm."""
+    return Version.parse(text, dialect=Dialect.NPM)
 
 
 def are_chosen(listed: List[Finding], it: Case, npm: Npm) -> bool:
     """Returns whether each finding for a project as it is now is listed by a row of the README."""
     now = it._replace(lock=json.loads((it.folder / LOCK).read_text()))
     answer = npm.answer(it.folder)
-    return all(each.advice or choice_of(each, now, answer) for each in listed)
+    return all(choice_of(each, now, answer) is not None for each in listed)
+
+
+def mend(it: Case, answer: Answer, npm: Npm, found: Differences) -> None:
+    """Runs the repair that the checker proposes."""
+    repair(
+        it.folder / LOCK,
+        Repairs(
+            program="npm",
+            environment=npm.environment,
+            flags=npm.flags,
+            failures=FAILURES,
+            is_taken=lambda: not npm.answer(it.folder).refused,
+            is_chosen=lambda listed: are_chosen(listed, it, npm),
+            is_rejected=lambda: has_overrides_or_peers(it),
+        ),
+        found,
+        shown(it, answer.refused),
+    )
+
+
+def has_overrides_or_peers(it: Case) -> bool:
+    """Returns whether a project has overrides, or something that requires a peer."""
+    lock = json.loads((it.folder / LOCK).read_text())
+    packages = with_manifests(it._replace(lock=lock)).values()
+    return "overrides" in it.world.manifests[""] or any(entry.get(PEERS) for entry in packages)
 
 
 def is_left_peer(finding: Finding, it: Case) -> bool:
@@ -289,11 +345,6 @@ def run(top: Path, count: int, seed: int) -> Differences:
         for it, answer in zip(cases, answers):
             compare(it, answer, answers[0], found)
             leave_over(it, found)
-            flags = ["--package-lock-only", "--no-audit", "--no-fund", "--ignore-scripts"]
-            flags.append(f"--registry={registry.url}")
-            again = lambda: not npm.answer(it.folder).refused  # noqa: B023
-            chosen = lambda listed: are_chosen(listed, it, npm)  # noqa: B023
-            seen = shown(it, answer)
-            repair(it.folder / LOCK, flags, environment(top), again, found, seen, chosen)
+            mend(it, answer, npm, found)
     found.counts["worlds"] = made
     return found

@@ -1,9 +1,10 @@
 """Runs the repairs that the checker proposes, and checks again."""
 
 import os
+import re
 import subprocess
 from pathlib import Path
-from typing import Callable, Dict, List, Optional
+from typing import Callable, Dict, List, NamedTuple, Optional
 
 from differences import Differences, Finding, listed_in
 from semver_parser.checks.model import Scope
@@ -11,6 +12,27 @@ from semver_parser.checks.repairs import command_for
 from semver_parser.checks.reports import Wanted, report_on
 
 WAITING = 120
+
+
+class Repairs(NamedTuple):
+    """How a tool repairs a lock file.
+
+    - `program` is the name of the tool's program here.
+    - `environment` is added to the environment, and `flags` to the command.
+    - `failures` has a pattern of what the tool prints if it fails for each reason that files can't
+      tell.
+    - `is_taken` returns whether the tool accepts the project.
+    - `is_chosen` returns whether all findings after a repair are listed by choice.
+    - `is_rejected` returns whether the tool rejects what it has repaired, by a row of the README.
+    """
+
+    program: str
+    environment: Dict[str, str]
+    flags: List[str]
+    failures: Dict[str, str]
+    is_taken: Callable[[], bool]
+    is_chosen: Callable[[List[Finding]], bool] = lambda _: False
+    is_rejected: Callable[[], bool] = lambda: False
 
 
 def proposed(path: Path) -> Optional[str]:
@@ -21,33 +43,43 @@ def proposed(path: Path) -> Optional[str]:
     return None if report.refusal is not None else command_for(report)
 
 
-def repair(
-    path: Path,
-    flags: List[str],
-    environment: Dict[str, str],
-    is_taken: Callable[[], bool],
-    found: Differences,
-    shown: object,
-    is_chosen: Callable[[List[Finding]], bool] = lambda _: False,
-) -> None:
-    """Runs the command that is proposed for a lock file, if there is one. What is listed afterwards
-    has to be something that the checker says it doesn't repair, that its own tool rejects, too, or
-    that is listed by choice. The command may fail if the registry lacks a release."""
+def reason_of(failures: Dict[str, str], printed: str) -> Optional[str]:
+    """Returns why a tool failed, by what it printed. Returns None for any other reason."""
+    found = (reason for reason, pattern in failures.items() if re.search(pattern, printed))
+    return next(found, None)
+
+
+def repair(path: Path, tool: Repairs, found: Differences, shown: Dict[str, object]) -> None:
+    """Runs the command that is proposed for a lock file, if there is one. The command may fail for a
+    reason that files can't tell. Afterwards, the tool has to accept the lock file, and what is listed
+    has to be something that the checker says the command doesn't repair, or that is listed by
+    choice."""
     command = proposed(path)
     if command is None:
         return
     ended = subprocess.run(
-        [*command.split(), *flags], cwd=path.parent, env={**os.environ, **environment},
-        timeout=WAITING, stdin=subprocess.DEVNULL, capture_output=True, check=False,
+        [tool.program, *command.split()[1:], *tool.flags],
+        cwd=path.parent, env={**os.environ, **tool.environment},
+        timeout=WAITING, stdin=subprocess.DEVNULL, capture_output=True, text=True, check=False,
     )  # fmt: skip
-    listed = listed_in(path)
+    everything = listed_in(path)
+    listed = [it for it in everything if not it.advice]
     if ended.returncode:
-        found.choose("a repair that the tool rejects, as without a release", shown)
-    elif not is_taken():
-        found.choose("a repair that the tool itself rejects afterwards", shown)
-    elif listed and is_chosen(listed):
-        found.choose("a repair that leaves what is listed by choice", shown)
-    elif any(not it.advice for it in listed):
+        reason = reason_of(tool.failures, ended.stdout + ended.stderr)
+        if reason is None:
+            found.add("a repair that fails", {**shown, "printed": ended.stdout + ended.stderr})
+        else:
+            found.choose(f"a repair that fails since {reason}", shown)
+    elif everything and not listed:
+        found.count("repairs that leave only what the command doesn't repair")
+    elif not tool.is_taken():
+        if tool.is_rejected():
+            found.choose("a repair that the tool itself rejects afterwards", shown)
+        else:
+            found.add("a repair that the tool itself rejects afterwards", shown)
+    elif listed and not tool.is_chosen(listed):
         found.add("a repair that repairs nothing", shown)
+    elif listed:
+        found.choose("a repair that leaves what is listed by choice", shown)
     else:
         found.count("repairs that repair")

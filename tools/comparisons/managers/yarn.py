@@ -8,19 +8,27 @@ lacks, it takes from the registry. The checker lists that only with --strict.
 import shutil
 import subprocess
 from pathlib import Path
-from typing import Any, Dict, Optional
+from typing import Any, Dict, List, Optional, Set, Tuple
 
 from differences import PROJECT, Differences, Finding, Missing, Unsatisfied, findings_in
 from projects import environment, write_project
 from registry import Registry
+from repairs import Repairs, repair
 from semver_parser import Range, RangeError
 from semver_parser.checks.findings import TwoVersions
+from semver_parser.checks.node.specifiers import alias_of
 from worlds import Maker, World
 from yarn_edits import ANOTHER_ARCHIVE, damaged, edited
 
 LOCK = "yarn.lock"
+PROGRAM = "yarnpkg"
 CHANGES = 5
 WAITING = 120
+
+# What yarn prints if it can't repair a lock file.
+FAILURES = {
+    "the registry doesn't have what is required": "Couldn't find (package|any versions)|: Not found",
+}
 
 
 class Yarn:
@@ -29,21 +37,20 @@ class Yarn:
     def __init__(self, top: Path, registry: Registry) -> None:
         self.top, self.registry = top, registry
 
-    def is_done(self, folder: Path, *arguments: str) -> bool:
-        """Returns whether a command of yarn succeeds in a directory."""
-        flags = ["--non-interactive", "--no-progress", "--silent"]
+    @property
+    def flags(self) -> List[str]:
+        """Returns the flags for a quiet installation from the registry."""
+        quiet = ["--non-interactive", "--no-progress", "--silent", "--ignore-scripts"]
+        return [*quiet, f"--registry={self.registry.url}", f"--cache-folder={self.top}/cache"]
+
+    def installs(self, folder: Path, *arguments: str) -> bool:
+        """Returns whether yarn installs a project."""
         ended = subprocess.run(
-            ["yarnpkg", *arguments, *flags], cwd=folder, env=environment(self.top),
+            [PROGRAM, "install", *self.flags, *arguments], cwd=folder, env=environment(self.top),
             timeout=WAITING, stdin=subprocess.DEVNULL, stdout=subprocess.DEVNULL,
             stderr=subprocess.DEVNULL, check=False,
         )  # fmt: skip
         return ended.returncode == 0
-
-    def installs(self, folder: Path, *arguments: str) -> bool:
-        """Returns whether yarn installs a project."""
-        flags = ["--ignore-scripts", f"--registry={self.registry.url}"]
-        flags.append(f"--cache-folder={self.top}/cache")
-        return self.is_done(folder, "install", *flags, *arguments)
 
     def takes(self, folder: Path) -> bool:
         """Returns whether yarn accepts a lock file as it is."""
@@ -78,18 +85,30 @@ def choice_of(what: str, finding: Finding, world: World) -> Optional[str]:
     return None
 
 
-def is_absent(world: World, finding: Finding) -> bool:
-    """Returns whether a finding is about something that is missing, and that the registry of a
-    world doesn't have, either."""
-    wanted, name = finding.record.range or "", finding.record.dependency or ""
-    if finding.kind != Missing.kind or "://" in wanted:
+def is_absent(world: World, name: str, wanted: str, seen: Set[Tuple[str, str]]) -> bool:
+    """Returns whether the registry of a world lacks what is required, or what that requires in
+    turn. What was `seen` isn't looked for again."""
+    if (name, wanted) in seen or "://" in wanted:
         return False
-    alias, _, wanted = wanted.removeprefix("npm:").rpartition("@") if "npm:" in wanted else (name, "", wanted)
-    versions = list(world.releases.get(alias, {}))
+    seen.add((name, wanted))
+    name, wanted = alias_of(wanted) or (name, wanted)
+    releases = world.releases.get(name, {})
     try:
-        return Range(wanted, dialect="npm").highest(versions) is None
+        version = Range(wanted, dialect="npm").highest(list(releases))
     except RangeError:
-        return not versions
+        return not releases
+    if version is None:
+        return True
+    required = releases[version].get("dependencies", {})
+    return any(is_absent(world, other, text, seen) for other, text in required.items())
+
+
+def is_nowhere(finding: Finding, world: World) -> bool:
+    """Returns whether a finding is about something that is missing, and that yarn can't take from
+    the registry, either."""
+    record = finding.record
+    is_missing = finding.kind == Missing.kind
+    return is_missing and is_absent(world, record.dependency or "", record.range or "", set())
 
 
 def compare(
@@ -107,11 +126,31 @@ def compare(
     if taken and listed and None not in choices:
         for choice in sorted(it for it in choices if it is not None):
             found.choose(choice, shown_of(world, lock))
-    elif not taken and not listed and any(is_absent(world, it) for it in findings):
+    elif not taken and not listed and any(is_nowhere(it, world) for it in findings):
         found.choose("the registry doesn't have what is missing", shown_of(world, lock))
     elif taken == bool(listed):
         who = "rejected here, but yarn accepts it" if taken else "only yarn rejects it"
         found.add(f"{what}: {who}", shown_of(world, lock))
+    mend(what, folder, world, lock, yarn, found)
+
+
+def mend(
+    what: str, folder: Path, world: World, lock: str, yarn: Yarn, found: Differences
+) -> None:
+    """Runs the repair that the checker proposes."""
+    repair(
+        folder / LOCK,
+        Repairs(
+            program=PROGRAM,
+            environment=environment(yarn.top),
+            flags=yarn.flags,
+            failures=FAILURES,
+            is_taken=lambda: yarn.takes(folder),
+            is_chosen=lambda listed: all(choice_of(what, it, world) for it in listed),
+        ),
+        found,
+        shown_of(world, lock),
+    )
 
 
 def lock_of(folder: Path, world: World, yarn: Yarn) -> Optional[str]:

@@ -17,15 +17,15 @@ from ..findings import (
     Unsatisfied,
 )
 from ..model import Requirement
-from ..satisfaction import is_met
+from ..satisfaction import is_met, range_in
 from .lock import Packages, folder_round, folders, inside, is_outside, is_top, locked_in
 from .peers import Peers
 
 UNMET = (Unsatisfied, Overridden)
 
-
-# The advice for what npm doesn't check: it checks what workspaces require, and nothing below. And
-# the advice for a package that npm only leaves out, since one further up satisfies the requirement.
+# The advice for what npm install doesn't repair: what is required below workspaces, since npm
+# doesn't check it; a package that npm only leaves out, since one further up satisfies the
+# requirement; and a package that hides the one that npm would add.
 ANEW = "remove it, and have npm write it without the old one"
 
 
@@ -61,6 +61,8 @@ class Leaving:
             if isinstance(finding, Overridden):
                 return "override"
             finding.advised(ANEW, False)
+        if isinstance(finding, Unsatisfied) and self.is_hiding(finding):
+            finding.advised(ANEW, False)
         is_peer = self.peers is not None and is_unmet and self.peers.is_left(it)
         return "conflicting peer" if is_peer else ""
 
@@ -74,6 +76,20 @@ class Leaving:
         places = [at for at in around if at != it.found.place and at in self.packages]
         versions = (self.packages[at].get("version") for at in places)
         return any(is_met(specifier, str(version), Dialect.NPM) for version in versions)
+
+    def is_hiding(self, finding: Unsatisfied) -> bool:
+        """Returns whether the package that a finding is about hides each one that npm would add. npm
+        adds a package one directory further up if nothing has its name there. Then it removes the
+        one inside, unless that is newer."""
+        it, place = finding.requirement, finding.requirement.requirer.place
+        if it.found is None or not place or it.found.place != inside(place, it.name):
+            return False
+        around = (each for each in folders(place) if each != place and each in self.packages)
+        if inside(next(around, ""), it.name) in self.packages:
+            return False
+        wanted = range_in(finding.specifier, Dialect.NPM, "included")
+        newer = range_in(f">{it.found.version}", Dialect.NPM, "included")
+        return wanted is not None and newer is not None and wanted.isdisjoint(newer)
 
     def is_brought_along(self, it: Requirement) -> bool:
         """Returns whether a package bundles what it requires, or what is found comes from another

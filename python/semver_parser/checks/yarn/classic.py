@@ -22,6 +22,7 @@ from semver_parser import Dialect
 
 from ..files import Entry, taking
 from ..findings import (
+    AnotherPackage,
     Conflict,
     Finding,
     InvalidRange,
@@ -29,6 +30,7 @@ from ..findings import (
     Overridden,
     OwnConflict,
     TwoVersions,
+    Unsatisfied,
 )
 from ..judge import INVALID_RANGE, RIGHT, UNSATISFIED, Verdict
 from ..model import PEERS, PROJECT, LockFile, Node, Package, Requirement, Requirer
@@ -319,6 +321,13 @@ class Classic(YarnTool):
         project, resolutions = self.project_of(file)
         project = with_workspaces(project, manifest_path(file, file.directory) or "")
         return Reader(self.lock_of(file), project, resolutions).lock_file(file)
+
+    def advise(self, finding: Finding) -> None:
+        """Adds advice to a finding that the command doesn't repair: yarn doesn't compare what is
+        found for an alias."""
+        super().advise(finding)
+        if isinstance(finding, (AnotherPackage, Unsatisfied)) and alias_of(finding.specifier):
+            finding.advised(TwoVersions.advice, False)
 
 
 CLASSIC = Classic()
