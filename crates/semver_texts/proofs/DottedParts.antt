@@ -1,5 +1,5 @@
 -- serves: semver_texts::dotted::text_of_parts
--- Parts joined by dots, as they are read byte by byte.
+-- Lemmas for the loops that read parts joined by dots, byte by byte.
 use Rattle.std.proofs.Common.{◌≡◌, ℕ, ◌+◌, ◌<◌, Bool, true, false, length, get_or, drop, refl, sym, ap, ◌∙◌, arith, ◌∷◌, ◌++◌}
 use Rattle.std.proofs.Common.{subst, append-nil, append_assoc, suc, take, take-append-drop}
 use Rattle.std.specs.Prelude.{◌==◌, ◌||◌, MatchOption, Option, Some, None, List, []}
@@ -29,12 +29,12 @@ other_byte : (hyphens : Hyphens) (b : ℕ) → is_run_byte hyphens b ≡ false �
 other_byte Any b h m = grind (arith, nat_tests)
 other_byte BetweenRuns b h m = grind (arith, nat_tests)
 
--- a letter or a digit goes on with a run
+-- a letter or a digit belongs to a run
 pub letter_runs : (hyphens : Hyphens) (b : ℕ) → is_ascii_alphanumeric b ≡ true → is_run_byte hyphens b ≡ true
 letter_runs Any b h = rw h refl
 letter_runs BetweenRuns b h = h
 
--- and what is neither, nor a hyphen, does not
+-- a byte that is not a letter, a digit, a hyphen or a dot doesn't belong to a run
 pub no_run : (hyphens : Hyphens) (b : ℕ) → is_ascii_alphanumeric b ≡ false → (b == 45 || b == 46) ≡ false → is_run_byte hyphens b ≡ false
 no_run Any b h m = grind (arith, nat_tests)
 no_run BetweenRuns b h m = h
@@ -42,28 +42,29 @@ no_run BetweenRuns b h m = h
 small_byte : (b : ℕ) → is_dotted_byte b ≡ true → b < 128
 small_byte b h = grind (arith, nat_tests)
 
--- they are ASCII, and so a text
+-- the bytes of parts joined by dots are ASCII, and so valid UTF-8
 pub dotted_ascii : (bytes : Text) → Passes is_dotted_byte bytes → IsAscii bytes
 dotted_ascii = ascii_from is_dotted_byte small_byte
 
 pub dotted_utf8 : (bytes : Text) → Passes is_dotted_byte bytes → IsUtf8 bytes
 dotted_utf8 bytes all = IsUtf8-from_ascii bytes (dotted_ascii bytes all)
 
--- ---- at a place of a loop over the bytes
+-- ---- the state of a loop at an offset
 
--- what was read so far: whether a run is being read, and how far the parts go
+-- the loop's invariant at an offset: every byte before it is a byte of dotted parts, and whether
+-- the text begins with separated runs depends only on the rest and on `in_run`
 pub record IsRead (hyphens : Hyphens) (bytes : Text) (at : ℕ) (in_run : Bool) : Type 0 where
   pub standing : runs_stand (is_run_byte hyphens) false bytes ≡ runs_stand (is_run_byte hyphens) in_run (drop at bytes)
   pub goes_on : prefix_len is_dotted_byte bytes ≡ at + prefix_len is_dotted_byte (drop at bytes)
 
--- a mark that no run comes before
+-- if a dot or a hyphen doesn't follow a run, the text doesn't begin with separated runs
 pub none_read : (hyphens : Hyphens) (bytes : Text) (at : ℕ) → at < length bytes → is_run_byte hyphens (get_or bytes at 0) ≡ false
     → (get_or bytes at 0 == 45 || get_or bytes at 0 == 46) ≡ true → IsRead hyphens bytes at false
     → runs_stand (is_run_byte hyphens) false bytes ≡ false
 none_read hyphens bytes at inside other mark w =
     w.standing ∙ ap (runs_stand (is_run_byte hyphens) false) (drop_more bytes at 0 inside) ∙ rw (other, mark) refl
 
--- where the parts end
+-- the end of the parts: the result is their length if a run is right before it, otherwise `None`
 pub at_end : (hyphens : Hyphens) (bytes : Text) (at : ℕ) (in_run : Bool) → prefix_len is_dotted_byte (drop at bytes) ≡ 0
     → runs_stand (is_run_byte hyphens) in_run (drop at bytes) ≡ in_run → IsRead hyphens bytes at in_run
     → MatchOption (then_some in_run at) (runs_stand (is_run_byte hyphens) false bytes ≡ false)
@@ -79,18 +80,19 @@ other_ends hyphens bytes at in_run inside other no_mark = (
   ap (runs_stand (is_run_byte hyphens) in_run) (drop_more bytes at 0 inside) ∙ rw (other, no_mark) refl,
 )
 
--- what is found, and what follows it
+-- equal pairs in `Some` have equal components
 pub found_same : {X Y : Type 0} {x x' : X} {y y' : Y} → ◌≡◌ {A = Option (X × Y)} (Some (x, y)) (Some (x', y')) → (x ≡ x') × (y ≡ y')
 found_same {X = X} {Y = Y} {x = x} {x' = x'} {y = y} {y' = y'} e =
     let same : ◌≡◌ {A = X × Y} (x, y) (x', y') = cc in (ap (λ (p : X × Y). p.0) same, ap (λ (p : X × Y). p.1) same)
 
--- ---- what is left to be cut
+-- ---- the rest after a dot
 
 abbrev pub size_after : Option (Bor Text) → ℕ
 size_after None = 0
 size_after (Some rest) = length rest.now + 1
 
--- the bytes are a part and its dot, and what is after it, if anything is
+-- the bytes are the part, or, if there is a rest, the part, a dot and the rest; split at dots, they
+-- are the part and the pieces of the rest
 abbrev pub IsSplit : Text → Text → Option (Bor Text) → Type 0
 IsSplit bytes part after = MatchOption after ((slice_split is_dot bytes ≡ part ∷ []) × (bytes ≡ part))
     (λ after. (slice_split is_dot bytes ≡ part ∷ slice_split is_dot after.now) × (bytes ≡ part ++ 46 ∷ after.now))
@@ -103,11 +105,11 @@ split_more bytes part (Some after) all cut h e =
 
 -- ---- a text up to its first dot
 
--- the byte is no dot
+-- the byte is not a dot
 abbrev pub IsOther : ℕ → Type 0
 IsOther b = is_dot b ≡ false
 
--- one byte more is none
+-- if neither the first `i` bytes nor the next one is a dot, none of the first `i + 1` is
 pub others_more : (t : Text) (i : ℕ) → i < length t → ¬ (get_or t i 0 ≡ 46) → All IsOther (take i t) → All IsOther (take (i + 1) t)
 others_more t i inside no_dot others =
     let b : ℕ = get_or t i 0 in
@@ -116,7 +118,8 @@ others_more t i inside no_dot others =
     let more : take i t ++ b ∷ [] ≡ take (i + 1) t = sym (take-suc t i 0 inside) ∙ ap (λ n. take n t) next in
     subst (All IsOther) more (All-append IsOther (take i t) (b ∷ []) others (All-cons IsOther b [] other (All-nil IsOther)))
 
--- at the first dot the text is split
+-- a text whose first dot is at `i`: its first piece is before the dot, and the others are the
+-- pieces of the text after the dot
 pub dot_splits : (t : Text) (i : ℕ) → i < length t → get_or t i 0 ≡ 46 → All IsOther (take i t)
     → (slice_split is_dot t ≡ take i t ∷ slice_split is_dot (drop (i + 1) t)) × (t ≡ take i t ++ 46 ∷ drop (i + 1) t)
 dot_splits t i inside dot others =
@@ -127,7 +130,7 @@ dot_splits t i inside dot others =
       whole,
     )
 
--- where there is none it is one piece
+-- a text without dots is its only piece
 pub one_piece : (t : Text) (i : ℕ) → i ≡ length t → All IsOther (take i t) → slice_split is_dot t ≡ t ∷ []
 one_piece t i end others =
     slice_split_none is_dot t (subst (All IsOther) (ap (λ n. take n t) end ∙ take-length t) others)

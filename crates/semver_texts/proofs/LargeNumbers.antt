@@ -1,5 +1,6 @@
 -- serves: semver_texts::large_number::LargeNumber::compare
--- Numbers of any size: how their digits compare, and that their decimal is the digits.
+-- Numbers of any size: comparing their digits compares the numbers, and printing a number gives its
+-- digits.
 use Rattle.std.proofs.Common.{◌≡◌, ℕ, ◌+◌, ◌*◌, ◌^◌, ◌<◌, ◌≤◌, Bool, true, false, [], ◌∷◌, ◌++◌, length, map, arith, refl, sym, ap, ◌∙◌}
 use Rattle.std.proofs.Common.{subst, append_assoc, append-nil, decimal}
 use Rattle.std.specs.Prelude.{◌||◌, ◌==◌, not, nat_lt}
@@ -29,7 +30,7 @@ use Rattle.semver_texts.proofs.Lists.{by_test}
 use Rattle.semver_texts.proofs.Numbers.{IsCanonical, IsNumber-from_canonical, canonical_from_IsNumber, decimal_canonical}
 use Rattle.semver_texts.proofs.Numerals.{own}
 
--- ---- the number that digits write
+-- ---- the value of digits
 
 after_more : (n : ℕ) (ds : Text) → digits_value_after 10 n ds ≡ n * 10 ^ length ds + digits_value 10 ds
 after_more n [] = omega arith
@@ -43,14 +44,14 @@ first_weighs c cs = omega (arith, after_more (0 * 10 + digit_value c) cs)
 of_digit : (c : ℕ) → digit_value c < 10 → digit_value c + 48 ≡ c
 of_digit c small = digit_value_digit c (digit_from_value c small)
 
--- ---- how two compare
+-- ---- the order of two numbers
 
 moved : (x y a b : ℕ) → (x < y → a < b) → (x ≡ y → a ≡ b) → (y < x → b < a) → nat_cmp x y ≡ nat_cmp a b
 moved x y a b less same more =
     by_ranked (x < y) (x ≡ y) (y < x) (nat_cmp x y) (ranked x y (nat_cmp x y) refl) (λ is h. is ∙ nat_cmp_is a b Less (less h))
     (λ is h. is ∙ nat_cmp_is a b Equal (same h)) (λ is h. is ∙ nat_cmp_is a b Greater (more h))
 
--- the first digit that differs decides, if they are as many
+-- of two numbers with equally many digits, the one with the lower first digit is lower
 first_decides : (c e : ℕ) (cs es : Text) → digit_value c < 10 → digit_value e < 10 → AllDigits 10 cs → AllDigits 10 es
     → length cs ≡ length es → c < e → digits_value 10 (c ∷ cs) < digits_value 10 (e ∷ es)
 first_decides c e cs es small also all others same less =
@@ -89,7 +90,7 @@ as_many (c ∷ cs) (e ∷ es) all others same =
         (λ h. omega (arith, h, front, first_weighs c cs, first_weighs e es))
         (λ h. omega (arith, h, front, first_weighs c cs, first_weighs e es))
 
--- what a number of 2^64 or more begins with
+-- the digits of a number of 2^64 or more; the first one isn't 0
 pub record IsLargeText (t : Text) : Type 0 where
   pub first : ℕ
   pub rest : Text
@@ -119,7 +120,7 @@ large_text (c ∷ cs) e =
     no_zero c [] digits is large = omega (arith, large, first_weighs c [])
     no_zero c (d ∷ cs) digits is large = let at = of_digit c digits.0 in grind (arith, nat_tests)
 
--- more digits are a greater number
+-- of two such numbers, the one with fewer digits is lower
 more_digits : (s t : Text) → IsLargeText s → IsLargeText t → length s < length t → digits_value 10 s < digits_value 10 t
 more_digits s t a b less =
     let below : digits_value 10 s < 10 ^ length s = rw a.whole (digits_value-lt 10 (a.first ∷ a.rest) a.digits) in
@@ -140,7 +141,8 @@ module _ (s t : Text) (a : is_large s ≡ true) (b : is_large t ≡ true) where
       let right = large_text t b in
       as_many s t (subst (AllDigits 10) (sym left.whole) left.digits) (subst (AllDigits 10) (sym right.whole) right.digits) same
 
-  -- so an order of their lengths is theirs if it isn't `Equal`, and else that of their bytes
+  -- the order of the lengths is the order of the numbers if it isn't `Equal`; otherwise the order
+  -- of the bytes is
   pub lengths_decide : (r : Ordering) → r ≡ nat_cmp (length s) (length t) → is_ne r ≡ true
       → r ≡ nat_cmp (digits_value 10 s) (digits_value 10 t)
   lengths_decide r is other = is ∙ by_length (λ same. never (ap is_ne (is ∙ tied same)) other)
@@ -163,7 +165,7 @@ module _ (s t : Text) (a : is_large s ≡ true) (b : is_large t ≡ true) where
 pub large_size : (t : Text) → is_large t ≡ true → 2 ^ 64 ≤ digits_value 10 t
 large_size t e = (large_text t e).large
 
--- ---- their decimal
+-- ---- the decimal of a number
 
 last : (n d : ℕ) → 0 < n * 10 + d → d < 10 → digits_of 10 (n * 10 + d) ≡ digits_of 10 n ++ (d ∷ [])
 last n d some small =
@@ -209,7 +211,7 @@ pub number_some : (t : Text) → is_number t ≡ true → 0 < length t
 number_some [] e = cc
 number_some (b ∷ t) e = omega arith
 
--- a number is the decimal of its value
+-- a text that is a number is the decimal of its value
 pub number_numeral : (t : Text) → is_number t ≡ true → t ≡ numeral (digits_value 10 t)
 number_numeral t e =
     by_test (nat_lt (digits_value 10 t) (2 ^ 64))
@@ -217,14 +219,14 @@ number_numeral t e =
     (canonical t e (grind (arith, nat_tests, common_steps))))))
     (λ large. large_numeral t (rw (e, large) refl))
 
--- that of a number below 2^64
+-- below 2^64, `numeral` is `decimal`
 pub small_numeral : (n : ℕ) → n < 2 ^ 64 → numeral n ≡ decimal n
 small_numeral n small = rw (below n small) refl
   where
     below : (n : ℕ) → n < 2 ^ 64 → nat_lt n (2 ^ 64) ≡ true
     below n small = grind (arith, nat_tests)
 
--- a canonical decimal is a number, and a number below 2^64 is one
+-- a text that is canonical and not empty is a number, and so is the decimal of a number below 2^64
 pub number_is : (t : Text) → IsCanonical t → 0 < length t → is_number t ≡ true
 number_is [] c some = absurd (omega (arith, some))
 number_is (b ∷ []) c some = let d = c.digits in grind (arith, nat_tests, common_steps)

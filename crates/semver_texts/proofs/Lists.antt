@@ -1,5 +1,5 @@
 -- serves: semver_versions::identifiers::identifiers_of_text, kept
--- Lists, and what holds of each of their elements.
+-- Lists, and properties that hold for each of their elements.
 use Rattle.std.proofs.Common.{◌≡◌, ℕ, ◌<◌, Bool, true, false, List, [], ◌∷◌, ◌++◌, length, take, drop}
 use Rattle.std.proofs.Common.{refl, one-add}
 use Rattle.std.specs.Prelude.{IsTrue, map, slice_index}
@@ -20,7 +20,8 @@ pub all_apart : {X : Type 0} (P : X → Type 0) (xs ys : List X) → AllByRecurs
 all_apart P [] ys all = (tt, all)
 all_apart P (x ∷ xs) ys all = let both = all_apart P xs ys all.1 in ((all.0, both.0), both.1)
 
--- from two lists, place by place
+-- if each element of `ys` is related to one of `xs`, and this implies `P`, all elements of `ys`
+-- have `P`
 pub all_zipped : {A B : Type 0} {R : A → B → Type 0} {P : B → Type 0} → ((a : A) (b : B) → R a b → P b) → (xs : List A) (ys : List B)
     → AllZip R xs ys → AllByRecursion P ys
 all_zipped each [] [] all = tt
@@ -28,7 +29,7 @@ all_zipped each [] (y ∷ ys) all = absurd all
 all_zipped each (x ∷ xs) [] all = absurd all
 all_zipped each (x ∷ xs) (y ∷ ys) all = (each x y all.0, all_zipped each xs ys all.1)
 
--- either way a test goes
+-- a proof by cases of a Boolean
 pub by_test : {A : Type 0} (b : Bool) → (b ≡ true → A) → (b ≡ false → A) → A
 by_test true f g = f refl
 by_test false f g = g refl
@@ -36,7 +37,7 @@ by_test false f g = g refl
 pub never : {b : Bool} → b ≡ true → b ≡ false → ⊥
 never t f = cc
 
--- what is made of two lists is the same where it is so place by place
+-- if related elements have equal images under `f` and `g`, the images of related lists are equal
 pub zip_same : {X Y Z : Type 0} {R : X → Y → Type 0} (f : X → Z) (g : Y → Z) → ((x : X) (y : Y) → R x y → f x ≡ g y)
     → (xs : List X) (ys : List Y) → AllZip R xs ys → map f xs ≡ map g ys
 zip_same f g each [] [] zip = refl
@@ -79,24 +80,25 @@ passes_append p (x ∷ xs) ys a b = (a.0, passes_append p xs ys a.1 b)
 pub passes_apart : (p : ℕ → Bool) (xs ys : List ℕ) → Passes p (xs ++ ys) → Passes p xs × Passes p ys
 passes_apart p = all_apart (λ b. IsTrue (p b))
 
--- the front that passes a test passes it
+-- every byte of the longest prefix that passes a test passes it
 pub all_of_prefix : (p : ℕ → Bool) (xs : List ℕ) → Passes p (take (prefix_len p xs) xs)
 all_of_prefix p [] = tt
 all_of_prefix p (x ∷ xs) = by_test (p x) (λ h. rw (h, one-add) (h, all_of_prefix p xs)) (λ h. rw h tt)
 
--- what follows the longest front that passes a test fails it
+-- the byte after that prefix fails the test; after the end of the list, the byte is taken as 0
 pub prefix_stops : (p : ℕ → Bool) (xs : List ℕ) → p 0 ≡ false → p (slice_index (drop (prefix_len p xs) xs) 0) ≡ false
 prefix_stops p [] past = past
 prefix_stops p (x ∷ xs) past = by_test (p x) (λ h. rw (h, one-add) (prefix_stops p xs past)) (λ h. rw h h)
 
--- the longest front that passes a test, where a list that passes is followed by what fails it
+-- if every byte of `xs` passes and the next one fails, `xs` is the longest prefix that passes
 pub prefix_is : (p : ℕ → Bool) (xs ys : List ℕ) → Passes p xs → p 0 ≡ false → p (slice_index ys 0) ≡ false
     → prefix_len p (xs ++ ys) ≡ length xs
 prefix_is p [] [] all past stop = refl
 prefix_is p [] (y ∷ ys) all past stop = rw stop
 prefix_is p (x ∷ xs) ys all past stop = rw (all.0, prefix_is p xs ys all.1 past stop, one-add)
 
--- texts that pass, joined by a byte that does, and after a mark
+-- if the texts, the byte between them and the mark pass a test, so do the joined and the marked
+-- text
 pub joined_pass : (p : ℕ → Bool) (between : ℕ) → p between ≡ true → (xs : List (List ℕ)) → AllByRecursion (Passes p) xs
     → Passes p (join_with_byte between xs)
 joined_pass p between here [] all = tt

@@ -1,5 +1,6 @@
 -- serves: semver_texts::decimals::number_of_digits
--- Texts, and the numbers that they spell.
+-- Numbers below 2^64: the texts that spell them, and how they are read from the beginning of a
+-- text.
 use Rattle.std.proofs.Common.{◌≡◌, ℕ, ◌^◌, ◌<◌, ◌≢◌, true, false, eqb, List, [], ◌∷◌, ◌++◌, length, take, drop, map, get_or}
 use Rattle.std.proofs.Common.{sym, refl, ap, ◌∙◌, subst, ⊎_elim}
 use Rattle.std.proofs.Common.{arith, decimal, ◌⊎◌, ◌+◌, ◌-◌, ◌*◌, ◌≤◌, one-add, append_assoc, append-nil, length-drop}
@@ -25,7 +26,7 @@ use Rattle.semver_texts.specs.Texts.{IsNumber, BeginsWithNumber, BeginsWithNumbe
 use Rattle.semver_texts.proofs.Lists.{tails, Passes, by_test, all_of_prefix, prefix_stops, prefix_is}
 use Rattle.semver_texts.specs.Steps.Decimals.{is_number, digits_front}
 
--- what makes a run a number
+-- the run, perhaps empty, consists of digits, has no leading zero, and its value is below 2^64
 pub record IsCanonical (run : List ℕ) : Type 0 where
   pub digits : all_ascii_digits run ≡ true
   pub no_leading_zero : get_or run 0 0 ≡ 48 → length run ≡ 1
@@ -41,7 +42,7 @@ canonical_from_is_number run e =
 pub decimal_canonical : (run : List ℕ) → 0 < length run → IsCanonical run → decimal (digits_value 10 run) ≡ run
 decimal_canonical run some c = decimal-digits_value own run c.digits some c.no_leading_zero c.small
 
--- the canonical decimals of numbers below 2^64
+-- a canonical run that isn't empty is the decimal of a number below 2^64
 pub IsNumber-from_canonical : (run : List ℕ) → 0 < length run → IsCanonical run → IsNumber run
 IsNumber-from_canonical run some c = (digits_value 10 run, c.small, sym (decimal_canonical run some c))
 
@@ -57,14 +58,14 @@ canonical_decimal n small = record {
     positive_or_zero : (n : ℕ) → (0 < n) ⊎ (n ≡ 0)
     positive_or_zero n = grind arith
 
--- the number that a canonical decimal spells
+-- the value of the digits of a number's decimal is the number
 pub digits_value_number : (run : List ℕ) (n : ℕ) → n < 2 ^ 64 → run ≡ decimal n → digits_value 10 run ≡ n
 digits_value_number run n small e = ap (digits_value 10) e ∙ digits_value-decimal own n small
 
 pub canonical_from_IsNumber : (run : List ℕ) → IsNumber run → IsCanonical run
 canonical_from_IsNumber run number = subst IsCanonical (sym number.2) (canonical_decimal number.0 number.1)
 
--- ---- a number at the front of a text
+-- ---- a number at the beginning of a text
 
 digits_all : (ds : List ℕ) → Passes is_ascii_digit ds → all_ascii_digits ds ≡ true
 digits_all [] all = refl
@@ -74,7 +75,8 @@ pub all_digits : (ds : List ℕ) → all_ascii_digits ds ≡ true → Passes is_
 all_digits [] all = tt
 all_digits (d ∷ ds) all = let parts = and_parts (is_ascii_digit d) (all_ascii_digits ds) all in (parts.0, all_digits ds parts.1)
 
--- the digits at the front are the number's decimal
+-- if a text begins with a number, the digits at its beginning are the number's decimal, and the
+-- rest is what follows them
 front_is : (text : List ℕ) (n : ℕ) (rest : List ℕ) → BeginsWithNumber text n rest
     → (digits_front text ≡ decimal n) × (rest ≡ drop (length (digits_front text)) text)
 front_is text n rest w =
@@ -95,7 +97,7 @@ front_canonical text n rest w =
       subst IsCanonical (sym front) (canonical_decimal n w.fits),
     )
 
--- and where they are canonical, they are that of a number
+-- if the digits at the beginning of a text are canonical, the text begins with their number
 front_begins : (text : List ℕ) → 0 < length (digits_front text) → (get_or (digits_front text) 0 0 ≡ 48 → length (digits_front text) ≡ 1)
     → digits_value 10 (digits_front text) < 2 ^ 64
     → BeginsWithNumber text (digits_value 10 (digits_front text)) (drop (length (digits_front text)) text)
@@ -115,7 +117,7 @@ first_of_front [] some = refl
 first_of_front (b ∷ text) some =
     by_test (is_ascii_digit b) (λ h. rw (h, one-add) refl) (λ h. absurd (omega (arith, rw h at some)))
 
--- what follows so many bytes
+-- a slice from `len` to the end of a text is the text without its first `len` bytes
 after : (text rest : List ℕ) (len : ℕ) → rest ≡ take (length text - len) (drop len text) → rest ≡ drop len text
 after text rest len is = is ∙ ap (λ k. take k (drop len text)) (sym (length-drop len text)) ∙ take-length (drop len text)
 
@@ -130,7 +132,8 @@ front_some (b ∷ text) digit = omega (arith, length-prefix_len is_ascii_digit (
     more : prefix_len is_ascii_digit (b ∷ text) ≡ 1 + prefix_len is_ascii_digit text
     more = rw digit refl
 
--- what was read is a number, where it has no leading zero
+-- if the first digit isn't 0 and the value of the digits fits, the text begins with the number that
+-- was read
 pub number_read : (text rest : List ℕ) (n len : ℕ) → is_ascii_digit (slice_index text 0) ≡ true → slice_index text 0 ≢ 48 → n < 2 ^ 64
     → n ≡ digits_value 10 (digits_front text) → len ≡ length (digits_front text) → rest ≡ take (length text - len) (drop len text)
     → BeginsWithNumber text n rest
@@ -140,11 +143,12 @@ number_read text rest n len digit no_zero small is count left =
     (subst (λ m. BeginsWithNumber text m (drop (length (digits_front text)) text)) (sym is)
     (front_begins text filled (λ z. absurd (no_zero (sym (first_of_front text filled) ∙ z))) (subst (λ m. m < 2 ^ 64) is small)))
 
--- and else there is none
+-- if the value of the digits is 2^64 or more, the text doesn't begin with a number
 pub too_large : (text : List ℕ) → 2 ^ 64 ≤ digits_value 10 (digits_front text) → (n : ℕ) (rest : List ℕ) → ¬ (BeginsWithNumber text n rest)
 too_large text large n rest w = absurd (omega (arith, large, (front_canonical text n rest w).1.small))
 
--- where no digit is at the front, where a zero is before a digit, and where a digit is alone
+-- a text doesn't begin with a number if its first byte isn't a digit, or if it is 0 and a digit
+-- follows; a digit that isn't followed by another is a number
 pub no_digit : (text : List ℕ) → is_ascii_digit (slice_index text 0) ≡ false → (n : ℕ) (rest : List ℕ)
     → ¬ (BeginsWithNumber text n rest)
 no_digit [] other n rest w = absurd (omega (arith, (front_canonical [] n rest w).0))
@@ -188,7 +192,7 @@ one_digit (b ∷ text) rest is digit other n same_n =
       ended = other;
     }
 
--- it is one number
+-- a text begins with at most one number
 pub same_number : (text : List ℕ) (n m : ℕ) (rest more : List ℕ) → BeginsWithNumber text n rest → BeginsWithNumber text m more
     → (n ≡ m) × (rest ≡ more)
 same_number text n m rest more a b =
@@ -196,7 +200,7 @@ same_number text n m rest more a b =
     let again = front_is text m more b in
     (decimal_injective n m a.fits b.fits (sym front.0 ∙ again.0), front.1 ∙ sym again.1)
 
--- a whole text that is a number begins with it
+-- a text that is a number begins with that number
 begins_whole : (text : List ℕ) → (number : IsNumber text) → BeginsWithNumber text number.0 []
 begins_whole text number = record { fits = number.1; split = number.2 ∙ sym (append-nil (decimal number.0)); ended = refl }
 
@@ -208,9 +212,9 @@ more_after text [] n begins some number = cc
 more_after text (b ∷ rest) n begins some number =
     absurd (omega (arith, ap length (same_number text number.0 n [] (b ∷ rest) (begins_whole text number) begins).1))
 
--- ---- three of them, joined by dots
+-- ---- three numbers joined by dots
 
--- what each of the three is
+-- each of the three numbers, with the text that it is at the beginning of
 record AreThree (text : List ℕ) (major minor patch : ℕ) (rest : List ℕ) : Type 0 where
   second : List ℕ
   third : List ℕ
@@ -232,7 +236,7 @@ three_apart text major minor patch rest w = record {
         ≡ decimal major ++ (46 ∷ (decimal minor ++ (46 ∷ (decimal patch ++ rest))))
     grouped = simp append_assoc
 
--- where none follows the first, or the second, there aren't three
+-- the text doesn't begin with a dot and a number
 abbrev pub NoneAfterDot : List ℕ → Type 0
 NoneAfterDot text = (n : ℕ) (after more : List ℕ) → text ≡ 46 ∷ after → ¬ (BeginsWithNumber after n more)
 
@@ -257,7 +261,7 @@ no_third text second rest n m first next none major minor patch more w =
     (sym (same_number second minor m _ rest (subst (λ l. BeginsWithNumber l minor (46 ∷ a.third)) same a.second_is) next).1)
     a.third_is
 
--- they are the same, and so is what follows them
+-- a text begins with three numbers in at most one way
 pub same_numbers : (text : List ℕ) (major minor patch major' minor' patch' : ℕ) (rest more : List ℕ)
     → BeginsWithNumbers text major minor patch rest → BeginsWithNumbers text major' minor' patch' more
     → (major ≡ major') × (minor ≡ minor') × (patch ≡ patch') × (rest ≡ more)
@@ -271,13 +275,14 @@ same_numbers text major minor patch major' minor' patch' rest more v w =
     (subst (λ l. BeginsWithNumber l patch rest) (tails second.1) a.third_is) b.third_is in
     (first.0, second.0, third.0, third.1)
 
--- ---- digit by digit
+-- ---- reading digit by digit
 
--- the digits before a place are at the front, and it goes on at it
+-- every byte before the offset is a digit, and the digits at the beginning of the text go on from
+-- there
 abbrev pub GoesOn : List ℕ → ℕ → Type 0
 GoesOn text at = prefix_len is_ascii_digit text ≡ at + prefix_len is_ascii_digit (drop at text)
 
--- at a place where no digit follows, they are all of them
+-- if no digit is at the offset, all digits at the beginning of the text have been read
 pub front_read : (text : List ℕ) (at n : ℕ) → at ≤ length text → prefix_len is_ascii_digit (drop at text) ≡ 0
     → n ≡ digits_value 10 (take at text) → GoesOn text at
     → (n ≡ digits_value 10 (digits_front text)) × (at ≡ length (digits_front text))
@@ -287,7 +292,7 @@ front_read text at n within none is on =
       sym (length-prefix_len is_ascii_digit text ∙ all),
     )
 
--- one digit more
+-- the value after one more digit
 pub value_more : (text : List ℕ) (at n : ℕ) → at < length text → is_ascii_digit (get_or text at 0) ≡ true
     → n ≡ digits_value 10 (take at text) → n * 10 + (get_or text at 0 - 48) ≡ digits_value 10 (take (at + 1) text)
 value_more text at n within digit is =
@@ -299,14 +304,14 @@ pub goes_on : (text : List ℕ) (at : ℕ) → at < length text → is_ascii_dig
     → GoesOn text (at + 1)
 goes_on text at within digit on = omega (arith, on, prefix_len-drop_yes is_ascii_digit text at 0 within digit)
 
--- the digits before a place write no more than all at the front
+-- the value of the digits before the offset is at most that of all digits at the beginning
 pub value_before : (text : List ℕ) (at : ℕ) → GoesOn text at → digits_value 10 (take at text) ≤ digits_value 10 (digits_front text)
 value_before text at on =
     subst (λ l. digits_value 10 l ≤ digits_value 10 (digits_front text))
     (take-take at (prefix_len is_ascii_digit text) text (omega (arith, on)))
     (digits_value-take-le 10 (digits_front text) at (omega arith))
 
--- ---- a part of digits
+-- ---- parts that consist of digits
 
 front_all : (part : List ℕ) → all_ascii_digits part ≡ true → digits_front part ≡ part
 front_all [] all = refl
@@ -321,7 +326,8 @@ all_read part n count small is =
     let value : n ≡ digits_value 10 part = is ∙ ap (digits_value 10) whole in
     (rw all (subst (λ k. nat_lt k (2 ^ 64) ≡ true) value (grind (arith, nat_tests))), value)
 
--- where the digits at the front are too many, or not all, it is none of a number that fits
+-- a part isn't the digits of a number below 2^64 if it contains another byte, or its value is 2^64
+-- or more
 pub none_of_digits : (part : List ℕ) → (digits_front part ≡ part → nat_lt (digits_value 10 part) (2 ^ 64) ≡ false)
     → (all_ascii_digits part && nat_lt (digits_value 10 part) (2 ^ 64)) ≡ false
 none_of_digits part not_small =

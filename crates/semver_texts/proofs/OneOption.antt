@@ -1,5 +1,6 @@
 -- serves: invalid_strings::laws::one_reason_of_number
--- What some call finds is one, if no two things are right.
+-- Two options are equal if each contains a value that has a property, or is `None` because no value
+-- has it, and at most one value has the property.
 use Rattle.std.proofs.Common.{◌≡◌, MatchOption, Option, Some, None, ap, refl}
 
 pub one_option : {A : Type 0} (P : A → Type 0) (a b : Option A) → ((x y : A) → P x → P y → x ≡ y) → MatchOption a (¬ ((x : A) × P x)) P

@@ -1,5 +1,5 @@
 -- serves: semver_texts::dotted::have_no_leading_zeros
--- Parts and dots at the front of a text, byte by byte, where each hyphen may stand.
+-- Parts joined by dots at the beginning of a text, read byte by byte, if hyphens may be anywhere.
 use Rattle.std.proofs.Common.{◌≡◌, ◌∙◌, ℕ, Bool, true, false, ◌&&◌, List, [], ◌∷◌, length, take, refl, sym, ap, subst, arith, one-add}
 use Rattle.std.proofs.Common.{if◌then◌else◌, ◌<◌, length-append}
 use Rattle.std.specs.Prelude.{◌==◌, ◌||◌}
@@ -11,7 +11,7 @@ use Rattle.semver_texts.specs.Texts.{Text, cut_at_dots, has_no_leading_zero, is_
 use Rattle.semver_texts.specs.Steps.DottedParts.{begins_oddly, is_odd, odd_after, runs_stand}
 use Rattle.semver_texts.proofs.Lists.{Passes, all_more, by_test, each_passes, joined_pass}
 
--- the first piece of a text between dots, and the other pieces
+-- the first of the pieces between the dots of a text, and the other pieces
 abbrev pub first_piece : List Text → Text
 first_piece [] = []
 first_piece (w ∷ ws) = w
@@ -24,7 +24,7 @@ pub pieces : (t : Text) → slice_split is_dot t ≡ first_piece (slice_split is
 pieces [] = refl
 pieces (b ∷ t) = grind (arith, pieces t)
 
--- the front that passes, byte by byte
+-- the longest prefix whose bytes pass a test
 abbrev front : (ℕ → Bool) → Text → Text
 front p [] = []
 front p (b ∷ t) = if p b then b ∷ front p t else []
@@ -39,11 +39,12 @@ runs : (t : Text) → let ps : List Text = slice_split is_dot (front is_dotted_b
 runs [] = (refl, refl)
 runs (b ∷ t) = grind (arith, nat_tests, runs t, pieces (front is_dotted_byte t))
 
--- the runs at the front stand exactly where they are parts
+-- a text begins with separated runs if and only if each piece between the dots of its longest
+-- prefix of dotted bytes is a part
 pub runs_ahead : (t : Text) → runs_stand is_part_byte false t ≡ list_all is_part (slice_split is_dot (take (prefix_len is_dotted_byte t) t))
 runs_ahead t = rw (← (front_taken is_dotted_byte t)) (runs t).1
 
--- ---- parts of which none begins with a zero
+-- ---- parts that don't begin with a zero
 
 no_zero_part : (b : ℕ) (t : Text) → (b == 48) ≡ false → has_no_leading_zero (b ∷ t) ≡ true
 no_zero_part b [] e = grind (arith, e)
@@ -67,13 +68,13 @@ pub no_zero_begins : (t : Text) → begins_oddly t ≡ false → list_all has_no
 no_zero_begins [] e = refl
 no_zero_begins (b ∷ t) e = grind (arith, odd (b ∷ t))
 
--- ---- the bytes of parts
+-- ---- parts and the text that joins them
 
 pub joined_cut : (t : Text) → join_with_byte 46 (cut_at_dots t) ≡ t
 joined_cut [] = refl
 joined_cut (b ∷ t) = join_with_byte-slice_split 46 _
 
--- texts without dots, joined by dots, are what is between them
+-- if no text contains a dot, splitting the joined texts at dots gives the texts again
 pub split_joined : (t : Text) (ts : List Text) → AllByRecursion (AllByRecursion (λ b. is_dot b ≡ false)) (t ∷ ts)
     → slice_split is_dot (join_with_byte 46 (t ∷ ts)) ≡ t ∷ ts
 split_joined t [] all = slice_split_none is_dot t (All-from_recursion _ t all.0)
@@ -99,7 +100,7 @@ pub some_cut : (t : Text) → 0 < length t → cut_at_dots t ≡ slice_split is_
 some_cut [] some = absurd (omega (arith, some))
 some_cut (b ∷ t) some = refl
 
--- how many bytes parts have with their mark
+-- the number of bytes of parts with their mark
 pub marked_is : (mark : ℕ) (xs : List Text) (t : Text) → xs ≡ cut_at_dots t → length (marked (mark ∷ []) xs) ≡ marked_length t
 marked_is mark [] [] e = refl
 marked_is mark [] (b ∷ t) e =

@@ -1,5 +1,5 @@
 -- serves: semver_texts::laws::semver_texts_are_npms
--- Version texts by the dialects: those of SemVer 2.0.0 beside npm's and the crate's.
+-- The texts of versions in SemVer 2.0.0, compared with those of npm and of the crate.
 use Rattle.std.proofs.Common.{◌≡◌, ◌^◌, ◌<◌, ◌≤◌, Bool, true, List, [], ◌∷◌, ◌++◌, length, map, codes, decimal}
 use Rattle.std.proofs.Common.{refl, sym, ap, ◌∙◌, subst, inl, append_assoc, append-nil, arith}
 use Rattle.std.specs.Prelude.{IsTrue}
@@ -21,7 +21,7 @@ use Rattle.semver_texts.proofs.Lists.{Passes, all_more, by_test, joined_pass, zi
 use Rattle.semver_texts.proofs.Numbers.{digits_value_number}
 use Rattle.semver_texts.proofs.Runs.{run_is_part}
 
--- ---- what prints
+-- ---- a text that spells a version is the printed text
 
 kept_text : (id : IdentifierValue) (text : Text) → IsKeptAs id text → text ≡ identifier_text id
 kept_text (numeric n) text w = number_numeral text w.0 ∙ ap numeral w.1
@@ -50,7 +50,7 @@ semver_printed v text w =
     ++ marked (codes "+") (kept_texts v.build w.build_texts w.build i)))
     ∙ sym (append_assoc three _ _)
 
--- ---- npm's
+-- ---- texts of SemVer 2.0.0 that npm reads
 
 no_white_space : AreWhiteSpaces []
 no_white_space = record { each = []; are = refl; whole = refl }
@@ -75,7 +75,7 @@ semver_is_npm v text w major minor patch short = (
   short,
 )
 
--- ---- the crate's
+-- ---- texts of the crate that SemVer 2.0.0 contains
 
 run_passes : (run : Text) → IsRun run → Passes is_part_byte run
 run_passes run w = all_more run_is_part run w.1
@@ -95,7 +95,8 @@ runs_are_part ((b ∷ run) ∷ next ∷ runs) some each =
 pub identifier_is_part : (t : Text) → IsIdentifierText t → is_part t ≡ true
 identifier_is_part t w = subst (λ t. is_part t ≡ true) (sym w.joined) (runs_are_part w.runs w.some w.each)
 
--- what spells an identifier is kept as it, with digits of any size
+-- a text that spells an identifier for the crate spells it in SemVer 2.0.0, with digits of any size
+-- as a number
 spelled_kept : (id : IdentifierValue) (text : Text) → SpellsIdentifier id text → IsKeptAs (any_size id) text
 spelled_kept (numeric n) text w =
     let number = is_number_of text (n, w.0, w.1) in (number, digits_value_number text n w.0 w.1)

@@ -1,4 +1,4 @@
--- The dots before this place are counted.
+-- `count` is the number of dots before `at`.
 use Rattle.std.proofs.Common.{◌≡◌, ◌≤◌, take}
 use Rattle.std.specs.List.{count_by}
 use Rattle.semver_texts.specs.Texts.{is_dot}

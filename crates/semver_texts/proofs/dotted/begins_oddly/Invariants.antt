@@ -1,4 +1,4 @@
--- What was read so far decides nothing.
+-- No part after a dot before `at` is empty or begins with a zero, so only the rest decides.
 use Rattle.std.proofs.Common.{◌≡◌, drop}
 use Rattle.semver_texts.specs.Steps.DottedParts.{odd_after}
 use Rattle.semver_texts.proofs.dotted.begins_oddly.Given as goal
