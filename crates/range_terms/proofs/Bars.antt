@@ -1,5 +1,5 @@
 -- serves: range_terms::terms::TermsIterator::next
--- Pairs of bars and blanks, as a loop goes over them.
+-- Lemmas for the loop that skips `||` and blanks.
 use Rattle.std.proofs.Common.{◌≡◌, ℕ, suc, ◌+◌, ◌≤◌, Bool, true, [], ◌∷◌, length, refl, ap, ◌∙◌, ◌&&◌}
 use Rattle.std.proofs.Common.{Some, arith}
 use Rattle.std.proofs.lemmas.Bool.{and_parts, eqb-true, not_from_false}
@@ -27,7 +27,7 @@ module _ (d : Grammar) where
   pub blanks_stop : (t : Text) → stops (is_blank d) (after_blanks d t) ≡ true
   blanks_stop t = back_stops (is_blank d) t
 
-  -- one pair of bars, and the blanks after it
+  -- after one `||`, the count is one more than for the text after it and its blanks
   pub one_pair : (t u : Text) → after_bars t ≡ Some u → after_ranges d t ≡ one_more (after_ranges d (after_blanks d u))
   one_pair [] u e = cc
   one_pair (b ∷ []) u e = cc
@@ -46,7 +46,7 @@ module _ (d : Grammar) where
       let short = blanks_shorter d u in rw same (omega (arith, short)))
       (λ n. absurd (let h = rw n at e in cc))
 
-  -- the loop's invariant before the first pair, and after one
+  -- the loop's invariant before the first `||`, and after one more
   pub none_counted : (text : Text) → after_ranges d text ≡ (0 + (after_ranges d (after_blanks d text)).0, (after_ranges d (after_blanks d text)).1)
   none_counted text = ranges_after text ∙ same (after_ranges d (after_blanks d text))
     where

@@ -1,5 +1,5 @@
 -- serves: range_terms::terms::Terms::try_parse, replaceable
--- The words of a requirement, each of which may be replaced.
+-- Each word of a requirement may be replaced, and the text stays a requirement.
 use Rattle.std.proofs.Common.{◌≡◌, ℕ, suc, ◌+◌, Bool, true, false, not, ◌||◌, ◌&&◌, List, [], ◌∷◌, ◌++◌, length, refl, sym, ap, ◌∙◌, subst, codes}
 use Rattle.std.proofs.Common.{arith, length-append, append_assoc, append-nil}
 use Rattle.std.proofs.lemmas.Bool.{and_from, and_parts, not-true, not_from_false, or_parts, or_right}
@@ -22,11 +22,12 @@ MayStand role p word = SpellsPartial p word × IsTrue (is_partial_of_cargo p && 
 abbrev states_none : List Simple → Bool
 states_none ss = list_any (λ s. states_nothing s.partial) ss
 
--- a comparator that states a number
+-- the text is a comparator that states a number
 abbrev IsComparator : Text → Type 0
 IsComparator t = (s : Simple) × SpellsComparator s t × (states_nothing s.partial ≡ false)
 
--- as many comparators, none of which is a wildcard alone if none of these is
+-- the text is as many comparators as the tree has; if each comparator of the tree states a number,
+-- so does each of these
 abbrev pub AreComparators : List Simple → Text → Type 0
 AreComparators tree t = (made : List Simple) × SpellsComparators made t × (length made ≡ length tree)
     × (states_none tree ≡ false → states_none made ≡ false)
@@ -103,7 +104,7 @@ comparators_places o (s ∷ next ∷ others) t (front, back, spelled, more, whol
       λ all. let parts = or_parts (states_nothing s.partial) (states_none (next ∷ others)) all in rw (parts.0, none parts.1) refl,
     )
 
--- as many comparators make a requirement again
+-- a comparator that states no number is still the only one, so the text is a requirement again
 stand_again : (tree made : List Simple) → length made ≡ length tree → (states_none tree ≡ false → states_none made ≡ false)
     → stands_alone tree ≡ true → stands_alone made ≡ true
 stand_again tree [] same none alone = refl

@@ -1,5 +1,5 @@
 -- serves: range_terms::terms::TermsIterator::next
--- What follows the first dot of a text begins with the next component of its partial.
+-- If a text begins with a component and a dot, that is the text's first dot.
 use Rattle.std.proofs.Common.{◌≡◌, true, [], ◌∷◌, ◌++◌, length, refl, sym, ap, ◌∙◌, arith}
 use Rattle.std.proofs.lemmas.List.Splits.{join_with_byte-slice_split, length-slice_split, slice_split_at}
 use Rattle.std.proofs.lemmas.List.Elements.{All-from_recursion}
@@ -8,7 +8,8 @@ use Rattle.semver_texts.specs.Texts.{Text, is_dot}
 use Rattle.semver_ranges.specs.RangeTree.{is_component}
 use Rattle.semver_ranges.proofs.LongWords.{no_dot}
 
--- a text is cut at the dot after its first component
+-- split at dots, a text that begins with a component and a dot has this component as its first
+-- piece
 cut_here : (word rest : Text) → is_component word ≡ true → slice_split is_dot (word ++ (46 ∷ rest)) ≡ word ∷ slice_split is_dot rest
 cut_here word rest e = slice_split_at is_dot word 46 rest (All-from_recursion _ word (no_dot word e)) refl
 

@@ -1,5 +1,5 @@
 -- serves: range_terms::terms::Terms::try_parse, terms
--- The comparators that are left of a requirement are those that it is cut into.
+-- Reading a requirement from left to right finds the comparators of its tree, at their offsets.
 use Rattle.std.proofs.Common.{◌≡◌, ℕ, ◌+◌, true, false, List, [], ◌∷◌, ◌++◌, length, refl, sym, ap, ◌∙◌, inl}
 use Rattle.std.proofs.Common.{Some, None, arith, length-append, append_assoc, append-nil}
 use Rattle.std.proofs.lemmas.Bool.{and_from}
@@ -28,7 +28,7 @@ form_bare : (f : Form) → is_bare f ≡ true → f ≡ bare
 form_bare bare e = refl
 form_bare _ e = cc
 
--- an operator and the blanks after it
+-- a sign and any blanks after it spell the operator
 signed : (f : Form) (gap : Text) → AreBlanks Cargo gap → is_bare f ≡ false → SpellsForm Cargo f (sign f ++ gap)
 signed bare gap g e = cc
 signed equal gap g e = (gap, g, refl)
@@ -44,7 +44,8 @@ before_signed bare before gap e = cc
 before_signed _ before gap e = refl
 
 module _ (n : ℕ) where
-  -- a comparator without the blanks before it, and what follows its blanks
+  -- a comparator without blanks before it is the first remaining term, and the others are those of
+  -- `rest`
   signed_found : (o : ℕ) (f : Form) (p : PartialTree) (front word after v rest : Text) → SpellsForm Cargo f front
       → SpellsPartial p word → AreBlanks Cargo after → ends_partial v ≡ true → upper_in Cargo n (after ++ v) ≡ (None, rest)
       → n ≡ o + length (front ++ (word ++ (after ++ v)))
@@ -103,7 +104,7 @@ module _ (n : ℕ) where
       ap (terms_left Cargo n 0) text ∙ left_blanks Cargo n 0 before (front ++ (word ++ u)) spelled.before_is ∙ found
       ∙ rw (before_signed s.form before gap m, start, end) refl)
 
-  -- the end of a requirement, and a comma
+  -- no upper version is found after a comparator: the requirement ends, or a comma is skipped
   at_end : (after : Text) → AreBlanks Cargo after → upper_in Cargo n (after ++ []) ≡ (None, [])
   at_end after a = ap (upper_at Cargo n) (blanks_after Cargo after [] a refl)
 

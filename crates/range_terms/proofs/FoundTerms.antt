@@ -1,5 +1,5 @@
 -- serves: range_terms::terms::Terms::try_parse, terms
--- The terms that are left of a whole text are those that it is cut into.
+-- Reading a range text from left to right finds the terms of its tree, at their offsets.
 use Rattle.std.proofs.Common.{◌≡◌, ℕ, suc, ◌+◌, true, false, List, [], ◌∷◌, ◌++◌, length, refl, sym, ap, ◌∙◌, ◌==◌}
 use Rattle.std.proofs.Common.{Some, arith, length-append, append_assoc, append-nil, codes}
 use Rattle.std.proofs.lemmas.Bool.{not-true, not_from_false}
@@ -30,7 +30,7 @@ end_no_comma [] e = refl
 end_no_comma (b ∷ t) e = grind (arith, nat_tests)
 
 module _ (d : Grammar) where
-  -- nothing is before a term
+  -- no `||` and no blank is before a term
   no_ranges : (t : Text) → starts is_simple_byte t ≡ true → after_ranges d t ≡ (0, t)
   no_ranges [] e = cc
   no_ranges (b ∷ []) e = rw (not_blank b [] e) refl
@@ -48,7 +48,8 @@ module _ (d : Grammar) where
         more : (k : ℕ) → k + 0 ≡ k
         more k = omega arith
 
-    -- a simple, before blanks and what no term goes on with
+    -- a term that is followed by blanks, and then by text without a blank, a comma or a hyphen at
+    -- its beginning
     simple_found : (o : ℕ) (s : Simple) (t gap u : Text) (spelled : SpellsSimple d s t) → AreBlanks d gap
         → ends_word d (gap ++ u) ≡ true → stops (is_blank d) u ≡ true → begins_with 44 u ≡ false → begins_with 45 u ≡ false
         → n ≡ o + length (t ++ (gap ++ u)) → terms_left d n k (t ++ (gap ++ u)) ≡ simple_at d k o s t spelled ∷ terms_left d n k u
@@ -67,7 +68,7 @@ module _ (d : Grammar) where
         (next_here (t ++ rest) (simple_starts d s t rest (sign, word, form, spelled, whole))
         ∙ ap (term_here d n k) text ∙ here ∙ rw (none, end) refl)
 
-    -- one or more simples, up to the end of their range
+    -- one or more terms, up to the end of their range
     simples_found : (o : ℕ) (first : Simple) (others : List Simple) (t blanks u : Text) (spelled : SpellsSimples d first others t)
         → AreBlanks d blanks → ends_range u ≡ true → n ≡ o + length (t ++ (blanks ++ u))
         → terms_left d n k (t ++ (blanks ++ u)) ≡ simples_at d k o first others t spelled ++ terms_left d n k u
@@ -86,7 +87,7 @@ module _ (d : Grammar) where
         ∙ ap (λ xs. simple_at d k o first head spelled ∷ xs)
         (simples_found (o + length (head ++ gap)) next others tail blanks u more b e within)
 
-    -- the two words of a hyphen range
+    -- the right side of a hyphen range, and below, the whole hyphen range
     upper_found : (o : ℕ) (right : PartialTree) (gap gap' w v : Text) → AreSomeBlanks d gap → AreSomeBlanks d gap'
         → SpellsWord d after_hyphen right w → ends_word d v ≡ true → n ≡ o + length (w ++ v)
         → upper_in d n (gap ++ (45 ∷ (gap' ++ (w ++ v)))) ≡ (Some (word_at o right w), v)
@@ -139,7 +140,7 @@ module _ (d : Grammar) where
           rest,
         )) end))
 
-    -- a range, between blanks
+    -- a range with blanks after it, and below, with blanks around it
     range_found : (o : ℕ) (r : RangeTree) (t blanks u : Text) (spelled : SpellsRange d r t) → AreBlanks d blanks → ends_range u ≡ true
         → n ≡ o + length (t ++ (blanks ++ u)) → terms_left d n k (t ++ (blanks ++ u)) ≡ range_at d k o r t spelled ++ terms_left d n k u
     range_found o empty t blanks u spelled b e h = rw spelled (left_blanks d n k blanks u b)
@@ -158,7 +159,7 @@ module _ (d : Grammar) where
         ap (terms_left d n k) text ∙ left_blanks d n k before (inner ++ (blanks ++ u)) h
         ∙ range_found (o + length before) r inner blanks u spelled b e within
 
-  -- the terms of a whole text
+  -- the terms of ranges that are separated by `||`
   pub ranges_found : (n k o : ℕ) (tree : SetTree) (t : Text) (spelled : SpellsRangeIn d tree t) → n ≡ o + length t
       → terms_left d n k t ≡ ranges_at d k o tree t spelled
   ranges_found n k o [] t spelled h = absurd spelled

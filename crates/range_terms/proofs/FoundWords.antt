@@ -1,5 +1,5 @@
 -- serves: range_terms::terms::Terms::try_parse, terms
--- The words of a text are found where they are written.
+-- Reading a text finds its words at their offsets.
 use Rattle.std.proofs.Common.{◌≡◌, ℕ, ◌+◌, ◌-◌, true, false, [], ◌∷◌, ◌++◌, length, refl, ap, ◌∙◌}
 use Rattle.std.proofs.Common.{Some, None, arith, length-append}
 use Rattle.semver_texts.specs.Texts.{Text, begins_with}
@@ -15,7 +15,7 @@ begins_same : (w u : Text) → starts is_word_byte w ≡ true → begins_with 11
 begins_same [] u e = cc
 begins_same (b ∷ w) u e = refl
 
--- a word between two rests is at its offset
+-- the offsets of a word follow from the number of bytes that are left before and after reading it
 pub placed : (n o : ℕ) (p : PartialTree) (w u : Text) → starts is_word_byte w ≡ true → n ≡ o + length (w ++ u)
     → word_between n p (w ++ u) u ≡ word_at o p w
 placed n o p w u e h =
@@ -24,7 +24,7 @@ placed n o p w u e h =
     rw (start, end, begins_same w u e) refl
 
 module _ (d : Grammar) (n : ℕ) where
-  -- a word that begins with its partial, or after a `v`
+  -- a word is found, with or without a `v` before its partial version
   pub word_here : (p : PartialTree) (w back u : Text) → SpellsPartial p back → after_v d (w ++ u) ≡ back ++ u → ends_partial u ≡ true
       → version_in d n (w ++ u) ≡ Some (word_between n p (w ++ u) u, u)
   word_here p w back u spelled e ends = rw (e, first_read p back u spelled ends) refl
@@ -36,7 +36,7 @@ module _ (d : Grammar) (n : ℕ) where
       word_here p w word.back u word.spelled (word.after u) (word_ends_partial d u e)
       ∙ ap (λ v. Some (v, u)) (placed n o p w u (word_starts d role p w h) at_o)
 
-  -- no term goes on with a hyphen or a comma
+  -- before a text that begins with neither a comma nor a hyphen, no upper version is found
   pub no_upper : (t : Text) → begins_with 44 t ≡ false → begins_with 45 t ≡ false → upper_at d n t ≡ (None, t)
   no_upper [] e f = refl
   no_upper (b ∷ t) e f = rw (e, f) refl
@@ -45,7 +45,7 @@ module _ (d : Grammar) (n : ℕ) where
       → upper_in d n (gap ++ t) ≡ (None, t)
   no_upper_after gap t g s e f = ap (upper_at d n) (blanks_after d gap t g s) ∙ no_upper t e f
 
-  -- what is before a word is found
+  -- the operator before a word is found, and so the term
   pub form_found : (k o : ℕ) (f : Form) (sign w : Text) → SpellsForm d f sign → starts is_word_byte w ≡ true
       → (v : WrittenVersion) (u : Text) → version_in d n w ≡ Some (v, u) → n ≡ o + length (sign ++ w)
       → term_here d n k (sign ++ w) ≡ Some (term_of k f o v (upper_in d n u).0, k, (upper_in d n u).1)

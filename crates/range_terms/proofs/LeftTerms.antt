@@ -1,5 +1,6 @@
 -- serves: range_terms::terms::TermsIterator::next, steps
--- The terms that are left of a text, without the count that bounds them.
+-- Lemmas about the remaining terms of a text that don't mention the count that bounds the
+-- recursion.
 use Rattle.std.proofs.Common.{◌≡◌, ℕ, zero, suc, ◌+◌, ◌-◌, ◌<◌, ◌≤◌, true, List, [], ◌∷◌, ◌++◌, length, refl, sym, ap, ◌∙◌}
 use Rattle.std.proofs.Common.{Option, Some, None, arith}
 use Rattle.std.proofs.lemmas.Bool.{and_parts}
@@ -28,7 +29,7 @@ module _ (d : Grammar) (n : ℕ) where
   same_others f g m None same h = refl
   same_others f g m (Some found) same h = ap (λ xs. found.0 ∷ xs) (same found.1 found.2 h)
 
-  -- any count that is enough gives the same
+  -- any count that is at least the length of the text gives the same terms
   same_count : (m m' k : ℕ) (t : Text) → length t ≤ m → length t ≤ m' → some_terms d n m k t ≡ some_terms d n m' k t
   same_count zero zero k t h h' = refl
   same_count zero (suc m') k [] h h' = rw (none_left k) refl
@@ -39,7 +40,7 @@ module _ (d : Grammar) (n : ℕ) where
       (λ k' t' less. same_count m m' k' t' (omega (arith, h, less)) (omega (arith, h', less)))
       (next_leaves d n k t)
 
-  -- the terms that are left are the next one and those after it
+  -- the remaining terms are the next one and those after it
   pub left_next : (k : ℕ) (t : Text) → terms_left d n k t ≡ with_others (terms_left d n) (next_term d n k t)
   left_next k t = same_count (length t) (suc (length t)) k t (omega arith) (omega arith)
       ∙ same_others (some_terms d n (length t)) (terms_left d n) (length t) (next_term d n k t)
@@ -49,7 +50,7 @@ module _ (d : Grammar) (n : ℕ) where
   same_left : (k k' : ℕ) (t t' : Text) → next_term d n k t ≡ next_term d n k' t' → terms_left d n k t ≡ terms_left d n k' t'
   same_left k k' t t' e = left_next k t ∙ ap (with_others (terms_left d n)) e ∙ sym (left_next k' t')
 
-  -- blanks and bars before the next term
+  -- blanks before the next term are skipped, and so is `||`, which raises the index of the range
   ranges_blank : (b : ℕ) (t : Text) → is_blank d b ≡ true → after_ranges d (b ∷ t) ≡ after_ranges d t
   ranges_blank b [] e = rw e refl
   ranges_blank b (c ∷ t) e = rw e refl
@@ -73,12 +74,12 @@ module _ (d : Grammar) (n : ℕ) where
       counted : (k m : ℕ) → k + suc m ≡ suc k + m
       counted k m = omega arith
 
-  -- a term that is there
+  -- a next term that was found is the first of the remaining terms
   pub left_step : (k k' : ℕ) (t u : Text) (x : WrittenTerm) → next_term d n k t ≡ Some (x, k', u)
       → terms_left d n k t ≡ x ∷ terms_left d n k' u
   left_step k k' t u x e = left_next k t ∙ ap (with_others (terms_left d n)) e
 
-  -- the next term, as its pieces are read
+  -- the remaining terms, if the pieces of the first one were read
   pub next_read : (k bars : ℕ) (t text word after rest : Text) (form : Form) (v : WrittenVersion) (upper : Option WrittenVersion)
       → (bars, text) ≡ after_ranges d t → (form, word) ≡ operator d text → version_in d n word ≡ Some (v, after)
       → (upper, rest) ≡ upper_in d n after

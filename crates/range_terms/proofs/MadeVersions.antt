@@ -1,5 +1,5 @@
 -- serves: range_terms::terms::TermsIterator::next
--- The version that is made of components is that of their partial.
+-- The components and parts that are read from a word are those of its partial version.
 use Rattle.std.proofs.Common.{◌≡◌, true, List, ◌∷◌, ◌++◌, append_assoc, refl, sym, ap, ◌∙◌}
 use Rattle.std.proofs.lemmas.Bool.{and_parts}
 use Rattle.std.proofs.Common.{Option, Some, None}
@@ -17,11 +17,11 @@ use Rattle.semver_ranges.proofs.ReadingPieces.{PartialAt, component_sound, first
 use Rattle.range_terms.specs.declared.term.Component.{Component}
 use Rattle.range_terms.specs.WrittenTerms.{component_of, major_of, minor_of, patch_of}
 
--- the bytes of parts are the parts joined
+-- a text is its pieces between dots, joined by dots
 pub joined : (parts : List Text) (t : Text) → parts ≡ cut_at_dots t → t ≡ join_with_byte 46 parts
 joined parts t e = sym (joined_cut t) ∙ ap (join_with_byte 46) (sym e)
 
--- a partial at the front of a text has parts in its build
+-- the build metadata of a partial version that was read consists of parts
 partial_parts : (p : PartialTree) (w : Text) → SpellsPartial p w → list_all is_part (build_parts p) ≡ true
 partial_parts (one a) w spelled = refl
 partial_parts (two a b) w spelled = refl
@@ -38,13 +38,14 @@ build_read d t p rest c e written =
     ap (list_all is_part) (sym written.build)
     ∙ found_parts (after_v d t) _ p rest (first_sound (after_v d t) (component (after_v d t)) (component_sound (after_v d t))) e
 
--- the components that are made of those of a partial
+-- the components are those of the partial version
 pub record Made (p : PartialTree) (first : Component) (second third : Option Component) : Type 0 where
   pub major : first ≡ major_of p
   pub minor : second ≡ minor_of p
   pub patch : third ≡ patch_of p
 
--- the pieces of a text that begins with a partial, each after a dot, are its components
+-- if a text begins with a partial version, the components read at its beginning, after its first
+-- dot and after its second one are those of the partial version
 pub components_made : (p : PartialTree) (c : Components) → AreWritten p c → (word rest text second third : Text)
     → SpellsPartial p word → text ≡ word ++ rest
     → ((x r : Text) → is_component x ≡ true → text ≡ x ++ (46 ∷ r) → second ≡ r)

@@ -1,5 +1,5 @@
 -- serves: range_terms::terms::Terms::try_parse, replaceable
--- Where the words of a text are, and that the text is one again with another word there.
+-- The spans of the words of a text. With another word at such a span, the text stays valid.
 use Rattle.std.proofs.Common.{◌≡◌, ℕ, ◌+◌, ◌<◌, true, List, [], ◌∷◌, ◌++◌, length, subst}
 use Rattle.std.proofs.Common.{Some, arith, length-append, append_assoc}
 use Rattle.std.specs.List.{AllByRecursion, list_all}
@@ -11,7 +11,8 @@ use Rattle.range_terms.specs.Replacing.{role_in}
 use Rattle.range_terms.proofs.LowBytes.{is_low}
 use Rattle.range_terms.specs.WrittenTerms.{WrittenTerm, WrittenVersion}
 
--- a word at a span of a whole text, of which this text is the part from an offset on
+-- a word of `t`, and its span in a whole text, in which `t` begins at an offset. With an allowed
+-- word instead of it, `t` is `Good`
 pub record IsPlace (Good : Text → Type 0) (May : PartialTree → Text → Type 0) (t : Text) (offset : ℕ) (span : Span) : Type 0 where
   pub before : Text
   pub word : Text
@@ -23,7 +24,7 @@ pub record IsPlace (Good : Text → Type 0) (May : PartialTree → Text → Type
   pub end : span.end ≡ offset + length before + length word
   pub again : (p : PartialTree) (w : Text) → May p w → Good (before ++ (w ++ after))
 
--- the place in a longer text
+-- the same word in a longer text
 pub within : {Good Good' : Text → Type 0} {May : PartialTree → Text → Type 0} {span : Span} (front t back : Text) (offset offset' : ℕ)
     → offset' ≡ offset + length front → ((t' : Text) → Good t' → Good' (front ++ (t' ++ back)))
     → IsPlace Good May t offset' span → IsPlace Good' May (front ++ (t ++ back)) offset span
@@ -60,7 +61,7 @@ all_within Good Good' May front t back offset offset' o more xs all = all_more
     })
     xs all
 
--- of the parts of a list
+-- a property that holds for all elements of two lists holds for all elements of the joined list
 pub both : {X : Type 0} (P : X → Type 0) (xs ys : List X) → AllByRecursion P xs → AllByRecursion P ys → AllByRecursion P (xs ++ ys)
 both P [] ys all others = others
 both P (x ∷ xs) ys all others = (all.0, both P xs ys all.1 others)

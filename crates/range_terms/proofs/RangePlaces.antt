@@ -1,5 +1,5 @@
 -- serves: range_terms::terms::Terms::try_parse, replaceable
--- The words of a text of ranges, each of which may be replaced.
+-- Each word of a range text may be replaced, and the text stays a range text.
 use Rattle.std.proofs.Common.{◌≡◌, ℕ, suc, ◌+◌, ◌<◌, true, List, [], ◌∷◌, ◌++◌, length, refl, sym, ap, ◌∙◌, subst, codes}
 use Rattle.std.proofs.Common.{arith, length-append, append_assoc, append-nil}
 use Rattle.semver_texts.specs.Texts.{Text}
@@ -51,7 +51,7 @@ module _ (d : Grammar) where
   moved : (Good : Text → Type 0) (o : ℕ) (xs : List WrittenTerm) (t u : Text) → t ≡ u → AllPlaces Good May u o xs → AllPlaces Good May t o xs
   moved Good o xs t u e all = subst (λ x. AllPlaces Good May x o xs) (sym e) all
 
-  -- the word of a simple
+  -- the word of a term
   simple_place : (k o : ℕ) (s : Simple) (t : Text) (spelled : SpellsSimple d s t) → ArePlaces IsSimple May t o (simple_at d k o s t spelled)
   simple_place k o s t (front, word, form, spelled, whole) = record {
     version = subst (λ role. IsPlace IsSimple (May role) t o (simple_at d k o s t (front, word, form, spelled, whole)).version.span)
@@ -106,7 +106,7 @@ module _ (d : Grammar) where
               (simples_places (o + length (front ++ gap)) next others back more)),
         )
 
-    -- the two words of a hyphen range
+    -- the words of a range: those of its terms, or both words of a hyphen range
     range_places : (o : ℕ) (r : RangeTree) (t : Text) (spelled : SpellsRange d r t) → AllPlaces IsRange May t o (range_at d k o r t spelled)
     range_places o empty t spelled = tt
     range_places o (simples first others) t spelled =

@@ -1,5 +1,5 @@
 -- serves: range_terms::terms::Terms::try_parse, replaceable
--- A text of a dialect is one again with another word at the place of one.
+-- A range text of a dialect stays one if one of its words is replaced.
 use Rattle.std.proofs.Common.{◌≡◌, ◌+◌, ◌<◌, true, ◌&&◌, List, [], ◌∷◌, ◌++◌, length, take, drop, get_or, refl, sym, ap, ◌∙◌, subst}
 use Rattle.std.proofs.Common.{arith, length-append, append_assoc}
 use Rattle.std.proofs.Math.Seq.{drop-append_seam, get_or-append_seam, take-append_seam}
@@ -27,7 +27,7 @@ use Rattle.range_terms.proofs.LowBytes.{is_low, word_low}
 use Rattle.range_terms.proofs.Places.{AllPlaces, IsPlace}
 use Rattle.range_terms.proofs.RangePlaces.{AreRanges, ranges_places}
 
--- the text with other bytes at a place
+-- the text with other bytes at the span of a word
 text_replaced : (t before word after w : Text) (span : Span) → t ≡ before ++ (word ++ after) → span.start ≡ 0 + length before
     → span.end ≡ 0 + length before + length word → replaced t span w ≡ before ++ (w ++ after)
 text_replaced t before word after w span text start end =
@@ -37,7 +37,7 @@ text_replaced t before word after w span text start end =
     let back : drop span.end t ≡ after = rw (to, text, ← append_assoc before word after) (drop-append_seam (before ++ word) after) in
     rw (front, back) refl
 
--- ---- npm's characters
+-- ---- the characters that npm allows
 
 abbrev Stands : Text → Type 0
 Stands t = list_all may_stand (chars t) ≡ true
@@ -62,7 +62,7 @@ joined_chars t u utf8 = ap (list_all may_stand) (chars-append t u utf8) ∙ list
 low_utf8 : (w : Text) → list_all is_low w ≡ true → IsUtf8 w
 low_utf8 w e = IsUtf8-from_ascii w (ascii w e)
 
--- before a byte of ASCII a text may be cut
+-- in a UTF-8 text, the bytes before a word of ASCII are UTF-8
 front_utf8 : (t before word after : Text) → t ≡ before ++ (word ++ after) → IsUtf8 t → 0 < length word → list_all is_low word ≡ true → IsUtf8 before
 front_utf8 t before [] after text utf8 some e = absurd (omega (arith, some))
 front_utf8 t before (b ∷ word) after text utf8 some e =
@@ -86,7 +86,8 @@ stands_again t before word after w text utf8 stands some e f =
 -- ---- each dialect
 
 module _ (d : Dialect) (t : Text) where
-  -- what holds of the text at each place
+  -- replacing a word of the text gives a range text of the dialect, if the new word is allowed
+  -- there and the new text is `Good`
   abbrev Goes : (Text → Type 0) → (Role → PartialTree → Text → Type 0) → Type 0
   Goes Good May = (before word after w : Text) (role : Role) (p : PartialTree) → t ≡ before ++ (word ++ after) → 0 < length word
       → list_all is_low word ≡ true → May role p w → Good (before ++ (w ++ after)) → IsTextAs d (before ++ (w ++ after))

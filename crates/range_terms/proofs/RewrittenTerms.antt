@@ -1,5 +1,6 @@
 -- serves: range_terms::terms::Terms::try_parse, rewritable
--- Each version of a term is written in the text, and may be replaced by itself with other numbers.
+-- Each version of a term is written as a word of the text. With the numbers of another version, it
+-- may replace this word.
 use Rattle.std.proofs.Common.{◌≡◌, ℕ, suc, ◌+◌, ◌≤◌, Bool, true, false, not, ◌||◌, ◌&&◌, if◌then◌else◌, List, [], ◌∷◌, ◌++◌}
 use Rattle.std.proofs.Common.{Some, length, map, refl, sym, ap, ◌∙◌, subst, arith, codes, inl, inr, length-append, one-add}
 use Rattle.std.specs.Prelude.{◌==◌, IsTrue, nat_le, take_while}
@@ -106,7 +107,7 @@ states_number : (x : Text) (xs : List Text) → is_wildcard x ≡ false
     → is_empty (map (digits_value 10) (take_while (λ c. not (is_wildcard c)) (x ∷ xs))) ≡ false
 states_number x xs e = rw (e, one-add) refl
 
--- the first component of a written version is that of its partial version
+-- if the first component of a written version is a number, so is that of its partial version
 major_number : (p : PartialTree) (x : WrittenVersion) (has_v : Bool) → x ≡ version_of x.span has_v p
     → rewriting.is_number (Some x.major) ≡ true → rewriting.is_number (Some (major_of p)) ≡ true
 major_number p x has_v is e = ap (λ (y : WrittenVersion). rewriting.is_number (Some y.major)) (sym is) ∙ e
@@ -164,7 +165,8 @@ pres_short (t ∷ u ∷ ts) h =
     let long = length-append t (46 ∷ join_with_byte 46 (u ∷ ts)) in
     and_from _ _ (pre_short t (omega (arith, h, long))) (pres_short (u ∷ ts) (omega (arith, h, long)))
 
--- the parts after three components are shorter by six bytes than the whole
+-- if a version with three components has at most 256 bytes, no part of its pre-release is too long,
+-- since at least six bytes are before the pre-release
 after_three : (a b c : Text) (pre : List Text) (n : ℕ) → is_component a ≡ true → is_component b ≡ true → is_component c ≡ true
     → length (join_with_byte 46 (a ∷ b ∷ c ∷ []) ++ (marked (codes "-") pre ++ [])) ≤ n → n ≤ 256
     → list_all is_short_pre pre ≡ true
@@ -329,7 +331,7 @@ zipped : {X : Type 0} {P Q R : X → Type 0} → ((x : X) → P x → Q x → R 
 zipped f [] p q = tt
 zipped f (x ∷ xs) p q = (f x p.0 q.0, zipped f xs p.1 q.1)
 
--- words that may replace the written ones
+-- with the numbers of a version of the dialect, a written version is a word that may replace it
 abbrev MakesWords : Dialect → (Role → PartialTree → Text → Type 0) → Type 0
 MakesWords d Good = (role : Role) (x : WrittenVersion) (v : VersionRefValue) (read : Text) → IsVersionRefIn (grammar_of d) read v
     → (w : IsWrittenAs (Good role) x) → MayBecome d x (text_with x v) → MayReplace d role (partial_with w.tree v) (text_with x v)

@@ -1,5 +1,5 @@
 -- serves: range_terms::terms::Terms::try_parse, rewritable
--- The text of a version of a term with other numbers, and the partial version that it spells.
+-- The text of a term's version with other numbers, and the partial version that it spells.
 use Rattle.std.proofs.Common.{◌≡◌, ℕ, ◌<◌, ◌^◌, Bool, true, false, not, ◌||◌, ◌&&◌, if◌then◌else◌, List, [], ◌∷◌, ◌++◌}
 use Rattle.std.proofs.Common.{Some, refl, sym, ap, ◌∙◌, subst, arith, append_assoc, codes}
 use Rattle.std.specs.Prelude.{decimal, encode_utf8, slice_index}
@@ -25,7 +25,8 @@ use Rattle.range_terms.specs.Rewriting as rewriting
 use Rattle.range_terms.specs.WrittenTerms.{component_of, version_of}
 use Rattle.range_terms.specs.WrittenTexts.{component_text, part_text}
 
--- a component with another number, and a partial version with other numbers and another pre-release
+-- a component with another number, a partial version with the numbers and the pre-release of
+-- another version, and the text of this partial version
 abbrev pub with_number : ℕ → Text → Text
 with_number n a = if is_wildcard a then a else decimal n
 
@@ -113,7 +114,7 @@ module _ (span : Span) (has_v : Bool) (v : VersionRefValue) where
 
 -- ---- a version of a dialect
 
--- its numbers fit, and its pre-release has parts that may begin as the dialect says
+-- its numbers fit, its pre-release consists of parts, and the grammar allows their leading zeros
 pub record IsOfGrammar (d : Grammar) (v : VersionRefValue) : Type 0 where
   pub major : fits_u64 v.major ≡ true
   pub minor : fits_u64 v.minor ≡ true

@@ -1,5 +1,5 @@
 -- serves: range_terms::terms::TermsIterator::next
--- What is left of a text after its pieces is shorter.
+-- After a piece of a text is read, the rest of the text is shorter.
 use Rattle.std.proofs.Common.{◌≡◌, ℕ, suc, ◌+◌, ◌<◌, ◌≤◌, Bool, true, [], ◌∷◌, length, sym, ap, ◌∙◌}
 use Rattle.std.proofs.Common.{Option, Some, None, arith, length-append, ◌==◌, ◌&&◌}
 use Rattle.std.specs.Prelude.{option_map}
@@ -27,7 +27,7 @@ no_longer_v Npm (b ∷ t) = by_test (b == 118)
     (λ e. rw e (omega arith))
     (λ e. rw e (omega arith))
 
--- components are at least a byte
+-- if a piece was found, the rest after it has fewer than `n` bytes
 abbrev pub IsShorter : {X : Type 0} → ℕ → Option (X × Text) → Type 0
 IsShorter n None = Unit {0}
 IsShorter n (Some found) = length found.1 < n
@@ -52,7 +52,7 @@ module _ (d : Grammar) where
   pub operator_shorter : (t : Text) → length (operator d t).1 ≤ length t
   operator_shorter t = form_shorter t (operator d t) (operator_sound d t)
 
-  -- each pair of bars is two bytes
+  -- the number of `||` and the length of the rest are together at most the length of the text
   pub ranges_shorter : (t : Text) → (after_ranges d t).0 + length (after_ranges d t).1 ≤ length t
   ranges_shorter [] = omega arith
   ranges_shorter (b ∷ []) = by_test (is_blank d b)
@@ -93,7 +93,7 @@ module _ (d : Grammar) where
     pub upper_shorter : (t : Text) → length (upper_in d n t).1 ≤ length t
     upper_shorter t = let h = at_shorter (after_blanks d t) in let k = blanks_shorter t in omega (arith, h, k)
 
-    -- a term is at least a byte
+    -- if a term was found, the rest after it has fewer than `m` bytes
     abbrev pub Leaves : ℕ → Option (WrittenTerm × ℕ × Text) → Type 0
     Leaves m None = Unit {0}
     Leaves m (Some found) = length found.2 < m
@@ -123,7 +123,7 @@ rest_shorter d t u rest p v e =
     shorter : {o : Option (PartialTree × Text)} → o ≡ Some (p, rest) → IsShorter (length t) o → length rest < length t
     shorter e h = rw e at h
 
--- what follows blanks, and a byte after them
+-- the rest after blanks isn't longer than the text, and after blanks and a byte it is shorter
 pub gap_within : (d : Grammar) (t gap : Text) → gap ≡ after_blanks d t → length gap ≤ length t
 gap_within d t gap e = rw e (blanks_shorter d t)
 

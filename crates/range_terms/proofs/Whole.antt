@@ -1,5 +1,5 @@
 -- serves: range_terms::terms::Terms::try_parse, terms
--- The terms of a whole text of each dialect.
+-- The terms that are found in a text of each dialect are those of its tree.
 use Rattle.std.proofs.Common.{◌≡◌, length, arith}
 use Rattle.semver_texts.specs.Texts.{Text}
 use Rattle.semver_texts.specs.declared.grammar.Grammar.TheVariants as grammar

@@ -4,7 +4,8 @@ use Rattle.semver_ranges.proofs.WrittenPieces.{stops}
 use Rattle.range_terms.specs.Steps.{after_ranges}
 use Rattle.range_terms.proofs.terms.after_ranges.Given as goal
 
--- what is found is so many pairs of bars, and what is found from the rest on, which begins with no blank
+-- the result for the text is that for the rest, with a count that is higher by `bars`; the rest is
+-- shorter by at least `bars`, and doesn't begin with a blank
 abbrev pub invariant-loop-after : goal.invariant-loop-after
 invariant-loop-after l =
     (after_ranges l.grammar l.text ≡ (l.bars + (after_ranges l.grammar l.rest).0, (after_ranges l.grammar l.rest).1))
