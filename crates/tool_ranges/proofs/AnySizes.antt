@@ -1,5 +1,5 @@
 -- serves: tool_ranges::cargo::rewrite
--- The comparators of the tools' tables, with identifiers of digits as numbers of any size.
+-- The comparators of Cargo's and npm's tables, with identifiers of digits as numbers of any size.
 use Rattle.std.proofs.Common.{◌≡◌, ℕ, Bool, true, ◌&&◌, ◌||◌, ◌==◌, List, [], ◌∷◌, ◌++◌, map, length, refl, ap, ◌∙◌}
 use Rattle.std.proofs.Common.{if◌then◌else◌}
 use Rattle.std.proofs.lemmas.List.{map-append}
@@ -26,11 +26,9 @@ use Rattle.tool_ranges.specs.AnySize.{comparator_any, range_any, set_any}
 use Rattle.tool_ranges.specs.NpmMeaning.{asks_nothing_by, is_zero}
 use Rattle.tool_ranges.specs.ToolTable.{begins_above, ends_below, written_in}
 
--- ---- comparators as they are in memory
-
 -- ---- tables
 
--- the pre-release of a partial
+-- the pre-release of a partial version, with identifiers of digits as numbers of any size
 abbrev pub pre_any : PartialTree → List IdentifierValue
 pre_any p = map any_size (pre_release p)
 
@@ -45,7 +43,7 @@ cell_any (between k) s z = refl
 abbrev pub written_any : Compat → Simple → List PlainComparator
 written_any mode s = map comparator_any (written_in mode s)
 
--- the comparators of a table, of a partial that states another pre-release
+-- the comparators of a term by the table, if `z` were its zero-filled version
 abbrev pub written_at : Compat → Simple → PlainVersion → List PlainComparator
 written_at mode s z =
     if begins_above s then comparator Gte (up (length (stated s.partial)) (stated s.partial)) ∷ []
@@ -58,7 +56,7 @@ written_any_is mode s =
     (λ n. by_test (ends_below mode s) (λ y. rw (n, y) refl)
     (λ m. rw (n, m) (cell_any (cell mode s.form (stated s.partial)) (stated s.partial) (zero_filled s.partial))))
 
--- ---- ranges and sets of a table
+-- ---- ranges and sets
 
 map_flat : {X : Type 0} (f : PlainComparator → PlainComparator) (g : X → List PlainComparator) (xs : List X)
     → map f (flat_map g xs) ≡ flat_map (λ x. map f (g x)) xs
@@ -111,11 +109,11 @@ release_ranges : (v : PlainVersion) (rs : List PlainRange) → is_empty v.pre �
 release_ranges v [] e = refl
 release_ranges v (r ∷ rs) e = λ i. release_comparators v r.comparators e i || release_ranges v rs e i
 
--- a release meets them so, too
+-- a release satisfies a set with such identifiers if and only if it satisfies the set itself
 pub release_set : (v : PlainVersion) (s : PlainSet) → is_empty v.pre ≡ true → meets_set v (set_any s) ≡ meets_set v s
 release_set v s e = release_ranges v s.ranges e
 
--- ---- what npm matches everything by
+-- ---- terms that match everything in npm's dialect
 
 pub zero_any : (v : PlainVersion) → is_zero (plain_by AnySize v) ≡ is_zero v
 zero_any v = ap (λ b. list_all (λ n. n == 0) (numbers v) && b) (by_empty AnySize v.pre)
@@ -124,11 +122,9 @@ pub asks_any : (form : Form) (s : List ℕ) (z : PlainVersion)
     → asks_nothing_by form (is_empty s) (is_zero (plain_by AnySize z)) ≡ asks_nothing_by form (is_empty s) (is_zero z)
 asks_any form s z = ap (asks_nothing_by form (is_empty s)) (zero_any z)
 
--- ---- where each pre-release counts
+-- ---- requirements
 
--- ---- Cargo's pre-releases
-
--- one range of what is made of each simple
+-- changing the identifiers of the comparators of all terms is changing those of each term
 pub one_range_any : (made : Simple → List PlainComparator) (tree : List Simple)
     → map comparator_any (flat_map made tree) ≡ flat_map (λ s. map comparator_any (made s)) tree
 one_range_any made tree = map_flat comparator_any made tree

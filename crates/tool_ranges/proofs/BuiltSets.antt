@@ -1,5 +1,5 @@
 -- serves: tool_ranges::version_range::VersionRange::parse
--- What a set that is being built has at the end of a range and of a text.
+-- The versions of a set that is being built, at the end of a range and at the end of the text.
 use Rattle.std.proofs.Common.{◌≡◌, Bool, true, false, not, ◌&&◌, ◌||◌, if◌then◌else◌, refl, sym}
 use Rattle.semver_texts.specs.Texts.{is_empty}
 use Rattle.semver_texts.specs.Versions.{PlainVersion}
@@ -10,7 +10,8 @@ use Rattle.tool_ranges.specs.declared.dialect.Dialect.TheVariants.{Cargo, Npm, C
 use Rattle.tool_ranges.specs.declared.matching.Progress.{Progress}
 use Rattle.tool_ranges.specs.Steps.Matching.{counts, said, takes_releases}
 
--- releases of a range, and the pre-releases of it that count
+-- adding the releases of a range and its pre-releases that count, in either order, adds every
+-- version that satisfies the range and counts in it
 kinds : (e o h c : Bool) → (e ≡ true → c ≡ true) → ((o || (e && h)) || (not e && (h && c))) ≡ (o || (h && c))
 kinds e true h c counted = refl
 kinds true false true c counted = sym (counted refl)
@@ -39,7 +40,8 @@ pub last_kinds : (all : Bool) (v : PlainVersion) (o h s : Bool)
     → ((o || (not (is_empty v.pre) && (h && (counts all v || s)))) || (is_empty v.pre && h)) ≡ (o || (h && (counts all v || s)))
 last_kinds all v o h s = kinds_last (is_empty v.pre) o h (counts all v || s) (release_counts all v s)
 
--- where some range of npm matches everything
+-- in npm's dialect, unless every pre-release within the bounds counts: if some range matches
+-- everything, exactly the releases satisfy the text
 and_itself : (b : Bool) → (b && b) ≡ b
 and_itself true = refl
 and_itself false = refl
@@ -71,7 +73,8 @@ every_said CrateNpm rule v p e = absurd (no p.every e) where
   no true e = cc
   no false e = cc
 
--- and where none does: what is met, and of that the releases alone
+-- otherwise, a version satisfies the text if it satisfies some range; with `Excluded`, it has to be
+-- a release, too
 abbrev pub met_of : PreReleases → PlainVersion → Progress → Bool
 met_of Excluded v p = is_empty v.pre && p.met
 met_of rule v p = p.met

@@ -1,5 +1,6 @@
 -- serves: tool_ranges::npm::rewrite_included
--- Between the sides of Cargo's table and of the crate's are the versions that a term means.
+-- The versions that satisfy a term in Cargo's or the crate's dialects are those between the sides
+-- in the dialect's table.
 use Rattle.std.proofs.Common.{◌≡◌, ℕ, Bool, true, false, not, ◌&&◌, ◌||◌, ◌==◌, List, [], ◌∷◌, length}
 use Rattle.std.proofs.Common.{refl, sym, ap, ◌∙◌, rules}
 use Rattle.std.proofs.Math.Bool.{and-true, and-false, or-false}
@@ -28,7 +29,7 @@ both_no true = refl
 both_no false = refl
 
 module _ (v : PlainVersion) where
-  -- ---- at the zero-filled version
+  -- ---- bounds that begin at the zero-filled version
   exact_block : {s : List ℕ} {k : ℕ} → Spot s k → (p : List IdentifierValue) → (is_ge (precedence v (filled s p)) && agrees k s v)
       ≡ (is_ge (precedence v (filled s p)) && not (is_gt (first_numbers k v (filled s p))))
   exact_block spot p = agrees_within v spot p _ (from_first v spot p)
@@ -38,7 +39,7 @@ module _ (v : PlainVersion) where
       ≡ (is_ge (precedence v (filled s p)) && not (is_gt (first_numbers (leading_place s) v (filled s p))))
   exact_caret spot p = past_zeros_within v spot p _ (from_first v spot p)
 
-  -- ---- three numbers, in the crate's modes and to Cargo
+  -- ---- three stated numbers, in the crate's dialects
   three_cargo : (form : Form) (x y w : ℕ) (p : List IdentifierValue)
       → meets_form mode.Cargo form (x ∷ y ∷ w ∷ []) (filled (x ∷ y ∷ w ∷ []) p) v
       ≡ is_within CrateCargo form (x ∷ y ∷ w ∷ []) (filled (x ∷ y ∷ w ∷ []) p) v
@@ -63,7 +64,7 @@ module _ (v : PlainVersion) where
   three_npm bare x y w p = sym (both_eq _)
   three_npm equal x y w p = sym (both_eq _)
 
-  -- ---- fewer, in the crate's modes
+  -- ---- fewer stated numbers, in the crate's dialects
   abbrev OwnCell : Compat → Dialect → Form → List ℕ → List IdentifierValue → Type 0
   OwnCell compat dialect form s p = meets_stated compat form s (filled s p) v ≡ is_within dialect form s (filled s p) v
 
@@ -99,7 +100,7 @@ module _ (v : PlainVersion) where
   own_within form (Shape.two x y) p none = rw (none refl) (own_two form x y)
   own_within form (Shape.three x y w) p none = (three_cargo form x y w p, three_npm form x y w p)
 
-  -- ---- Cargo, where each pre-release within the bounds counts
+  -- ---- Cargo's dialect, with every pre-release within the bounds
   abbrev AllCell : Form → List ℕ → List IdentifierValue → Type 0
   AllCell form s p = meets_by_count Included form s (filled s p) v ≡ is_within Cargo form s (filled s p) v
 
@@ -157,7 +158,7 @@ module _ (v : PlainVersion) where
   cargo_all form (Shape.two x y) p none = rw (none refl) (all_two form x y)
   cargo_all form (Shape.three x y w) p none = three_cargo form x y w p ∙ three_as form x y w p
 
-  -- ---- of releases
+  -- ---- Cargo's dialect by default, for releases
   module _ (release : v.pre ≡ []) where
     abbrev ReleaseCell : Form → List ℕ → List IdentifierValue → Type 0
     ReleaseCell form s p = meets_by_count Default form s (filled s p) v ≡ is_within Cargo form s (filled s p) v
@@ -195,7 +196,7 @@ module _ (v : PlainVersion) where
     cargo_release form (Shape.two x y) p none = rw (none refl) (release_two form x y)
     cargo_release form (Shape.three x y w) p none = three_cargo form x y w p ∙ three_as form x y w p
 
-  -- ---- of pre-releases
+  -- ---- Cargo's dialect by default, for pre-releases
   module _ (pre_release : is_empty v.pre ≡ false) where
     abbrev CountedCell : Form → List ℕ → List IdentifierValue → Type 0
     CountedCell form s p = meets_by_count Default form s (filled s p) v ≡ is_counted_within Cargo form s (filled s p) v

@@ -1,5 +1,5 @@
 -- serves: tool_ranges::laws::prefixes_begin_prefixes
--- How the prefixes of requirements, as Cargo reads them, are completed.
+-- Each prefix of a requirement can be completed by one of a few texts.
 use Rattle.std.proofs.Common.{◌≡◌, ℕ, ◌≤◌, ◌⊎◌, inl, inr, Bool, true, false, List, [], ◌∷◌, ◌++◌, codes, length, refl, sym, ap, ◌∙◌, arith}
 use Rattle.std.proofs.Common.{append-nil, append_assoc, rules, subst}
 use Rattle.std.specs.Prelude.{◌&&◌, ◌||◌, ◌==◌, map, not, take_while}
@@ -25,7 +25,7 @@ use Rattle.tool_ranges.proofs.PartialCompletions.{Partial, build_mark, cases, co
 use Rattle.tool_ranges.proofs.PartialCompletions.{spelled_three, spelled_two, three_is, three_text, two_text}
 use Rattle.tool_ranges.proofs.WordCompletions.{build, no_digits}
 
--- ---- partials that state a number
+-- ---- partial versions that state a number
 
 abbrev IsNumber : Text → Type 0
 IsNumber t = is_number t ≡ true
@@ -76,14 +76,14 @@ WildPatch = Partial IsNumber IsNumber IsWild IsNothing
 abbrev WildMinor : Text → Type 0
 WildMinor = Partial IsNumber IsWild IsWild IsNothing
 
--- a partial that Cargo reads, and that states a number
+-- the text of a partial version that Cargo accepts and that states a number
 abbrev IsStated : PartialTree → Text → Type 0
 IsStated p t = SpellsPartial p t × (is_partial_of_cargo p ≡ true) × (states_nothing p ≡ false)
 
 abbrev IsStatedText : Text → Type 0
 IsStatedText t = (p : PartialTree) × IsStated p t
 
--- whether a partial states nothing depends on its first component
+-- components state no number if and only if the first one is a wildcard
 abbrev states_none : List Text → Bool
 states_none cs = is_empty (map (digits_value 10) (take_while (λ c. not (is_wildcard c)) cs))
 
@@ -122,7 +122,7 @@ numbers_from t w = elim (cases IsNumber IsNumber IsNumber Marks t w) [
   ]
 ]
 
--- those with wildcards at their end
+-- partial versions that end in wildcards
 module _ (B C : Text → Type 0) (of_b : (t : Text) → B t → is_component t ≡ true) (of_c : (t : Text) → C t → is_component t ≡ true)
     (two_read : (a b : Text) → IsNumber a → B b → is_partial_of_cargo (two a b) ≡ true)
     (three_read : (a b c : Text) → IsNumber a → B b → C c → is_partial_of_cargo (three a b c [] []) ≡ true) where
@@ -165,7 +165,7 @@ stated_from t (inl w) = numbers_from t w
 stated_from t (inr (inl w)) = patch_from t w
 stated_from t (inr (inr w)) = minor_from t w
 
--- the first component of what states a number
+-- if components state a number, the first one is a number
 first_number : (a : Text) (cs : List Text) → is_component a ≡ true → states_none (a ∷ cs) ≡ false → IsNumber a
 first_number a cs e n = number_is a e (sym (none_stated a cs) ∙ n)
 
@@ -177,7 +177,7 @@ or_second : (x y : Bool) → y ≡ false → (x || y) ≡ true → x ≡ true
 or_second true y n e = refl
 or_second false y n e = absurd (cc)
 
--- with fewer than three numbers
+-- with a wildcard among three components, fewer than three numbers are stated
 one_number : (a b c : Text) (pre build : List Text) → is_wildcard a ≡ false → is_wildcard b ≡ true
     → (length (stated (three a b c pre build)) == 3) ≡ false
 one_number a b c pre build x y = rw (x, y) refl
@@ -264,7 +264,7 @@ sign_prefix b t rest (caret, e) = one_byte caret 94 b t rest refl e
 signs : CompletesBy in_bytes IsSignText [] ([] ∷ [])
 signs = closed IsSignText [] (bare, refl) refl (λ t is. omega arith) sign_prefix
 
--- ---- comparators: those that state a number, and the one for every release
+-- ---- comparators that state a number, and the wildcard that matches every release
 
 abbrev IsStatedComparator : Text → Type 0
 IsStatedComparator t = (s : Simple) × SpellsComparator s t × (states_nothing s.partial ≡ false)
@@ -347,7 +347,7 @@ every_from t w = let wild = w.in_second in (
   none_stated wild.first [] ∙ wild.in_first,
 )
 
--- what states nothing is a wildcard without an operator
+-- a comparator that Cargo accepts and that states no number has no operator and only one component
 every_is : (s : Simple) → is_of_cargo s ≡ true → states_nothing s.partial ≡ true → (is_bare s.form ≡ true) × (is_one s.partial ≡ true)
 every_is s e n =
     let every = and_parts (is_partial_of_cargo s.partial) (is_every s || not (states_nothing s.partial)) e in

@@ -1,5 +1,6 @@
 -- serves: tool_ranges::npm::rewrite_included
--- How sides of the zero-filled version of stated numbers go with agreement and comparison.
+-- On which side of a zero-filled version a version is, expressed by agreement and comparison with
+-- the stated numbers.
 use Rattle.std.proofs.Common.{◌≡◌, ℕ, Bool, true, false, not, ◌&&◌, ◌||◌, ◌==◌, nat_eq, List, [], ◌∷◌}
 use Rattle.std.proofs.Common.{refl, ap, ◌∙◌}
 use Rattle.std.specs.Ordering.{nat_cmp, ordering_then, is_eq, is_lt, is_le, is_gt, is_ge}
@@ -17,7 +18,7 @@ use Rattle.version_sets.specs.Steps.Cuts.{first_numbers}
 use Rattle.tool_ranges.specs.CargoMeaning.{against}
 use Rattle.tool_ranges.proofs.ReadMeanings.{step, after, not_less, is_less}
 
--- ---- any orders
+-- ---- orderings
 pub not_ge : (o : Ordering) → not (is_ge o) ≡ is_lt o
 not_ge Less = refl
 not_ge Equal = refl
@@ -43,7 +44,7 @@ ge_parts Less = refl
 ge_parts Equal = refl
 ge_parts Greater = refl
 
--- ---- the first numbers against stated ones, and what follows them
+-- ---- the first numbers compared with the stated ones, and then what follows them
 within : {g : Ordering → Ordering} {e m : Bool} → Step g e m → (f : Bool) → (f ≡ true → is_ge (g Equal) ≡ true)
     → (f && e) ≡ (f && not (is_gt (g Equal)))
 within Step.lower f h = by_test f (λ y. absurd (no_less (h y))) (λ n. rw n refl) where
@@ -62,7 +63,7 @@ same_ge Step.lower o h = refl
 same_ge Step.level o h = h
 same_ge Step.higher o h = refl
 
--- a place among stated numbers
+-- a position among one, two or three stated numbers
 pub data Spot : List ℕ → ℕ → Type 0 where
   first_of_one : (x : ℕ) → Spot (x ∷ []) 1
   first_of_two : (x y : ℕ) → Spot (x ∷ y ∷ []) 1
@@ -92,7 +93,8 @@ module _ (v : PlainVersion) where
       (agrees 3 (x ∷ y ∷ w ∷ []) v) (nat_eq v.major x && (nat_eq v.minor y && (nat_eq v.patch w && true)))
   three_steps x y w = after (step v.major x) (after (step v.minor y) (after (step v.patch w) Step.level))
 
-  -- what isn't below the first numbers agrees with them, exactly if it isn't above all with them
+  -- if the first `k` numbers of a version aren't below the stated ones, they agree with these if
+  -- and only if they aren't above them
   pub agrees_within : {s : List ℕ} {k : ℕ} → Spot s k → (p : List IdentifierValue) → (f : Bool)
       → (f ≡ true → is_ge (first_numbers k v (filled s p)) ≡ true)
       → (f && agrees k s v) ≡ (f && not (is_gt (first_numbers k v (filled s p))))
@@ -108,7 +110,8 @@ module _ (v : PlainVersion) where
       → (f && agrees_past_zeros s (numbers v)) ≡ (f && not (is_gt (first_numbers (leading_place s) v (filled s p))))
   past_zeros_within spot p f h = ap (λ b. f && b) (same_agreement _ (numbers v)) ∙ agrees_within spot p f h
 
-  -- what isn't below a version isn't below its first numbers
+  -- if a version isn't below the zero-filled version, its first `k` numbers aren't below the stated
+  -- ones
   pub from_first : {s : List ℕ} {k : ℕ} → Spot s k → (p : List IdentifierValue) → is_ge (precedence v (filled s p)) ≡ true
       → is_ge (first_numbers k v (filled s p)) ≡ true
   from_first (Spot.first_of_one x) p h = ge_of (one_step x) _ h
@@ -127,7 +130,8 @@ module _ (v : PlainVersion) where
   numbers_first (Spot.second_of_three x y w) p h = ge_of (two_steps x y) _ h
   numbers_first (Spot.third_of_three x y w) p h = h
 
-  -- the numbers that aren't stated are zeros
+  -- numbers that aren't stated are zeros in the zero-filled version, so they can be left out of a
+  -- comparison for `>=` or `<`
   patch_ge : is_ge (ordering_then (nat_cmp v.patch 0) Equal) ≡ true
   patch_ge = not_less v.patch Equal refl
 
@@ -149,7 +153,8 @@ module _ (v : PlainVersion) where
   pub none_from : is_ge (first_numbers 3 v (filled [] [])) ≡ true
   none_from = not_less v.major _ minor_ge
 
-  -- from the lowest pre-release of some numbers on is what isn't below them
+  -- a version is at or above the lowest pre-release of three numbers if and only if its numbers
+  -- aren't below these
   lowest_ge : is_ge (pre_cmp v.pre lowest_pre_release) ≡ true
   lowest_ge = above_floor (floor v.pre) where
     above_floor : {o : Ordering} → Tail o false → is_ge o ≡ true

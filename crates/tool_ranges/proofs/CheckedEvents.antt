@@ -1,5 +1,5 @@
 -- serves: tool_ranges::offset::is_range
--- Whether the numbers of each term fit, by the events of a text.
+-- Whether the numbers of all terms fit, found from the events of a text.
 use Rattle.std.proofs.Common.{◌≡◌, Bool, true, false, ◌&&◌, Option, Some, None, List, refl, ap, sym, ◌∙◌}
 use Rattle.std.specs.List.{list_all}
 use Rattle.std.specs.Option.{option_map}
@@ -16,7 +16,8 @@ use Rattle.tool_ranges.specs.Steps.Reading.{IsRead, IsRefusedAs}
 use Rattle.tool_ranges.proofs.MatchedEvents.{ranges_fit}
 
 module _ (d : Dialect) where
-  -- whether all fit, where those before do
+  -- whether `fit` is true and the numbers of the remaining terms fit; `None` if the text is not a
+  -- range
   abbrev pub all_fit : Bool → Option (List Event) → Option Bool
   all_fit fit None = None
   all_fit fit (Some es) = Some (fit && list_all (event_fits (term_fits d)) es)
@@ -32,7 +33,7 @@ module _ (d : Dialect) where
       ap Some (and_assoc fit (term_fits d s) (list_all (event_fits (term_fits d)) es))
       ∙ ap (λ b. Some ((fit && b) && list_all (event_fits (term_fits d)) es)) (sym is)
 
-  -- a whole text
+  -- the result for a whole text
   module _ (t : Text) where
     abbrev Told : Option Bool → Type 0
     Told o = all_fit true (text_events Stated d t) ≡ o

@@ -1,5 +1,6 @@
 -- serves: tool_ranges::meaning::check
--- What the reader finds at the front of a requirement is what is there: one comparator, up to its comma or the end.
+-- The reader finds a comparator at the beginning of a requirement if and only if there is one, up
+-- to its comma or the end of the text.
 use Rattle.std.proofs.Common.{◌≡◌, ℕ, Bool, true, false, ◌==◌, [], ◌∷◌, ◌++◌, refl, sym, ap, ◌∙◌, rules}
 use Rattle.std.proofs.Common.{Option, Some, None, append_assoc, append-nil, inl, inr}
 use Rattle.std.proofs.lemmas.Bool.{and_from, eqb-true}
@@ -16,9 +17,9 @@ use Rattle.semver_texts.proofs.Lists.{by_test}
 use Rattle.tool_ranges.specs.CargoGrammar.{sign, is_of_cargo, SpellsComparator}
 use Rattle.tool_ranges.specs.Steps.CargoReading.{begins_with_tilde_greater, at_end, with_operator, comparator_here, comparator_at}
 
--- ---- what is found is there
+-- ---- a comparator that is found is in the text
 
--- a comparator up to its comma or the end
+-- the text is `front`, and then either ends or has a comma and the rest
 abbrev pub Follows : Text → Text → Option Text → Type 0
 Follows front t None = t ≡ front
 Follows front t (Some u) = t ≡ front ++ (44 ∷ u)
@@ -27,7 +28,7 @@ abbrev pub ComparatorAt : Text → Option (Simple × Option Text) → Type 0
 ComparatorAt t None = Unit {0}
 ComparatorAt t (Some found) = (front : Text) × SpellsComparator found.0 front × Follows front t found.1
 
--- the sign of an operator, without `~>`
+-- the text before a partial version is a sign and blanks, unless it begins with `~>`
 form_signed : (f : Form) (w t : Text) → SpellsForm Cargo f w → begins_with_tilde_greater (w ++ t) ≡ false
     → (gap : Text) × AreBlanks Cargo gap × (w ≡ sign f ++ gap)
 form_signed bare w t h n = ([], refl, h)
@@ -40,7 +41,7 @@ form_signed greater w t h n = h
 form_signed at_least w t h n = h
 form_signed caret w t h n = h
 
--- a comparator of its pieces, after which nothing or a comma stands
+-- the pieces of a comparator make one, if nothing or a comma follows them
 made : (s : Simple) (before gap word after v t : Text) → AreBlanks Cargo before → AreBlanks Cargo gap → AreBlanks Cargo after
     → SpellsPartial s.partial word
     → is_of_cargo s ≡ true → t ≡ before ++ ((sign s.form ++ gap) ++ (word ++ (after ++ v))) → ComparatorAt t (at_end s v)
@@ -89,7 +90,7 @@ comparator_sound t =
     (λ e. rw e (here_sound _ u t _
     (front_all (is_blank Cargo) t) (front-back (is_blank Cargo) t) e (operator_sound Cargo u)))
 
--- ---- what is there is found
+-- ---- a comparator in the text is found
 
 no_tilde : (a : ℕ) (t : Text) → (a == 126) ≡ false → begins_with_tilde_greater (a ∷ t) ≡ false
 no_tilde a [] e = refl
@@ -103,7 +104,7 @@ starts_no_tilde : (t : Text) → starts is_word_byte t ≡ true → begins_with_
 starts_no_tilde [] e = cc
 starts_no_tilde (b ∷ t) e = search rules
 
--- an operator and its spaces, before what begins with a component
+-- an operator and the blanks after it are read, and `x` is left
 abbrev Begins : Form → Text → Text → Type 0
 Begins f gap x = (begins_with_tilde_greater ((sign f ++ gap) ++ x) ≡ false) × (operator Cargo ((sign f ++ gap) ++ x) ≡ (f, x))
 
@@ -121,7 +122,7 @@ begins_with tilde gap x g e other =
     (tilde_alone (gap ++ x) (no_sign Cargo 62 refl refl gap x g e), operator_read Cargo tilde _ x (inl (gap, g, refl)) e)
 begins_with caret gap x g e other = (no_tilde 94 _ refl, operator_read Cargo caret _ x (gap, g, refl) e)
 
--- after blanks, the operator and what it is before
+-- the operator at the beginning of `u` is read, and `x` is left
 abbrev Reads : Form → Text → Text → Type 0
 Reads f u x = (begins_with_tilde_greater u ≡ false) × (operator Cargo u ≡ (f, x))
 

@@ -1,5 +1,5 @@
 -- serves: tool_ranges::meaning::check
--- The comparators of a requirement, as the cursor reads them one after the other, are those of its tree.
+-- Reading the comparators of a requirement one after the other gives those of its tree.
 use Rattle.std.proofs.Common.{◌≡◌, ℕ, zero, suc, ◌≤◌, Bool, true, false, not, ◌&&◌, ◌||◌, List, [], ◌∷◌, ◌++◌, length, refl, sym, ap, ◌∙◌, subst, arith}
 use Rattle.std.proofs.Common.{Option, Some, None, map}
 use Rattle.std.specs.Prelude.{option_map, is_some}
@@ -17,7 +17,7 @@ use Rattle.semver_ranges.specs.declared.partial.LowerBounds.{LowerBounds}
 use Rattle.tool_ranges.specs.Steps.Cursors.{comparators_from, events_in, requirement, with_comma, with_others}
 use Rattle.tool_ranges.proofs.ComparatorReading.{ComparatorAt, Follows, comparator_sound, ended_read, parted_read}
 
--- ---- the one that comes next
+-- ---- the next comparator
 
 module _ (is_first : Bool) (t : Text) (s : Simple) (after : Option (Bor Text)) (e : comparator_at t ≡ Some (s, after_comma after)) where
   pub next_comparator : (k : ℕ) → (states_nothing s.partial && not (is_first && not (is_some after))) ≡ false
@@ -44,7 +44,7 @@ module _ (is_first : Bool) (t : Text) (s : Simple) (after : Option (Bor Text)) (
         (λ y. rw y refl)
         (λ n. let no : false ≡ true = rw n at h in cc)
 
--- ---- what is read is spelled
+-- ---- the tree that is read spells the text
 
 abbrev Reads : ℕ → Bool → Text → List Simple → Type 0
 Reads n is_first t tree = SpellsComparators tree t × (length tree ≤ n)
@@ -102,7 +102,7 @@ pub requirement_sound : (t : Text) (tree : List Simple) → requirement t ≡ So
 requirement_sound t tree e =
     let r = comparators_sound 32 true t tree e in record { comparators = r.0; alone = r.3 refl; few = r.1 }
 
--- ---- what is spelled is read
+-- ---- a tree that spells the text is read
 
 stands_first : (s next : Simple) (others : List Simple) → stands_alone (s ∷ next ∷ others) ≡ true
     → list_any (λ s. states_nothing s.partial) (s ∷ next ∷ others) ≡ false

@@ -1,5 +1,6 @@
 -- serves: tool_ranges::cargo::rewrite
--- The numbers that are raised above the sides of a term are those of its raised bound.
+-- The numbers that are raised for the sides of a term fit if and only if those of its raised bound
+-- fit.
 use Rattle.std.proofs.Common.{◌≡◌, ℕ, ◌+◌, ◌-◌, ◌^◌, Bool, true, false, not, ◌&&◌, if◌then◌else◌, ◌==◌, List, [], ◌∷◌, length, nat_le, nat_lt}
 use Rattle.std.proofs.Common.{Option, Some, None, refl, sym, ap, ◌∙◌, arith}
 use Rattle.std.proofs.Math.Bool.{and-true}
@@ -29,7 +30,7 @@ use Rattle.tool_ranges.specs.Steps.Matching.{term_fits}
 use Rattle.tool_ranges.specs.Steps.Table.{may_rise, sides, sides_fit}
 use Rattle.tool_ranges.proofs.Cells.{Spot, leading_of_two, leading_of_three}
 
--- numbers that are small, of which one is if it is at most the limit
+-- a test whether a number is at most a limit
 module _ (small : ℕ → Bool) (most : ℕ) (is_small : (n : ℕ) → small n ≡ nat_le n most) (next : (n : ℕ) → small (n + 1) ≡ nat_lt n most)
     (zero : small 0 ≡ true) where
   abbrev small_bound : Option PlainVersion → Bool
@@ -50,7 +51,7 @@ module _ (small : ℕ → Bool) (most : ℕ) (is_small : (n : ℕ) → small n �
   rise (Spot.third_of_three x y w) p all = let more = (and_parts (small x) _ all).1 in
       rw ((and_parts (small x) _ all).0, (and_parts (small y) _ more).0) (sym (and-true _ ∙ next w))
 
-  -- the bound that is raised for a form and stated numbers
+  -- the raised bound of an operator and stated numbers
   abbrev raised_by : Compat → Form → List ℕ → Option PlainVersion
   raised_by mode form s = if is_greater form && states_some s then Some (up (length s) s) else cell_raised (cell mode form s) s
 
@@ -111,7 +112,7 @@ module _ (small : ℕ → Bool) (most : ℕ) (is_small : (n : ℕ) → small n �
   tool_rises form (Shape.two x y) p none all = rw (none refl) (tool_two form x y all)
   tool_rises form (Shape.three x y w) p none all = tool_three form x y w p all
 
-  -- the crate
+  -- the crate's dialects
   own_one : (form : Form) (x : ℕ) → list_all small (x ∷ []) ≡ true
       → Rises CrateCargo form (x ∷ []) [] (cell_raised (cell mode.Cargo form (x ∷ [])) (x ∷ []))
       × Rises CrateNpm form (x ∷ []) [] (cell_raised (cell mode.Npm form (x ∷ [])) (x ∷ []))
@@ -161,14 +162,14 @@ module _ (small : ℕ → Bool) (most : ℕ) (is_small : (n : ℕ) → small n �
   own_rises form (Shape.two x y) p none all = own_two form x y all
   own_rises form (Shape.three x y w) p none all = own_three form x y w p all
 
-  -- all fit, and what is raised
+  -- the stated numbers and the raised ones fit
   pub both_fit : (s : List ℕ) (rises fits : Bool) → (list_all small s ≡ true → rises ≡ fits)
       → (list_all (λ n. nat_le n most) s && rises) ≡ (list_all small s && fits)
   both_fit s rises fits same = ap (λ b. b && rises) (sym (all_small s)) ∙ by_test (list_all small s)
       (λ y. rw y (same y))
       (λ n. rw n refl)
 
--- ---- of the limits
+-- ---- the limits of the dialects
 u64_is : (n : ℕ) → fits_u64 n ≡ nat_le n (2 ^ 64 - 1)
 u64_is n = grind arith
 
@@ -192,7 +193,7 @@ same_safe : (o : Option PlainVersion) → small_bound is_safe (2 ^ 53 - 1) safe_
 same_safe None = refl
 same_safe (Some b) = refl
 
--- a simple of a tree
+-- for a term of a tree, the test by its sides has the result of the definition
 pub tree_fits : (d : Dialect) (s : Simple) → sides_fit d s.form (stated s.partial) (zero_filled s.partial) ≡ term_fits d s
 tree_fits Cargo s = both_fit fits_u64 (2 ^ 64 - 1) u64_is u64_next refl (stated s.partial) _ _
     (λ all. (tool_rises fits_u64 (2 ^ 64 - 1) u64_is u64_next refl s.form (stated_shape s.partial) (pre_release s.partial) (none_stated s) all).0
@@ -207,7 +208,7 @@ tree_fits CrateNpm s = both_fit fits_u64 (2 ^ 64 - 1) u64_is u64_next refl (stat
     (λ all. (own_rises fits_u64 (2 ^ 64 - 1) u64_is u64_next refl s.form (stated_shape s.partial) (pre_release s.partial) (none_stated s) all).1
     ∙ same_u64 (raised_bound mode.Npm (of_simple s)))
 
--- a simple that fits states numbers of 64 bits
+-- if the numbers of a term fit, the stated ones are below 2^64
 pub term_stated : (d : Dialect) (s : Simple) → term_fits d s ≡ true → list_all fits_u64 (stated s.partial) ≡ true
 term_stated Cargo s e = (and_parts _ _ e).0
 term_stated Npm s e = safe_all (stated s.partial) (and_parts _ _ e).0 where
@@ -220,7 +221,7 @@ term_stated Npm s e = safe_all (stated s.partial) (and_parts _ _ e).0 where
 term_stated CrateCargo s e = (and_parts _ _ e).0
 term_stated CrateNpm s e = (and_parts _ _ e).0
 
--- the simple that was read
+-- the same for a term that was read
 module _ (s : Simple) (simple : read.Simple) (is : IsSimpleOf s simple) where
   same_sides : (d : Dialect) → list_all fits_u64 (stated s.partial) ≡ true
       → sides_fit d (form_of simple.form) (stated_of simple.partial) (version_of simple.partial)

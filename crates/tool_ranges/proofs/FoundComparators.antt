@@ -10,12 +10,13 @@ use Rattle.tool_ranges.specs.CargoGrammar.{is_of_cargo}
 use Rattle.tool_ranges.specs.Steps.CargoReading.{begins_with_tilde_greater, if_read, comparator_at}
 use Rattle.std.proofs.lemmas.Grind.{common_steps}
 
--- an operator and a partial were found
+-- an operator and a partial version were found
 pub pieces_found : (t u v w : Text) (f : Form) (p : PartialTree) → u ≡ after_blanks Cargo t → false ≡ begins_with_tilde_greater u
     → (f, v) ≡ operator Cargo u → with_first (component v) ≡ Some (p, w) → comparator_at t ≡ if_read (record { form = f; partial = p }) w
 pieces_found t u v w f p e n sign found = search rules
 
--- it isn't one that is read; it ends the text; a comma follows; something else does
+-- the four cases: Cargo doesn't accept the comparator; the text ends after it; a comma follows;
+-- another byte follows
 pub not_read : (s : Simple) (w : Text) → is_of_cargo s ≡ false → if_read s w ≡ None
 not_read s w e = rw e refl
 

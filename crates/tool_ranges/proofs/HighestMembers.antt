@@ -1,5 +1,5 @@
 -- serves: tool_ranges::highest::VersionRange::highest_of
--- The highest of the members of a set among the first of many strings.
+-- The highest version of a set among the first strings of a list.
 use Rattle.std.proofs.Common.{◌≡◌, ◌≢◌, ◌↔◌, ◌⊎◌, ◌∙◌, ◌<◌, ◌+◌, ℕ, Bool, true, false, List, Option, Some, None, MatchOption, option_map}
 use Rattle.std.proofs.Common.{true≢false, arith}
 use Rattle.std.proofs.Common.{rules, sym, ap, subst, ⊎_elim, length, get_or, Less, Greater}
@@ -20,7 +20,7 @@ total_for true = back_total precedence_total
 total_for false = precedence_total
 
 module _ (order : PlainVersion → PlainVersion → Ordering) (total : IsTotalOrder order) where
-  -- what isn't above the best so far is below one that is above the best
+  -- a version that isn't above the best one so far is below a version that is above the best one
   pub below_next : (v best next : PlainVersion) → order v best ≢ Greater → order best next ≡ Less → order v next ≡ Less
   below_next v best next low less = search rules
 
@@ -42,14 +42,14 @@ less_greater o e f = grind arith
 later : (k at : ℕ) → k < at → at < k → ⊥
 later k at less more = grind arith
 
--- what is so of what is mapped
+-- if the image of an option's content has a property, so has the content of the mapped option
 pub mapped : {A B : Type 0} (P : Type 0) (Q : B → Type 0) (f : A → B) (o : Option A) → MatchOption o P (λ x. Q (f x))
     → MatchOption (option_map f o) P Q
 mapped P Q f None is = is
 mapped P Q f (Some x) is = is
 
 module _ (g : Grammar) (set : SetValue) (texts : List (Bor Text)) where
-  -- a member is a string of the list
+  -- the index of a member is an index of the list
   pub inside : (k : ℕ) (v : PlainVersion) → IsMember g set texts k v → k < length texts
   inside k v member = slice_get_within texts k member.text member.at
 
@@ -66,21 +66,22 @@ module _ (g : Grammar) (set : SetValue) (texts : List (Bor Text)) where
     subst (λ (p : PlainVersion). contains set p ≡ true) (sym member.plain) member.is_in,
   )
 
-  -- and it is the version that its string spells
+  -- a member is the version that its string spells
   pub only_one : ((h : Grammar) (u w : VersionValue) (t : Text) → SpellsIn h u t → SpellsIn h w t → u ≡ w) → (at : ℕ) (x : Bor Text)
       (w : VersionValue) → SpellsIn g w (get_or texts at x).now → (v : PlainVersion) → IsMember g set texts at v → v ≡ w.plain
   only_one one at x w spells v member =
       sym member.plain ∙ ap (λ (u : VersionValue). u.plain) (one _ _ _ _ (spelled at x v member) spells)
 
 module _ (lowest : Bool) (g : Grammar) (set : SetValue) (texts : List (Bor Text)) where
-  -- before a place there is no member, or the best is the first of the highest
+  -- among the strings before `at`, there is no member, or `best`, which is at `found`, is the first
+  -- of the highest members
   abbrev pub IsBest : ℕ → ℕ → Option PlainVersion → Type 0
   IsBest at found None = ((k : ℕ) (v : PlainVersion) → IsMember g set texts k v → k < at → ⊥)
   IsBest at found (Some best) = (found < at) × IsMember g set texts found best
       × ((k : ℕ) (v : PlainVersion) → IsMember g set texts k v → k < at → (k < found → order_for lowest v best ≡ Less)
       × (order_for lowest v best ≢ Greater))
 
-  -- the string at the place is no member
+  -- the string at `at` is not a member
   pub skipped : (at found : ℕ) (best : Option PlainVersion) → ((v : PlainVersion) → IsMember g set texts at v → ⊥) → IsBest at found best
       → IsBest (at + 1) found best
   skipped at found None none is = λ k v member within. ⊎_elim (is k v member)
@@ -103,7 +104,7 @@ module _ (lowest : Bool) (g : Grammar) (set : SetValue) (texts : List (Bor Text)
         (λ less. absurd (apart k at less e), rw is_w (same (order_for lowest) (total_for lowest) w))) (less_one k at within),
   )
 
-  -- it is above the best so far
+  -- it is a member above the best one so far
   pub above : (at found : ℕ) (best w : PlainVersion) → IsMember g set texts at w → ((v : PlainVersion) → IsMember g set texts at v → v ≡ w)
       → order_for lowest best w ≡ Less → IsBest at found (Some best) → IsBest (at + 1) at (Some w)
   above at found best w one only less (before, old, all) = (
@@ -116,7 +117,7 @@ module _ (lowest : Bool) (g : Grammar) (set : SetValue) (texts : List (Bor Text)
         (λ early. absurd (apart k at early e), rw is_w (same (order_for lowest) (total_for lowest) w))) (less_one k at within),
   )
 
-  -- or it isn't
+  -- it is a member that isn't above the best one so far
   pub not_above_it : (at found : ℕ) (best w : PlainVersion) → ((v : PlainVersion) → IsMember g set texts at v → v ≡ w)
       → (order_for lowest best w ≡ Less → ⊥) → IsBest at found (Some best) → IsBest (at + 1) found (Some best)
   not_above_it at found best w only low (before, old, all) = (
@@ -129,7 +130,7 @@ module _ (lowest : Bool) (g : Grammar) (set : SetValue) (texts : List (Bor Text)
         )) (less_one k at within),
   )
 
-  -- one string more, which is a member
+  -- the string at `at` is a member, and `r` says whether it is the new best one
   pub stepped : (at found : ℕ) (best : Option PlainVersion) (w : PlainVersion) (r : Bool) → IsMember g set texts at w
       → ((v : PlainVersion) → IsMember g set texts at v → v ≡ w)
       → MatchOption best (r ≡ true) (λ b. (r ≡ true) ↔ (order_for lowest b w ≡ Less)) → IsBest at found best
@@ -141,7 +142,7 @@ module _ (lowest : Bool) (g : Grammar) (set : SetValue) (texts : List (Bor Text)
     λ e. not_above_it at found best w only (λ less. true≢false (sym (said.1 less) ∙ e)) is,
   )
 
-  -- of all texts
+  -- after the last string, the best member is the highest of all
   pub whole : (found : ℕ) (best : Option PlainVersion) → ((k : ℕ) (v : PlainVersion) → IsMember g set texts k v → k < length texts)
       → IsBest (length texts) found best
       → MatchOption best ((k : ℕ) (v : PlainVersion) → ¬ (IsMember g set texts k v))

@@ -1,5 +1,5 @@
 -- serves: tool_ranges::highest::VersionRange::highest_among
--- The highest of the members of a set among the strings that were taken so far.
+-- The highest version of a set among the strings that an iterator has returned so far.
 use Rattle.std.proofs.Common.{◌≡◌, ◌↔◌, ◌+◌, ◌<◌, ◌∙◌, ◌++◌, ℕ, Bool, true, false, List, [], ◌∷◌, length, Option, Some, None}
 use Rattle.std.proofs.Common.{zero, suc, MatchOption, Less, ap, arith, option_map, refl, subst, sym}
 use Rattle.std.proofs.lemmas.List.{length-append}
@@ -14,7 +14,7 @@ use Rattle.version_sets.specs.VersionSets.{SetValue, contains}
 use Rattle.tool_ranges.specs.Highest.{FindsHighestText, IsMember, IsMemberText, order_for}
 use Rattle.tool_ranges.proofs.HighestMembers.{IsBest, inside, mapped, skipped, stepped, whole}
 
--- ---- one string more
+-- ---- one more string
 
 kept_at : {X : Type 0} (xs : List X) (x : X) (k : ℕ) → k < length xs → slice_get (xs ++ x ∷ []) k ≡ slice_get xs k
 kept_at [] x k within = absurd (omega arith)
@@ -32,7 +32,7 @@ same_string : {X : Type 0} (x y : X) → Some x ≡ Some y → x ≡ y
 same_string x y e = cc
 
 module _ (g : Grammar) (set : SetValue) (texts : List (Bor Text)) (x : Bor Text) where
-  -- what is a member among one string more, and before that, is one
+  -- with one more string, the members among the earlier ones stay the same
   shorter : (k : ℕ) (v : PlainVersion) → k < length texts → IsMember g set (texts ++ x ∷ []) k v → IsMember g set texts k v
   shorter k v within m = record {
     text = m.text;
@@ -71,14 +71,14 @@ module _ (g : Grammar) (set : SetValue) (texts : List (Bor Text)) (x : Bor Text)
 
 -- ---- the best string so far
 
--- the string at an index is the one that was found, if one was
+-- the string at the index is the one that was found, if one was found
 abbrev pub IsFound : List (Bor Text) → ℕ → Option (Bor Text) → Option PlainVersion → Type 0
 IsFound texts at None None = (at ≡ at)
 IsFound texts at (Some text) (Some best) = slice_get texts at ≡ Some text
 IsFound texts at _ _ = ⊥
 
 module _ (lowest : Bool) (g : Grammar) (set : SetValue) where
-  -- of these strings
+  -- `found` is the best one of these strings, and `best` is its version
   abbrev pub IsBestString : List (Bor Text) → Option (Bor Text) → Option PlainVersion → Type 0
   IsBestString texts found best = (at : ℕ) × IsFound texts at found best × IsBest lowest g set texts (length texts) at best
 
@@ -92,7 +92,7 @@ module _ (lowest : Bool) (g : Grammar) (set : SetValue) where
   found_before texts x at (Some t) None is best = absurd is
   found_before texts x at (Some t) (Some b) is (before, one, all) = kept_at texts x at before ∙ is
 
-  -- the next string is no member
+  -- the next string is not a member
   pub string_skipped : (texts : List (Bor Text)) (x : Bor Text) (found : Option (Bor Text)) (best : Option PlainVersion)
       → (IsMemberText g set x.now → ⊥) → IsBestString texts found best → IsBestString (texts ++ x ∷ []) found best
   string_skipped texts x found best none (at, is, all) = (
@@ -103,7 +103,7 @@ module _ (lowest : Bool) (g : Grammar) (set : SetValue) where
         (best_among_more g set texts x lowest at best all)),
   )
 
-  -- or it is one, and is above the best or isn't
+  -- the next string is a member, and `r` says whether it is the new best one
   string_taken : ((h : Grammar) (u w : VersionValue) (t : Text) → SpellsIn h u t → SpellsIn h w t → u ≡ w)
       → (texts : List (Bor Text)) (x : Bor Text) (found : Option (Bor Text)) (best : Option PlainVersion) (w : VersionValue) (r : Bool)
       → SpellsIn g w x.now → contains set w.plain ≡ true
@@ -133,7 +133,7 @@ module _ (lowest : Bool) (g : Grammar) (set : SetValue) where
         ),
       )
 
-  -- the same of the borrowed versions of the best and of the string, whose bytes were read
+  -- the same if the bytes of the string were read as a borrowed version
   pub ref_taken : ((h : Grammar) (u w : VersionValue) (t : Text) → SpellsIn h u t → SpellsIn h w t → u ≡ w)
       → (texts : List (Bor Text)) (x : Bor Text) (found : Option (Bor Text)) (best : Option VersionRefValue) (o : VersionRefValue) (r : Bool)
       → (bytes : Text) → bytes ≡ x.now → SpellsIn g (version_of o) bytes → contains set (version_of o).plain ≡ true
@@ -146,7 +146,7 @@ module _ (lowest : Bool) (g : Grammar) (set : SetValue) where
       (mapped (r ≡ true) (λ (b : PlainVersion). (r ≡ true) ↔ (order_for lowest b (version_of o).plain ≡ Less))
       (λ (b : VersionRefValue). (version_of b).plain) best said) is
 
-  -- of all of them
+  -- after the last string, the best one is the highest of all
   pub best_found : (texts : List (Bor Text)) (found : Option (Bor Text)) (best : Option PlainVersion) → IsBestString texts found best
       → FindsHighestText lowest g set texts found
   best_found texts None None (at, is, all) = whole lowest g set texts at None (inside g set texts) all

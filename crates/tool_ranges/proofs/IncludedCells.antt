@@ -1,5 +1,6 @@
 -- serves: tool_ranges::npm::rewrite_included
--- What is printed if pre-releases are included, from the sides of the table, is what the table of comparators has with lowest bounds.
+-- With every pre-release within the bounds, the comparators that are printed from the sides of a
+-- term are those of npm's table with lowest bounds.
 use Rattle.std.proofs.Common.{◌≡◌, ℕ, true, false, not, ◌&&◌, ◌++◌, ◌==◌, if◌then◌else◌, List, [], ◌∷◌, length, map, refl, ap, ◌∙◌, append-nil}
 use Rattle.std.specs.List.{flat_map}
 use Rattle.semver_texts.specs.Texts.{is_empty}
@@ -27,7 +28,8 @@ use Rattle.tool_ranges.proofs.Cells.{Spot, leading_of_two, leading_of_three}
 use Rattle.tool_ranges.proofs.FitCells.{none_stated}
 use Rattle.tool_ranges.proofs.PrintedCells.{raised_same, written_by}
 
--- the table with lowest bounds, of a form, the stated numbers and a pre-release
+-- the comparators by the table with lowest bounds, for an operator, stated numbers and a
+-- pre-release
 abbrev included_by : Form → List ℕ → List IdentifierValue → List PlainComparator
 included_by form s p = if begins_lowest form s (not (is_empty p)) then map lowest (written_by mode.Npm form s (filled s p))
     else written_by mode.Npm form s (filled s p)
@@ -51,7 +53,7 @@ one_number caret x = refl
 one_number bare x = refl
 one_number equal x = refl
 
--- the upper bound at a place
+-- the upper bound is the same whether a stated number or that of the zero-filled version is raised
 between : {s : List ℕ} {k : ℕ} → Spot s k → (p : List IdentifierValue) (first : PlainComparator)
     → (first ∷ comparator Lt (exact_bound (up k (numbers (filled s p)))) ∷ []) ≡ (first ∷ comparator Lt (exact_bound (up k s)) ∷ [])
 between {s} spot p first = ap (λ b. first ∷ comparator Lt (exact_bound b) ∷ []) (raised_same spot p)

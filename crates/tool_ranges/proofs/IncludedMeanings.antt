@@ -1,5 +1,6 @@
 -- serves: tool_ranges::npm::rewrite_included
--- A version, a pre-release too, meets the comparators with lowest bounds if and only if the text means it where pre-releases are included.
+-- A version, which may be a pre-release, satisfies the comparators with lowest bounds if and only
+-- if it satisfies the text in npm's dialect with every pre-release within the bounds.
 use Rattle.std.proofs.Common.{◌≡◌, ℕ, Bool, true, false, not, ◌&&◌, ◌||◌, ◌++◌, ◌==◌, if◌then◌else◌, List, [], ◌∷◌, map, Option, Some, None}
 use Rattle.std.proofs.Common.{refl, sym, ap, ◌∙◌}
 use Rattle.std.proofs.Math.Bool.{and-true}
@@ -46,7 +47,8 @@ abbrev Raises : List ℕ → Option SideValue → Type 0
 Raises s (Some (above k)) = Spot s k
 Raises s _ = Unit {0}
 
--- what is raised is stated, and what ends past a version begins at it
+-- a number that is raised for a side is a stated one; if a term has a lower side and ends directly
+-- above its zero-filled version, it begins at this version
 abbrev Sided : Form → List ℕ → Bool → Type 0
 Sided form s pre = Raises s (sides Npm form s pre).0 × Raises s (sides Npm form s pre).1
     × ((is_some (sides Npm form s pre).0 && ends_past (sides Npm form s pre).1) ≡ true → (sides Npm form s pre).0 ≡ Some at)
@@ -120,9 +122,10 @@ any_printed first last z = by_test (is_some first && ends_past last)
     (λ n. rw n (map-append comparator_any (at_side (lower_comparator Lowest) first z) (at_side upper_comparator last z)
     ∙ (λ i. any_lower first z i ++ any_upper last z i)))
 
--- ---- what meets them
+-- ---- the versions that satisfy them
 module _ (v : PlainVersion) where
-  -- from the lowest pre-release of the numbers on
+  -- a version is at or above the exact bound of `z` if and only if its numbers aren't below those
+  -- of `z`
   from_lowest : (z : PlainVersion) → is_ge (precedence v (exact_bound z)) ≡ is_ge (first_numbers 3 v z)
   from_lowest z = same_ge (after (step v.major z.major) (after (step v.minor z.minor) (step v.patch z.patch))) _ (lowest_ge v)
 

@@ -1,5 +1,5 @@
 -- serves: tool_ranges::npm::rewrite_included
--- What is left of a range text whose terms fit, when a term comes first, and at the end.
+-- The remaining events of a range text whose numbers fit, after a term and at the end.
 use Rattle.std.proofs.Common.{◌≡◌, true, List, [], ◌∷◌, Option, Some, None, refl}
 use Rattle.std.proofs.lemmas.Bool.{and_parts}
 use Rattle.std.specs.List.{list_all}
@@ -17,7 +17,7 @@ use Rattle.tool_ranges.specs.declared.dialect.Dialect.{Dialect}
 use Rattle.tool_ranges.specs.Steps.Cursors.{ComesFirst, GivesNext, HasLeftIn}
 use Rattle.tool_ranges.specs.Steps.Matching.{term_fits}
 
--- a term that comes first fits, and what is left
+-- the next event is a term whose numbers fit, and `others` are the events after it
 pub record FirstFits (g : Grammar) (d : Dialect) (left : List Event) (simple : read.Simple) (cursor : Cursor) : Type 0 where
   pub s : Simple
   pub others : List Event
@@ -36,14 +36,14 @@ first_fits g d left simple cursor fits (one_simple s, Some others, is, has, e) =
     record { s = s; others = others; is = is; has = has; fits = both.0; others_fit = both.1; whole = whole }
 first_fits g d left simple cursor fits (next_range, more, is, has, e) = absurd is
 
--- nothing is left where no event comes
+-- if no event comes next, none is left
 pub ended : (g : Grammar) (left : List Event) (r : Option (Result read_event.Event RangeError)) (cursor : Cursor) → GivesNext g (Some left) r cursor
     → ((e : read_event.Event) → r ≡ Some (Ok e) → ⊥) → left ≡ []
 ended g left None cursor gives none = cc
 ended g left (Some (Ok e)) cursor gives none = absurd (none e refl)
 ended g left (Some (Err e)) cursor gives none = cc
 
--- the next range comes first
+-- the next event is the separator between two ranges
 pub next_first : (g : Grammar) (d : Dialect) (left : List Event) (cursor : Cursor) → list_all (event_fits (term_fits d)) left ≡ true
     → ComesFirst g (Some left) event.NextRange cursor
     → (others : List Event) × HasLeftIn g cursor (Some others) × (list_all (event_fits (term_fits d)) others ≡ true)

@@ -1,5 +1,5 @@
 -- serves: tool_ranges::cargo::rewrite
--- What is known of a range text as its events come.
+-- What is known about a version and a range text after each event of the text.
 use Rattle.std.proofs.Common.{◌≡◌, Bool, true, false, ◌&&◌, ◌||◌, if◌then◌else◌, List, [], ◌∷◌, map, Option, Some, None, refl, sym, ap, ◌∙◌}
 use Rattle.std.proofs.Math.Bool.{and-true, and-false, or-false}
 use Rattle.std.proofs.lemmas.List.Folds.{list_all-map}
@@ -37,7 +37,7 @@ use Rattle.tool_ranges.proofs.Comparators.{same_ranges}
 use Rattle.tool_ranges.proofs.ReadTrees.{sound_as}
 use Rattle.tool_ranges.proofs.ToolRows.{npm_table}
 
--- ---- what comes first
+-- ---- the next term
 pub record FirstTerm (g : Grammar) (o : Option (List Event)) (simple : read.Simple) (cursor : Cursor) : Type 0 where
   pub s : Simple
   pub left : Option (List Event)
@@ -50,7 +50,7 @@ pub first_term : (g : Grammar) (o : Option (List Event)) (simple : read.Simple) 
 first_term g o simple cursor (one_simple s, left, is, has, e) = record { s = s; left = left; is = is; has = has; whole = e }
 first_term g o simple cursor (next_range, left, is, has, e) = absurd is
 
--- ---- whether the events fit
+-- ---- whether the numbers of the events fit
 
 front_fits : (fit : Simple → Bool) (ss : List Simple) → list_all (event_fits fit) (in_front ss []) ≡ list_all fit ss
 front_fits fit [] = refl
@@ -65,7 +65,7 @@ ranges_fit lower CrateCargo tree = ap (list_all (event_fits (term_fits CrateCarg
 ranges_fit lower CrateNpm tree = ap (list_all (event_fits (term_fits CrateNpm))) (sym (same_ranges lower tree))
     ∙ set_fits (port_table lowest_pre_release mode.Npm) lower tree
 
--- a text has some range
+-- a text has at least one range
 abbrev pub HasSome : List (List Simple) → Type 0
 HasSome ranges = (first : List Simple) × (others : List (List Simple)) × (ranges ≡ first ∷ others)
 
@@ -79,7 +79,8 @@ some_ranges lower CrateNpm t [] h = absurd h
 some_ranges lower CrateNpm t (r ∷ others) h = (yielded lower r, map (yielded lower) others, refl)
 
 module _ (d : Dialect) (all : Bool) (v : PlainVersion) where
-  -- what is known at the end, with what was known before the events; nothing where a number doesn't fit
+  -- what is known at the end, from what was known before the events: `None` if the text is not a
+  -- range, and `Some None` if a number doesn't fit
   abbrev pub told : Bool → Progress → Option (List Event) → Option (Option Progress)
   told fit t None = None
   told fit t (Some es) =
@@ -99,7 +100,7 @@ module _ (d : Dialect) (all : Bool) (v : PlainVersion) where
 
   -- ---- the events of ranges
 
-  -- simples of one range
+  -- what is known after the terms of one range
   abbrev folded : Progress → List Simple → Progress
   folded t ss = record t {
     here = t.here && list_all (term_met d all v) ss;
@@ -133,7 +134,7 @@ module _ (d : Dialect) (all : Bool) (v : PlainVersion) where
     every = t.every;
   }) es)
 
-  -- at the begin of a range
+  -- what is known at the beginning of a range
   abbrev fresh : Bool → Bool → Progress
   fresh met every = record { here = true; counts = counts all v; nothing = true; met = met; every = every }
 
@@ -149,7 +150,7 @@ module _ (d : Dialect) (all : Bool) (v : PlainVersion) where
       ∙ (λ i. fresh (or_assoc met (range_met d all v ss) (list_any (range_met d all v) (next ∷ others)) i)
       (or_assoc every (range_every ss) (list_any range_every (next ∷ others)) i))
 
-  -- what the events of a tree tell
+  -- what is known after the events of a tree is correct for the tree
   pub says_so : (t : Text) (tree : TreeOf d) → SpellsAs d tree t → (progress : Progress)
       → ended (counts all v) (after d all v (begun (counts all v)) (events_in (ranges_of (lower_of d all) d tree))) ≡ progress
       → Says d all v progress tree

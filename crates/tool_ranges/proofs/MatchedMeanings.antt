@@ -1,5 +1,5 @@
 -- serves: tool_ranges::meaning::satisfies
--- Builds don't count.
+-- Build metadata doesn't count.
 use Rattle.std.proofs.Common.{◌≡◌, ap}
 use Rattle.semver_texts.specs.Versions.{VersionValue}
 use Rattle.version_sets.specs.declared.rules.PreReleases.{PreReleases}

@@ -1,5 +1,6 @@
 -- serves: tool_ranges::meaning::satisfies
--- What the ranges of a tree say of a version is what the tree means.
+-- Testing a version with the terms of each range, as they are read, has the result that the
+-- definitions give for the tree.
 use Rattle.std.proofs.Common.{◌≡◌, ℕ, Bool, true, false, ◌&&◌, ◌||◌, ◌==◌, if◌then◌else◌, List, [], ◌∷◌, length, map, refl, sym, ap, ◌∙◌}
 use Rattle.std.proofs.Math.Bool.{and-true, or-false}
 use Rattle.std.specs.List.{list_all, list_any}
@@ -47,7 +48,8 @@ or_twice : (b : Bool) → (b || false) ≡ (b || (b || false))
 or_twice true = refl
 or_twice false = refl
 
--- a test of terms that says of an empty range what it says of a wildcard, and the same of both sides that state nothing
+-- a test of terms that has the same result for an empty range as for a wildcard, and for both sides
+-- of a hyphen range if neither states a number
 module _ (f : Term → Bool) (nothing : f of_nothing ≡ f (of_simple wildcard))
     (none : (l r : PartialTree) → stated l ≡ [] → stated r ≡ [] → f (of_simple (right_side r)) ≡ f (of_simple (left_side l))) where
   pub all_terms : (x : RangeTree) → list_all (λ s. f (of_simple s)) (yielded Stated x) ≡ list_all f (terms x)
@@ -72,7 +74,7 @@ module _ (f : Term → Bool) (nothing : f of_nothing ≡ f (of_simple wildcard))
       (λ n. by_test (states_nothing l) (λ z. rw (n, z) refl) (λ m. rw (n, m) refl))
 
 module _ (v : PlainVersion) where
-  -- where a version counts as it is stated
+  -- whether a version counts in a range, found from the terms as they are read
   counts_so : (r : RangeTree)
       → (is_empty v.pre || list_any (λ s. states_pre_release_at (of_simple s) v) (yielded Stated r)) ≡ counts_in r v
   counts_so r = ap (λ b. is_empty v.pre || b) (any_terms (λ t. states_pre_release_at t v) refl (λ l r a b. rw (a, b) refl) r)
@@ -104,7 +106,7 @@ module _ (v : PlainVersion) where
   npm_default tree = λ i. if list_any-mapped range_every npm.is_every_release (yielded Stated) every_range tree i then is_empty v.pre
       else list_any-mapped (range_met Npm false v) (λ r. npm.meets_range Default r v && counts_in r v) (yielded Stated) default_range tree i
 
-  -- ---- npm, where each pre-release within the bounds counts
+  -- ---- npm, with every pre-release within the bounds
   from_lowest : {s : List ℕ} → Shape s → (length s == 3) ≡ true
       → is_ge (precedence v (filled s lowest_pre_release)) ≡ is_ge (against s v)
   from_lowest Shape.none e = cc
@@ -202,7 +204,7 @@ module _ (v : PlainVersion) where
         && (b || list_any (λ s. states_pre_release_at (of_simple s) v) (yielded Stated r))) y ∙ and-true _ ∙ own_terms false r) tree))
         (λ n. rw n refl)
 
--- ---- whatever the dialect is
+-- ---- all dialects
 
 module _ (v : PlainVersion) (fit : numbers_fit v ≡ true) where
   pub means : (d : Dialect) (rule : PreReleases) (tree : TreeOf d) (progress : Progress) → Says d (takes_all rule) v progress tree

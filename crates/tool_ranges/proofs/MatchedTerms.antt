@@ -1,5 +1,6 @@
 -- serves: tool_ranges::npm::rewrite_included
--- What a term that was read says of a version is what the term of the tree says.
+-- For a term that was read, the test of a version has the result that the definition gives for the
+-- term of the tree.
 use Rattle.std.proofs.Common.{◌≡◌, ℕ, Bool, true, false, not, ◌&&◌, ◌==◌, if◌then◌else◌, nat_eq, List, [], ◌∷◌, length, refl, sym, ap, ◌∙◌}
 use Rattle.std.proofs.Math.Bool.{and-false, and-true}
 use Rattle.std.specs.Cmp.Lexicographic.{pointwise}
@@ -36,7 +37,8 @@ none_any s n = rw n refl
 none_kept : (s : Simple) → (length (stated s.partial) == 3) ≡ false → pre_release s.partial ≡ []
 none_kept s n = rw n refl
 
--- within the bounds that are looked at by the form, the numbers and the zero-filled version
+-- whether a version is within the bounds of a term; if `by_default` is true, within those for
+-- pre-releases that count by default
 abbrev pub looked_within : Dialect → Bool → Form → List ℕ → PlainVersion → PlainVersion → Bool
 looked_within d by_default form s z v = if by_default then is_counted_within d form s (plain_by (digits_in (grammar_of d)) z) v
     else is_within d form s (plain_by (digits_in (grammar_of d)) z) v
@@ -69,7 +71,7 @@ module _ (s : Simple) (v : PlainVersion) where
       (λ y. rw (e ∙ ap not y) (release_means d (none_is v.pre y)))
       (λ n. rw (e ∙ ap not n) (counted_means d n))
 
--- ---- of a term that was read
+-- ---- a term that was read
 module _ (d : Dialect) (s : Simple) (simple : read.Simple) (is : IsSimpleOf s simple) (fit : term_fits d s ≡ true) where
   same_read : (stated_of simple.partial ≡ stated s.partial) × (version_of simple.partial ≡ zero_filled s.partial)
   same_read = is.1.1 (sym is.1.0 ∙ term_stated d s fit)
@@ -87,7 +89,7 @@ module _ (d : Dialect) (s : Simple) (simple : read.Simple) (is : IsSimpleOf s si
       ≡ matches_everything (of_simple s)
   everything = said (λ f n z. asks_nothing_by f (is_empty n) (is_zero z))
 
-  -- of both kinds: releases within the bounds, and pre-releases of those that are looked at
+  -- whether a version satisfies it: `a` for a release, and `b` for a pre-release
   pub each_kind : (v : PlainVersion) (all a b : Bool)
       → a ≡ looked_within d false (form_of simple.form) (stated_of simple.partial) (version_of simple.partial) v
       → b ≡ looked_within d (not all) (form_of simple.form) (stated_of simple.partial) (version_of simple.partial) v

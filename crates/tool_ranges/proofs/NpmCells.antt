@@ -1,5 +1,5 @@
 -- serves: tool_ranges::npm::rewrite_included
--- Between the sides of npm's table are the versions that a term means.
+-- The versions that satisfy a term in npm's dialect are those between the sides in its table.
 use Rattle.std.proofs.Common.{◌≡◌, ℕ, Bool, true, false, not, ◌&&◌, ◌||◌, ◌==◌, if◌then◌else◌, List, [], ◌∷◌, length}
 use Rattle.std.proofs.Common.{refl, sym, ap, ◌∙◌, rules}
 use Rattle.std.proofs.Math.Bool.{and-true, and-false}
@@ -24,7 +24,7 @@ use Rattle.tool_ranges.proofs.Cells.{Spot, leading_of_two, leading_of_three, agr
 use Rattle.tool_ranges.proofs.Cells.{not_ge, not_gt, both_eq, one_from, two_from, one_below, two_below, none_from}
 
 module _ (v : PlainVersion) where
-  -- ---- where each pre-release within the bounds counts
+  -- ---- with every pre-release within the bounds
   abbrev AllCell : Form → List ℕ → List IdentifierValue → Type 0
   AllCell form s p = meets_by_count Included form s (filled s p) v ≡ is_within Npm form s (filled s p) v
 
@@ -33,7 +33,7 @@ module _ (v : PlainVersion) where
   all_none greater = ap not (sym (none_from v))
   all_none _ = sym (and-true _ ∙ none_from v)
 
-  -- from the numbers on, up to a place
+  -- versions that agree with one or two stated numbers
   one_block : (x : ℕ) → (is_ge (against (x ∷ []) v) && agrees 1 (x ∷ []) v)
       ≡ (is_ge (first_numbers 3 v (filled (x ∷ []) [])) && not (is_gt (first_numbers 1 v (filled (x ∷ []) []))))
   one_block x = ap (λ b. b && agrees 1 (x ∷ []) v) (sym (one_from v x))
@@ -91,7 +91,7 @@ module _ (v : PlainVersion) where
   npm_all form (Shape.two x y) p none = rw (none refl) (all_two form x y)
   npm_all form (Shape.three x y w) p none = all_three form x y w p
 
-  -- ---- by default: what npm compares with begins at the zero-filled version, and nowhere where that is 0.0.0
+  -- ---- by default: no lower bound if the zero-filled version is 0.0.0
   zero_first : (z : PlainVersion) → is_zero z ≡ true → is_ge (first_numbers 3 v z) ≡ true
   zero_first z y = search rules
 
@@ -101,7 +101,7 @@ module _ (v : PlainVersion) where
       (λ y. numbers_first v spot p (zero_first (filled s p) y))
       (λ n. from_first v spot p (rw n at h))
 
-  -- ---- of pre-releases
+  -- ---- by default, for pre-releases
   abbrev CountedCell : Form → List ℕ → List IdentifierValue → Type 0
   CountedCell form s p = meets_by_count Default form s (filled s p) v ≡ is_counted_within Npm form s (filled s p) v
 
@@ -158,7 +158,7 @@ module _ (v : PlainVersion) where
       counted_caret (leading_of_three x y w) p
       ∙ ap (λ b. b && not (is_gt (first_numbers (leading_place (x ∷ y ∷ w ∷ [])) v z))) (sym (either_side (not (not (is_empty p)) && (x == 0)) z))
 
-  -- what has one version is at 0.0.0, too
+  -- `=` with three numbers has a lower bound even if it is 0.0.0
   counted_equal : (z : PlainVersion) → is_eq (precedence v z)
       ≡ (((is_zero z && false) || is_ge (precedence v z)) && not (is_gt (precedence v z)))
   counted_equal z = sym (ap (λ b. (b || is_ge (precedence v z)) && not (is_gt (precedence v z))) (and-false (is_zero z)) ∙ both_eq _)
@@ -180,7 +180,7 @@ module _ (v : PlainVersion) where
   npm_counted form (Shape.two x y) p none = rw (none refl) (counted_two form x y)
   npm_counted form (Shape.three x y w) p none = counted_three form x y w p
 
-  -- ---- of releases
+  -- ---- by default, for releases
   module _ (release : v.pre ≡ []) where
     abbrev ReleaseCell : Form → List ℕ → List IdentifierValue → Type 0
     ReleaseCell form s p = meets_by_count Default form s (filled s p) v ≡ is_within Npm form s (filled s p) v
@@ -218,7 +218,7 @@ module _ (v : PlainVersion) where
     exact_caret {s = s} spot p = ap (λ b. b && agrees_past_zeros s (numbers v)) (release_from (filled s p))
         ∙ past_zeros_within v spot p _ (from_first v spot p)
 
-    -- at or above the numbers that are raised
+    -- a release isn't below zeros in the numbers that aren't stated
     past_patch : is_ge (ordering_then (nat_cmp v.patch 0) (pre_cmp v.pre [])) ≡ true
     past_patch = not_less v.patch _ (ap (λ q. is_ge (pre_cmp q [])) release)
 

@@ -1,5 +1,7 @@
 -- serves: tool_ranges::npm::rewrite
--- The comparators of a range text mean what it means to npm, where `>=0.0.0` matches everything; on releases they do as they are.
+-- A version satisfies a term in npm's dialect by default if and only if it satisfies the term's
+-- comparators, provided that `>=0.0.0` matches everything. A release satisfies a text if and only
+-- if it satisfies the text's comparators.
 use Rattle.std.proofs.Common.{◌≡◌, ℕ, ◌+◌, Bool, true, false, ◌&&◌, ◌||◌, ◌==◌, if◌then◌else◌, List, [], ◌∷◌, length, rules}
 use Rattle.std.proofs.Common.{refl, sym, ap, ◌∙◌, arith}
 use Rattle.std.proofs.Math.Bool.{and-true, and-false}
@@ -60,15 +62,15 @@ above same = refl
 above past = refl
 
 module _ (v : PlainVersion) where
-  -- whether a comparator matches everything or is met
+  -- whether a version satisfies a comparator, or the comparator matches everything
   abbrev pub passes : PlainComparator → Bool
   passes c = is_from_zero c || meets_comparator v c
 
-  -- the release of the same numbers
+  -- the release with the same numbers
   abbrev released : PlainVersion
   released = record v { pre = [] }
 
-  -- the order of what isn't stated, against the lowest pre-release
+  -- how the numbers that aren't stated compare with zeros, and the pre-release with the lowest one
   abbrev pub past_patch : Ordering
   past_patch = pre_cmp v.pre lowest_pre_release
 
@@ -87,7 +89,7 @@ module _ (v : PlainVersion) where
   pub major_ge : is_ge past_major ≡ true
   major_ge = not_less v.minor past_minor minor_ge
 
-  -- what is below an exact bound is so by its numbers
+  -- a version is below an exact bound if and only if the release with its numbers is
   same_bound : (b : PlainVersion) → (is_lt (precedence released (exact_bound b)) && true) ≡ (is_lt (precedence v (exact_bound b)) && true)
   same_bound b = ap (λ x. x && true)
       (is_less (numbers_step released b) (pre_cmp [] lowest_pre_release) refl ∙ sym (is_less (numbers_step v b) past_patch lowest_ge))
@@ -95,7 +97,8 @@ module _ (v : PlainVersion) where
   abbrev Between : PlainVersion → PlainVersion → PlainVersion → Bool → Type 0
   Between w z b e = (is_ge (precedence w z) && (is_lt (precedence w (exact_bound b)) && true)) ≡ (is_ge (precedence w z) && e)
 
-  -- from 0.0.0 on is all that its numbers let in, as for the release
+  -- if the lower bound is 0.0.0, only the upper bound decides, as for the release with the same
+  -- numbers
   between : (z b : PlainVersion) (e : Bool) → Between v z b e → Between released z b e
       → (is_from Default z v && (is_lt (precedence v (exact_bound b)) && true)) ≡ (is_from Default z v && e)
   between z b e row released_row = by_test (is_zero z)
@@ -167,7 +170,7 @@ module _ (v : PlainVersion) where
   simple_passes s = ap (list_all passes) (written_any_is Npm s)
       ∙ any_row s.form (stated_shape s.partial) (pre_any s.partial) (λ n. rw n refl)
 
--- whether a version meets a term
+-- whether a version satisfies a term by default; every version satisfies an empty range
 abbrev meets_term : PlainVersion → Term → Bool
 meets_term v (of_simple s) = meets_one Default s v
 meets_term v of_nothing = true
@@ -179,7 +182,7 @@ module _ (v : PlainVersion) (release : v.pre ≡ []) where
   is_release : is_empty v.pre ≡ true
   is_release = ap is_empty release
 
-  -- a release that meets no comparator doesn't pass it
+  -- for a release, it makes no difference whether `>=0.0.0` matches everything
   same_test : (c : PlainComparator) → meets_comparator v c ≡ passes v c
   same_test c = by_test (is_from_zero c)
       (λ y. let parts = and_parts (is_at_least c.op) _ y in
@@ -189,7 +192,7 @@ module _ (v : PlainVersion) (release : v.pre ≡ []) where
   simple_meets : (s : Simple) → list_all (meets_comparator v) (written_any Npm s) ≡ meets_one Default s v
   simple_meets s = list_all-same (meets_comparator v) (passes v) same_test (written_any Npm s) ∙ simple_passes v s
 
-  -- a release meets what matches everything
+  -- a release satisfies a term that matches everything
   met : (form : Form) {s : List ℕ} → Shape s → (p : List IdentifierValue) → asks_nothing_by form (is_empty s) (is_zero (filled s p)) ≡ true
       → meets_by_count Default form s (filled s p) v ≡ true
   met less s p e = cc

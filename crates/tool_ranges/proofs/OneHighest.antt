@@ -1,5 +1,5 @@
 -- serves: result_laws::version_ranges::one_highest_of
--- The index of the highest is one.
+-- At most one index is that of the highest version.
 use Rattle.std.proofs.Common.{◌≡◌, ◌≢◌, ◌⊎◌, ◌<◌, ◌∙◌, ℕ, Bool, List, Option, Some, None, arith, refl, rules, ap, subst, sym, Less, Greater, ⊎_elim}
 use Rattle.std.specs.Borrow.{Bor}
 use Rattle.std.specs.Prelude.{slice_get}
@@ -34,7 +34,7 @@ one_found lowest g set texts (Some i) None p q = absurd (q i p.version p.is_one)
 one_found lowest g set texts (Some i) (Some j) p q =
     ap Some (one_highest (order_for lowest) (total_for lowest) (IsMember g set texts) i j p q)
 
--- and so is its string
+-- at most one string is that of the highest version
 one_text : (lowest : Bool) (g : Grammar) (set : SetValue) (texts : List (Bor Text)) (a b : Option (Bor Text))
     → FindsHighestText lowest g set texts a → FindsHighestText lowest g set texts b → a ≡ b
 one_text lowest g set texts None None p q = refl
@@ -43,7 +43,7 @@ one_text lowest g set texts (Some s) None (i, at, p) q = absurd (q i p.version p
 one_text lowest g set texts (Some s) (Some t) (i, at_s, p) (j, at_t, q) =
     sym at_s ∙ ap (slice_get texts) (one_highest (order_for lowest) (total_for lowest) (IsMember g set texts) i j p q) ∙ at_t
 
--- so it is of two iterators that give the same strings
+-- the same for two iterators that return the same strings
 pub one_among : (lowest : Bool) (g : Grammar) (set : SetValue) (Gives AlsoGives : List (Bor Text) → Type 0)
     → ((xs ys : List (Bor Text)) → Gives xs → AlsoGives ys → xs ≡ ys) → (a b : Option (Bor Text))
     → (texts : List (Bor Text)) × Gives texts × FindsHighestText lowest g set texts a

@@ -1,5 +1,6 @@
 -- serves: tool_ranges::laws::prefixes_begin_prefixes
--- How the prefixes of partials are completed: one to three components of three languages, and after three what may follow them.
+-- Prefixes of partial versions and their completions. A partial version is one to three components,
+-- each from a set of texts of its own, and after three components there may be a suffix.
 use Rattle.std.proofs.Common.{◌≡◌, ℕ, ◌⊎◌, inl, inr, true, List, [], ◌∷◌, ◌++◌, codes, refl, sym, ap, ◌∙◌, arith, append-nil}
 use Rattle.std.proofs.Common.{append_assoc, subst}
 use Rattle.std.proofs.lemmas.Bool.{and_parts, and_from}
@@ -9,7 +10,7 @@ use Rattle.semver_texts.specs.Texts.{Text, is_part, marked}
 use Rattle.semver_ranges.specs.RangeTree.{one, two, three, SpellsPartial, is_component}
 use Rattle.invalid_strings.proofs.Completions.{CompletesBy, Joined, Seq, both, byte_by, in_bytes, joined, optional, seq}
 
--- identifiers after their mark
+-- a mark, and identifiers joined by dots
 abbrev pub Mark : ℕ → (Text → Type 0) → Text → Type 0
 Mark mark P = Seq (λ x. x ≡ mark ∷ []) (Joined 46 P)
 
@@ -100,7 +101,7 @@ partial a b c m =
     let dot = byte_by in_bytes 46 (omega arith) in
     seq a (optional (seq dot (seq b (optional (seq dot (seq c m))))))
 
--- ---- the trees of their texts
+-- ---- the trees of these texts
 
 pub spelled_one : (a : Text) → is_component a ≡ true → SpellsPartial (one a) a
 spelled_one a e = (and_from _ _ e refl, tt, sym (append-nil a))

@@ -1,5 +1,6 @@
 -- serves: tool_ranges::laws::prefixes_begin_prefixes
--- The offset of a range text's error: whether a text is a range text, and what completes its prefixes.
+-- Lemmas for the offset of an error in a range text: the completions of prefixes, and the longest
+-- prefix.
 use Rattle.std.proofs.Common.{◌≡◌, ℕ, ◌<◌, ◌≤◌, [], ◌∷◌, ◌++◌, List, codes, refl, sym, rules}
 use Rattle.std.proofs.Common.{arith, length, take}
 use Rattle.std.specs.List.{AllByRecursion}
@@ -80,7 +81,7 @@ shorter_prefix dialect x y (rest, text) = grind (arith, common_steps)
 pub text_begins : (dialect : Dialect) (t : Text) → IsTextAs dialect t → BeginsAs dialect t
 text_begins dialect t w = search rules
 
--- ---- the longest, whatever the bytes after it are
+-- ---- the longest prefix, if any bytes may follow it
 
 module _ (dialect : Dialect) (t : Text) (utf8 : IsUtf8 t) where
   any_rest : (x : Text) → IsUtf8 x → BeginsAs dialect x → Begins (IsTextAs dialect) x

@@ -1,5 +1,6 @@
 -- serves: tool_ranges::cargo::rewrite
--- What is printed for a term of Cargo or npm, by the sides of its zero-filled version, is what the tool's table has.
+-- The comparators that are printed from the sides of a term of Cargo or npm are those of the tool's
+-- table.
 use Rattle.std.proofs.Common.{◌≡◌, ℕ, true, false, not, ◌&&◌, ◌==◌, if◌then◌else◌, List, [], ◌∷◌, length, refl, ap}
 use Rattle.semver_texts.specs.Texts.{is_empty}
 use Rattle.semver_texts.specs.Versions.{numbers, IdentifierValue, PlainVersion}
@@ -26,7 +27,7 @@ use Rattle.tool_ranges.proofs.Cells.{Spot, leading_of_two, leading_of_three}
 use Rattle.tool_ranges.proofs.FitCells.{none_stated}
 use Rattle.tool_ranges.proofs.ReadMeanings.{every_equal}
 
--- the tables, of a form, the stated numbers and a pre-release
+-- the comparators by the table, for an operator, stated numbers and a zero-filled version
 abbrev pub written_by : Compat → Form → List ℕ → PlainVersion → List PlainComparator
 written_by m form s z =
     if is_greater form && states_some s then comparator Gte (up (length s) s) ∷ []
@@ -40,7 +41,7 @@ Prints d m form s p =
 abbrev Both : Form → List ℕ → List IdentifierValue → Type 0
 Both form s p = Prints Cargo mode.Cargo form s p × Prints Npm mode.Npm form s p
 
--- the numbers that are raised are stated
+-- raising a number of the zero-filled version is raising the stated number
 pub raised_same : {s : List ℕ} {k : ℕ} → Spot s k → (p : List IdentifierValue) → up k (numbers (filled s p)) ≡ up k s
 raised_same (Spot.first_of_one x) p = refl
 raised_same (Spot.first_of_two x y) p = refl
@@ -101,7 +102,7 @@ npm_cells form (Shape.one x) p none = rw (none refl) (one form x).1
 npm_cells form (Shape.two x y) p none = rw (none refl) (two form x y).1
 npm_cells form (Shape.three x y w) p none = (three form x y w p).1
 
--- Cargo reads nothing stated without an operator
+-- if no number is stated, the operator that Cargo reads is `=`
 cargo_cells : (form : Form) {s : List ℕ} → Shape s → (p : List IdentifierValue) → ((length s == 3) ≡ false → p ≡ [])
     → (is_empty s ≡ true → form ≡ equal) → Prints Cargo mode.Cargo form s p
 cargo_cells form Shape.none p none every = rw (none refl, every refl) refl

@@ -1,5 +1,6 @@
 -- serves: tool_ranges::cargo::rewrite
--- The ranges that are printed, from the events of a text; and what is printed for each tree of Cargo and npm.
+-- The ranges that are printed, found from the events of a text, and the comparators that are
+-- printed for each tree of Cargo and npm.
 use Rattle.std.proofs.Common.{◌≡◌, List, [], ◌∷◌, ◌++◌, map, refl, sym, ap, ◌∙◌, append_assoc}
 use Rattle.std.proofs.lemmas.List.{map-append}
 use Rattle.std.specs.List.{flat_map}
@@ -31,7 +32,7 @@ use Rattle.tool_ranges.proofs.MatchedEvents.{some_ranges}
 use Rattle.tool_ranges.proofs.PrintedCells.{cargo_term, npm_term}
 use Rattle.tool_ranges.proofs.ToolRows.{npm_table}
 
--- ---- of events
+-- ---- events
 module _ (written : Simple → List PlainComparator) (mode : Compat) where
   listed : (first : List Simple) (others : List (List Simple))
       → ranges_by written mode [] (events_in (first ∷ others)) ≡ map (range_of_simples written mode) (first ∷ others)
@@ -39,7 +40,7 @@ module _ (written : Simple → List PlainComparator) (mode : Compat) where
   listed first (next ∷ others) = front_made written mode Stated first [] (next_range ∷ events_in (next ∷ others))
       ∙ ap (λ l. range_of_simples written mode first ∷ l) (listed next others)
 
-  -- the end of a range, and of a text
+  -- the end of a range, and the end of a text
   module _ (old new : List Range) (set : List Comparator) (r : Range) (more : new ≡ old ++ r ∷ [])
       (is : range_of r ≡ record { comparators = map comparator_of set; compat = mode }) where
     with_range : map range_of new ≡ map range_of old ++ record { comparators = map comparator_of set; compat = mode } ∷ []
@@ -65,7 +66,7 @@ printed_events low d mode t tree h =
     ∙ sym (listed (printed_term low d) mode some.0 some.1)
     ∙ ap (λ rs. ranges_by (printed_term low d) mode [] (events_in rs)) (sym some.2)
 
--- ---- of npm
+-- ---- npm
 npm_range : (r : RangeTree)
     → range_of_simples (printed_term Stated Npm) mode.Npm (yielded Stated r) ≡ record { comparators = range_by (written_in mode.Npm) r; compat = mode.Npm }
 npm_range r = (λ i. range_of_simples (λ s. npm_term s i) mode.Npm (yielded Stated r)) ∙ range_made npm_table mode.Npm r
@@ -74,7 +75,7 @@ pub npm_ranges : (tree : SetTree) → printed_ranges Stated Npm mode.Npm tree �
 npm_ranges [] = refl
 npm_ranges (r ∷ others) = λ i. npm_range r i ∷ npm_ranges others i
 
--- ---- of Cargo
+-- ---- Cargo
 pub requirement_printed : (tree : List Simple) (t : Text) → SpellsComparators tree t
     → flat_map (printed_term Stated Cargo) (map as_read tree) ≡ flat_map written_one tree
 requirement_printed [] t h = absurd h

@@ -1,5 +1,6 @@
 -- serves: tool_ranges::cargo::rewrite
--- What is printed for a term that was read and fits is what is printed for that of the tree.
+-- If the numbers of a term that was read fit, its printed comparators are those of the term of the
+-- tree.
 use Rattle.std.proofs.Common.{◌≡◌, ◌++◌, ◌-◌, ◌^◌, true, false, not, ◌&&◌, List, [], ◌∷◌, map, Option, nat_le, refl, sym, ap, ◌∙◌}
 use Rattle.std.proofs.lemmas.Bool.{and_parts}
 use Rattle.std.proofs.lemmas.List.{map-append}
@@ -59,12 +60,12 @@ module _ (d : Dialect) (s : Simple) (simple : read.Simple) (is : IsSimpleOf s si
   upper_rises upper e = ap (λ o. may_rise (2 ^ 64 - 1) o (numbers (version_of simple.partial))) e
       ∙ within_limit d of_read.1 (version_of simple.partial) (and_parts _ _ both_rise).1
 
--- one comparator more
+-- one more comparator was pushed
 pub pushed : (old new : List Comparator) (c : Comparator) (x : PlainComparator) → new ≡ old ++ c ∷ [] → comparator_of c ≡ x
     → map comparator_of new ≡ map comparator_of old ++ x ∷ []
 pushed old new c x e f = ap (map comparator_of) e ∙ map-append comparator_of old (c ∷ []) ∙ ap (λ y. map comparator_of old ++ y ∷ []) f
 
--- the comparators of two sides
+-- the comparators of two sides: a single `=`, or those of the lower and those of the upper side
 pub both_sides : (low : LowerBounds) (lower upper : Option SideValue) (z : PlainVersion) → (is_some lower && ends_past upper) ≡ true
     → (comparator Eq z ∷ []) ≡ printed low lower upper z
 both_sides low lower upper z e = rw e refl

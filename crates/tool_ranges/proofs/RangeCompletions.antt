@@ -1,5 +1,6 @@
 -- serves: tool_ranges::laws::prefixes_begin_prefixes
--- How the prefixes of the range texts of the crate and of npm are completed, by how those of their words are.
+-- Each prefix of a range text of the crate or of npm can be completed by one of a few texts, if each
+-- prefix of a word can be.
 use Rattle.std.proofs.Common.{◌≡◌, ℕ, ◌≤◌, ◌⊎◌, inl, inr, Bool, true, false, List, [], ◌∷◌, ◌++◌, codes, length, refl, sym, ap, ◌∙◌}
 use Rattle.std.proofs.Common.{append-nil, append_assoc, arith, subst}
 use Rattle.std.specs.Prelude.{◌&&◌, ◌||◌, ◌==◌}
@@ -102,7 +103,7 @@ module _ (d : Grammar) where
       from t (tilde, inr w) = after (codes "~>") t refl w
       from t (caret, w) = after (codes "^") t refl w
 
-  -- ---- simples
+  -- ---- terms
 
   abbrev IsSimpleText : Text → Type 0
   IsSimpleText t = (s : Simple) × SpellsSimple d s t
@@ -160,7 +161,7 @@ module _ (d : Grammar) where
         whole = e ∙ ap (λ y. (front ++ gap) ++ y) (r.whole ∙ ap (λ y. r.first ++ y) r.in_second.whole) ∙ simp append_assoc;
       }
 
-  -- ---- ranges between blanks
+  -- ---- ranges with blanks around them
 
   abbrev IsPaddedText : Text → Type 0
   IsPaddedText t = (r : RangeTree) × SpellsPadded d r t
@@ -250,7 +251,7 @@ module _ (d : Grammar) where
           let all : Begun (front ++ (gap ++ (codes "-" ++ (gap' ++ back)))) = both front _ (left, l) (inr tail) in
           inr (inr (subst Begun (sym (e ∙ simp append_assoc)) all))
 
-  -- ---- sets
+  -- ---- range sets
 
   abbrev pub IsSetText : Text → Type 0
   IsSetText t = (tree : SetTree) × SpellsRangeIn d tree t

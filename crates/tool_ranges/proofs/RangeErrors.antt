@@ -1,5 +1,6 @@
 -- serves: tool_ranges::refusals::refused, refused
--- What is refused of a range text without memory that ran out: it has one error, and no set.
+-- If a call returns an error for a range text, other than `OutOfMemory`, the text has this error
+-- only, and no set.
 use Rattle.std.proofs.Common.{◌≡◌, ◌≢◌, Err, ◌↔◌, ◌∙◌, ap, arith}
 use Rattle.std.specs.Prelude.{Result}
 use Rattle.semver_texts.specs.Texts.{Text}

@@ -1,5 +1,6 @@
 -- serves: tool_ranges::laws::prefixes_begin_prefixes
--- How the prefixes of blanks, components, signs and identifiers of a range text are completed.
+-- Each prefix of blanks, of a component and of an identifier in a range text can be completed by one
+-- of a few texts.
 use Rattle.std.proofs.Common.{◌≡◌, ℕ, ◌≤◌, Bool, true, false, [], ◌∷◌, ◌++◌, codes, length, refl, sym, subst, arith, append-nil, ◌∙◌}
 use Rattle.std.specs.List.{list_all}
 use Rattle.std.proofs.lemmas.Bool.{and_parts, and_from}
@@ -12,7 +13,8 @@ use Rattle.semver_ranges.specs.RangeTree.{AreBlanks, AreSomeBlanks, is_blank, is
 use Rattle.invalid_strings.proofs.Completions.{CompletesBy, IsCompletedBy, in_bytes, is_cut}
 use Rattle.invalid_strings.proofs.Leaves.{IsPartWith, byte_apart, digits_prefix, letter_part}
 
--- each prefix of a text of the language is of it, but for nothing
+-- if each prefix of a text with a property has it, too, except perhaps the empty prefix, the empty
+-- completion is enough
 pub closed : (Is : Text → Type 0) (lowest : Text) → Is lowest → is_cut lowest ≡ false → ((t : Text) → Is t → length lowest ≤ length t)
     → ((b : ℕ) (t rest : Text) → Is (b ∷ t ++ rest) → Is (b ∷ t)) → CompletesBy in_bytes Is lowest ([] ∷ [])
 closed Is lowest contains uncut short prefix = record {
@@ -80,7 +82,7 @@ wildcard_prefix b [] [] is = is
 wildcard_prefix b [] (c ∷ rest) is = cc
 wildcard_prefix b (c ∷ t) rest is = cc
 
--- ---- an identifier that passes a test, as each prefix of one does with a letter more
+-- ---- identifiers that pass a test, if each of their prefixes passes it with a letter added
 
 module _ (passes : Text → Bool) (alone : passes (codes "a") ≡ true)
     (with_letter : (x : Text) (c : ℕ) (rest : Text) → passes (x ++ (c ∷ rest)) ≡ true → passes (x ++ codes "a") ≡ true) where

@@ -1,5 +1,5 @@
 -- serves: tool_ranges::laws::one_reason
--- Why a text is not a range has one answer.
+-- There is only one reason why a text is not a range.
 use Rattle.std.proofs.Common.{◌≡◌, ◌∙◌, ℕ, Option, sym}
 use Rattle.semver_texts.specs.Texts.{Text}
 use Rattle.invalid_strings.specs.declared.reasons.Reason.{Reason}

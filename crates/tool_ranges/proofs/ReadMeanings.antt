@@ -1,5 +1,5 @@
 -- serves: tool_ranges::cargo::rewrite
--- On releases the comparators of a requirement mean what it means.
+-- A release satisfies a requirement if and only if it satisfies the requirement's comparators.
 use Rattle.std.proofs.Common.{◌≡◌, ℕ, zero, suc, ◌+◌, Bool, true, false, not, ◌&&◌, ◌||◌, ◌==◌, nat_eq, if◌then◌else◌, List, [], ◌∷◌}
 use Rattle.std.proofs.Common.{length}
 use Rattle.std.proofs.Common.{refl, sym, ap, ◌∙◌, inl, inr, arith}
@@ -36,7 +36,7 @@ use Rattle.tool_ranges.specs.CargoMeaning.{has_wildcard, named, as_read, meets_b
 use Rattle.tool_ranges.specs.CargoTable.{written_one, rewritten_requirement}
 use Rattle.tool_ranges.specs.ToolTable.{is_greater, states_some}
 
--- ---- numbers of a version against stated ones
+-- ---- the numbers of a version compared with stated ones
 
 pub step : (a x : ℕ) → Step (λ o. ordering_then (nat_cmp a x) o) (nat_eq x a) (nat_eq a x)
 step a x = elim (cases_order a x) [
@@ -52,12 +52,13 @@ after Step.lower b = Step.lower
 after Step.level b = b
 after Step.higher b = Step.higher
 
--- what isn't stated is 0
+-- no number is below 0, with which numbers that aren't stated are filled in
 pub not_less : (n : ℕ) (o : Ordering) → is_ge o ≡ true → is_ge (ordering_then (nat_cmp n 0) o) ≡ true
 not_less zero o e = e
 not_less (suc n) o e = rw (le-ltb (suc n) 0 (omega arith), ne_eqb (suc n) 0 (λ h. omega arith)) refl
 
--- the numbers against what is stated, where b tells that the version is a release, and o is the order of what follows
+-- comparisons with stated numbers: `o` is the order of what follows them, and `b` says that the
+-- version is a release
 pub no_lower : (o : Ordering) → is_ge o ≡ true → is_lt o ≡ false
 no_lower Less e = cc
 no_lower Equal e = refl
@@ -92,7 +93,8 @@ is_caret Step.lower o h q = refl
 is_caret Step.level o h q = rw h refl
 is_caret Step.higher o h q = refl
 
--- at or above the number that is raised
+-- a number is at or above a raised number if and only if it is above the number before it was
+-- raised
 pub is_above : (a x : ℕ) (o : Ordering) → is_ge o ≡ true
     → is_ge (ordering_then (nat_cmp a (x + 1)) o) ≡ is_gt (ordering_then (nat_cmp a x) Equal)
 is_above a x o h = elim (cases_order a x) [
@@ -110,7 +112,7 @@ is_above_after Step.lower o o' h = refl
 is_above_after Step.level o o' h = h
 is_above_after Step.higher o o' h = refl
 
--- ---- the rows, on releases
+-- ---- the rows of the table, for releases
 
 abbrev written_by : Form → List ℕ → List IdentifierValue → List PlainComparator
 written_by form s p =
@@ -118,7 +120,7 @@ written_by form s p =
     else written_cell lowest_pre_release (cell Cargo form s) s (filled s p)
 
 module _ (v : PlainVersion) (release : v.pre ≡ []) where
-  -- the order of what isn't stated
+  -- how the numbers that aren't stated compare with zeros, and the pre-release with none
   abbrev past_patch : Ordering
   past_patch = pre_cmp v.pre []
 
@@ -186,7 +188,7 @@ module _ (v : PlainVersion) (release : v.pre ≡ []) where
   any_row form (Shape.two x y) p none named every = rw (none refl) (row_two form x y named)
   any_row form (Shape.three x y w) p none named every = row_three form x y w p
 
--- ---- what is read
+-- ---- comparators as Cargo reads them
 
 pub never_bare : (wild : Bool) (form : Form) → is_bare (named wild form) ≡ false
 never_bare true bare = refl
@@ -203,7 +205,7 @@ bare_only : (form : Form) → is_bare form ≡ true → form ≡ bare
 bare_only bare e = refl
 bare_only _ e = cc
 
--- what states no number is `=`
+-- Cargo reads a comparator that states no number with the operator `=`
 pub every_equal : (s : Simple) → is_of_cargo s ≡ true → is_empty (stated s.partial) ≡ true → (as_read s).form ≡ equal
 every_equal s e none = elim (or_cases _ (not (states_nothing s.partial)) (and_parts _ _ e).1) [
   | inr some ↦ absurd (true≢false (sym some ∙ ap not none))

@@ -1,11 +1,11 @@
 -- serves: result_laws::sets::satisfies_as_the_set
--- The releases that meet what a requirement is rewritten to, and the pre-releases that count and are checked so, are what it means.
+-- The same error as the result of two calls that return different types.
 use Rattle.std.proofs.Common.{rules}
 use Rattle.std.specs.Prelude.{Result, Err}
 use Rattle.semver_ranges.specs.declared.range_set.RangeError.{RangeError}
 use Rattle.semver_ranges.specs.RangeTexts.{Refuses}
 
--- a refusal in place of another answer
+-- an error of a call that otherwise returns `A`
 abbrev failed : (A : Type 0) → RangeError → Result A RangeError
 failed A e = Err e
 

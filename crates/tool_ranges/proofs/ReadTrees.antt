@@ -1,5 +1,6 @@
 -- serves: tool_ranges::meaning::check
--- What is read of a text in a dialect is its one tree, and what a call refuses is what has none that fits.
+-- Reading a text in a dialect gives its only tree, and a call returns an error if the text has no
+-- tree or a number of its tree doesn't fit.
 use Rattle.std.proofs.Common.{◌≡◌, true, false, Some, None, refl, sym, ap, ◌∙◌}
 use Rattle.std.proofs.lemmas.Bool.{both_ways}
 use Rattle.std.specs.Prelude.{Ok, Err}

@@ -1,5 +1,5 @@
 -- serves: tool_ranges::laws::prefixes_begin_prefixes
--- What completes the prefixes of the range texts of each dialect.
+-- Each prefix of a range text in a dialect can be completed by one of a few texts.
 use Rattle.std.proofs.Common.{◌≡◌, true, ◌++◌, refl}
 use Rattle.std.specs.List.{AllByRecursion, Contains, list_all}
 use Rattle.std.specs.Str.{IsUtf8, chars}
@@ -20,7 +20,7 @@ use Rattle.tool_ranges.proofs.CargoCompletions.{requirements}
 use Rattle.tool_ranges.proofs.RangeCompletions.{range_texts}
 use Rattle.tool_ranges.proofs.WordCompletions.{crate_words, npm_words}
 
--- ---- npm's characters
+-- ---- the characters that npm allows
 
 abbrev Stands : Text → Type 0
 Stands t = list_all may_stand (chars t) ≡ true

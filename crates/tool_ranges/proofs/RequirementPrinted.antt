@@ -1,5 +1,6 @@
 -- serves: tool_ranges::cargo::rewrite, reads_back
--- What a requirement is rewritten to is printable, and reads back.
+-- The set that a requirement is rewritten to can be printed, and reading the printed text gives the
+-- set again.
 use Rattle.std.proofs.Common.{◌≡◌, true, false, List, [], ◌∷◌, ◌++◌, refl, arith}
 use Rattle.std.proofs.lemmas.Bool.{and_parts}
 use Rattle.std.specs.List.{flat_map}
@@ -18,7 +19,7 @@ use Rattle.tool_ranges.specs.ToolTable.{fits_in}
 use Rattle.tool_ranges.proofs.ToolRows.{tool_prints}
 use Rattle.std.proofs.lemmas.Grind.{common_steps}
 
--- some comparators, each printable
+-- one or more comparators that can be printed
 abbrev ArePrintable : List PlainComparator → Type 0
 ArePrintable cs = (is_empty cs ≡ false) × (are_printable cs ≡ true)
 

@@ -1,5 +1,5 @@
 -- serves: tool_ranges::npm::rewrite
--- Numbers that are at most 2^53 - 1 fit 64 bits.
+-- Numbers that are at most 2^53 - 1 fit in 64 bits.
 use Rattle.std.proofs.Common.{◌≡◌, ℕ, true, List, refl, arith}
 use Rattle.std.proofs.Common.{Option, Some, None}
 use Rattle.std.specs.List.{list_all}
@@ -15,7 +15,6 @@ use Rattle.semver_texts.specs.NpmLimits.{is_safe}
 use Rattle.tool_ranges.specs.NpmTable.{is_safe_bound, is_safe_simple}
 use Rattle.tool_ranges.specs.ToolTable.{begins_above, fits_in, raised_in}
 
--- they fit 64 bits
 safe_number : (n : ℕ) → is_safe n ≡ true → fits_u64 n ≡ true
 safe_number n e = grind arith
 

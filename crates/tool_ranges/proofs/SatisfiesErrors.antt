@@ -1,5 +1,5 @@
 -- serves: tool_ranges::laws::one_satisfies
--- What is refused of a range, as it is answered, and that there is one answer.
+-- An error of the range is an allowed result of `satisfies`, and only one result is allowed.
 use Rattle.std.proofs.Common.{◌≡◌, ◌∙◌, Bool, Ok, Err, ap, inl, inr, refl, subst, sym, true≢false}
 use Rattle.std.specs.Prelude.{Result}
 use Rattle.semver_texts.specs.ToolVersions.{SpellsIn}

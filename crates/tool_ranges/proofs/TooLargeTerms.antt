@@ -1,5 +1,6 @@
 -- serves: tool_ranges::refusals::refused
--- Which terms of a range text fit, from the left, as the loops over its events and comparators count them; and where a word ends.
+-- How many terms of a range text fit before the first that doesn't, as the loop over its events
+-- counts them; and the offsets of words and components.
 use Rattle.std.proofs.Common.{◌≡◌, ℕ, zero, suc, ◌+◌, ◌≤◌, Bool, true, false, List, [], ◌∷◌, ◌++◌, Option, Some, None, length, refl, sym}
 use Rattle.std.proofs.Common.{ap, append-nil, ◌∙◌, arith, map}
 use Rattle.std.specs.Prelude.{option_map}
@@ -30,7 +31,7 @@ use Rattle.tool_ranges.proofs.Comparators.{same_ranges}
 use Rattle.tool_ranges.proofs.ReadTrees.{complete_as}
 use Rattle.tool_ranges.proofs.ToolRows.{npm_table}
 
--- ---- how many of some terms fit, of those that state a number
+-- ---- how many terms fit before the first that doesn't; terms that state no number aren't counted
 
 abbrev pub fitting : (Simple → Bool) → List Simple → ℕ
 fitting p ss = prefix_len p (stating ss)
@@ -45,18 +46,18 @@ module _ (p : Simple → Bool) (s : Simple) (ss : List Simple) where
   pub fitting_end : states_nothing s.partial ≡ false → p s ≡ false → fitting p (s ∷ ss) ≡ 0
   fitting_end n y = rw (n, y) refl
 
--- those of the events
+-- the terms of events
 abbrev in_events : List Event → List Simple
 in_events [] = []
 in_events (one_simple s ∷ es) = s ∷ in_events es
 in_events (next_range ∷ es) = in_events es
 
--- with k that were counted before; nothing if the text is none
+-- the number of terms that fit, with `k` that were counted before; `None` if the text is not a range
 abbrev pub counted : (Simple → Bool) → ℕ → Option (List Event) → Option ℕ
 counted p k None = None
 counted p k (Some es) = Some (k + fitting p (in_events es))
 
--- two bars that come first
+-- one step of the count, from the events `o` to the events `left`
 module _ (p : Simple → Bool) (whole : Option ℕ) (k : ℕ) (o left : Option (List Event)) (so_far : whole ≡ counted p k o) where
   module _ (s : Simple) (first : o ≡ put (one_simple s) left) where
     pub count_more : states_nothing s.partial ≡ false → p s ≡ true → whole ≡ counted p (k + 1) left
@@ -136,7 +137,7 @@ module _ (p : Simple → Bool) where
     tree_terms (r ∷ next ∷ others) = ap (fitting p) (in_front_of (yielded lower r) (next_range ∷ events_of lower (next ∷ others)))
         ∙ range_terms r (in_events (events_of lower (next ∷ others))) (flat_map terms_of (next ∷ others)) (tree_terms (next ∷ others))
 
--- those of Cargo, as they are read
+-- the terms of a requirement, with the operators that Cargo reads
 read_terms : (tree : List Simple) → fitting (term_fits Cargo) (map as_read tree) ≡ fitting (term_fits_as Cargo) tree
 read_terms [] = refl
 read_terms (s ∷ tree) = by_test (states_nothing s.partial)

@@ -1,5 +1,6 @@
 -- serves: tool_ranges::npm::rewrite
--- The tables of the tools: sides that state nothing, and printable comparators.
+-- In npm's table, a side of a hyphen range that states nothing is `>=0.0.0`. The comparators of
+-- Cargo's and of npm's table can be printed.
 use Rattle.std.proofs.Common.{◌≡◌, true, false, refl, arith, rules}
 use Rattle.std.proofs.lemmas.Bool.{and_parts, and_from}
 use Rattle.std.specs.List.{list_all}

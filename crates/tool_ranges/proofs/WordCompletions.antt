@@ -1,5 +1,6 @@
 -- serves: tool_ranges::laws::prefixes_begin_prefixes
--- How the prefixes of the words of range texts, as the crate and as npm read them, are completed.
+-- Each prefix of a word of a range text, in the crate's and in npm's grammar, can be completed by
+-- one of a few texts.
 use Rattle.std.proofs.Common.{◌≡◌, ℕ, ◌+◌, ◌≤◌, ◌⊎◌, inl, inr, Bool, true, false, List, [], ◌∷◌, ◌++◌, codes, length, refl, sym, ap, ◌∙◌}
 use Rattle.std.proofs.Common.{arith}
 use Rattle.std.proofs.Common.{append-nil, cond, eqb, length-append, subst}
@@ -34,7 +35,7 @@ IsWord d role t = (p : PartialTree) × SpellsWord d role p t
 abbrev pub word_completions : List Text
 word_completions = codes "" ∷ codes "*" ∷ codes "a" ∷ []
 
--- ---- the crate's
+-- ---- the crate's words
 
 abbrev IsComponent : Text → Type 0
 IsComponent t = is_component t ≡ true
@@ -89,7 +90,8 @@ crate_words role =
 
 -- ---- npm's components and identifiers
 
--- a component in the place of another, which is a wildcard if that is one
+-- `t` is a component that may replace `c`: it isn't longer, npm's limit allows it, and it is a
+-- wildcard if `c` is one
 abbrev InPlace : Text → Text → Type 0
 InPlace c t = (is_component t ≡ true) × (is_short_number t ≡ true) × (length t ≤ length c) × (is_wildcard c ≡ true → is_wildcard t ≡ true)
 
@@ -112,11 +114,12 @@ pub no_digits : (x : Text) → all_ascii_digits (x ++ codes "a") ≡ false
 no_digits [] = refl
 no_digits (b ∷ x) = grind (arith, no_digits x)
 
--- the test by numbers: the digits that it begins with, and the length
+-- `is_short_pre` for an identifier of `n` bytes that begins with `d` digits
 abbrev short_pre : ℕ → ℕ → Bool
 short_pre d n = if d == n then nat_le n (max_length + 1) else nat_le d max_length && nat_le n (d + (max_build_length + 1))
 
--- a prefix of so many digits and so long, and what was after it
+-- if a prefix of `n` bytes and the `n'` bytes after it aren't too long together, the prefix and one
+-- letter aren't
 letter_short : (d n d' n' : ℕ) → d ≤ n → d' ≤ n' → 1 ≤ n' → short_pre (cond (eqb d n) (n + d') d) (n + n') ≡ true
     → short_pre (cond (eqb d n) (n + 0) d) (n + 1) ≡ true
 letter_short d n d' n' a b c h = grind (arith, nat_tests)
@@ -140,8 +143,10 @@ NpmPre = IsPartWith is_npm_pre
 abbrev NpmBuild : Text → Type 0
 NpmBuild = IsPartWith is_short_build
 
--- ---- what is after three of npm's components: a build only after a pre-release of so many bytes, or a build alone
+-- ---- the suffix after three of npm's components
 
+-- if `k` is true, nothing, or a pre-release of at most `q` bytes and perhaps build metadata;
+-- otherwise nothing or build metadata
 abbrev NpmMarks : Bool → ℕ → Text → Type 0
 NpmMarks true q t = (t ≡ []) ⊎ Seq (λ t. Mark 45 NpmPre t × (length t ≤ q)) (Marked 43 NpmBuild) t
 NpmMarks false q t = Marked 43 NpmBuild t
@@ -152,7 +157,7 @@ npm_marks true q some =
     among (optional (seq (limited (pre_mark (part is_npm_pre refl pre_letter)) q some) builds)) ([] ∷ codes "a" ∷ []) refl
 npm_marks false q some = among (optional (build_mark (part is_short_build refl build_letter))) ([] ∷ codes "a" ∷ []) refl
 
--- the parts of it: whether there is a pre-release, which has no more bytes
+-- the parts of such a suffix
 record AreMarks (k : Bool) (q : ℕ) (t : Text) : Type 0 where
   pre : List Text
   build : List Text
@@ -219,9 +224,9 @@ marks_to (x ∷ xs) build q all others short = inr (record {
   whole = refl;
 })
 
--- ---- npm's bounds
+-- ---- npm's limits on lengths
 
--- whether the word is taken over whole, by whether it has a pre-release
+-- whether node-semver copies a word as a whole; `k` says whether the word has a pre-release
 abbrev is_whole : Role → Bool → Bool
 is_whole (after_form tilde) k = false
 is_whole (after_form caret) k = false
@@ -239,11 +244,12 @@ abbrev extra : Bool → ℕ → ℕ
 extra true q = q
 extra false q = 0
 
--- the word of n bytes is short, whose numbers have so many bytes and whose pre-release has q
+-- a word of `n` bytes isn't too long; its numbers and its pre-release have `size` bytes
 abbrev IsShort : Role → Bool → ℕ → ℕ → Type 0
 IsShort role k n size = (is_whole role k ≡ true → n ≤ max_length) × (is_whole role k ≡ false → size ≤ max_length)
 
--- so is one with shorter parts, if it has a pre-release or is without the first one's and build
+-- nor is a word whose parts aren't longer. It may have a pre-release only if the first word has one,
+-- and if it lacks the first word's pre-release, it has no build metadata
 stays : (role : Role) (k k' : Bool) (n n' core core' q q' : ℕ) → n' ≤ n → core' ≤ core → q' ≤ extra k' q → 2 ≤ q → (k' ≡ true → k ≡ true)
     → (k ≡ true → k' ≡ false → n' ≤ core' + 1) → IsShort role k n (core + extra k q) → IsShort role k' n' (core' + q')
 stays (after_form bare) k k' n n' core core' q q' a b c d e f g = (λ y. omega (arith, a, g.0 refl), λ y. absurd (cc))
@@ -263,7 +269,8 @@ stays after_hyphen false false n n' core core' q q' a b c d e f g = (λ y. omega
 
 -- ---- npm's words
 
--- a word, as far as it bounds those that take its place: its components, whether it has a pre-release, of how many bytes, and its bytes
+-- a word, as far as it limits the words that replace it: its components, whether it has a
+-- pre-release, of how many bytes, and the bytes of the word
 record Model (role : Role) : Type 0 where
   a : Text
   b : Text
@@ -282,7 +289,7 @@ record Model (role : Role) : Type 0 where
 abbrev IsV : Text → Type 0
 IsV t = (t ≡ []) ⊎ (t ≡ codes "v")
 
--- ---- lemmas on what is short
+-- ---- lemmas about lengths
 
 v_short : (v : Text) → IsV v → length v ≤ 1
 v_short v (inl e) = omega (arith, ap length e)
@@ -326,7 +333,7 @@ by_short : (w : Bool) (n k : ℕ) → is_short_version (if w then n else k) ≡ 
 by_short true n k h = (λ y. grind (arith, nat_tests), λ y. absurd (cc))
 by_short false n k h = (λ y. absurd (cc), λ y. grind (arith, nat_tests))
 
--- the bytes of a pre-release; of none, as many as the shortest has
+-- the number of bytes of a pre-release with its mark; 2, the smallest such number, if there is none
 abbrev pre_size : List Text → ℕ
 pre_size [] = 2
 pre_size (x ∷ xs) = length (marked (45 ∷ []) (x ∷ xs))
@@ -350,7 +357,8 @@ size_fits [] = omega arith
 size_fits (x ∷ xs) = omega arith
 
 module _ (role : Role) where
-  -- three numbers are short if the version is
+  -- a word of three components isn't too long if and only if `IsShort` holds, or a component is a
+  -- wildcard
   short_three : (a b c : Text) (pre build : List Text) (n : ℕ)
       → (is_wildcard a ≡ false → is_wildcard b ≡ false → is_wildcard c ≡ false
       → IsShort role (not (is_empty pre)) n ((length a + (length b + length c) + 2) + length (marked (45 ∷ []) pre)))
@@ -386,7 +394,7 @@ module _ (role : Role) where
         let numbers = partial (in_place i.a i.a_some) (in_place i.b i.b_some) (in_place i.c i.c_some) (npm_marks i.k i.q i.q_some) in
         among (limited (seq (optional (byte_by in_bytes 118 (omega arith))) numbers) i.n i.n_some) word_completions refl
 
-    -- three components in their places
+    -- three components that may replace those of the model
     module _ (t v back : Text) (v_is : IsV v) (whole : t ≡ v ++ back) (less : length t ≤ i.n)
         (o : IsThree (InPlace i.a) (InPlace i.b) (InPlace i.c) (NpmMarks i.k i.q) back) where
       abbrev marks : AreMarks i.k i.q o.m
@@ -450,7 +458,7 @@ module _ (role : Role) where
   same_place : (c : Text) → is_component c ≡ true → is_short_number c ≡ true → InPlace c c
   same_place c e short = (e, short, omega arith, λ w. w)
 
-  -- a word takes its own place
+  -- the text is a word of some model; each of npm's words is one of its own model
   IsModelled : Text → Type 0
   IsModelled t = (i : Model role) × Modelled i t
 

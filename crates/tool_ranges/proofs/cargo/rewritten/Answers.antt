@@ -21,7 +21,7 @@ use Rattle.tool_ranges.proofs.cargo.rewritten.Goals as goal
 use Rattle.tool_ranges.proofs.cargo.rewritten.Goals.{In-Some-default-None}
 use Rattle.semver_ranges.specs.declared.range_set.RangeError.TheVariants.{NumberTooLarge}
 
--- the one comparator of the text
+-- the only comparator of the text
 record One (t : Text) (simple : read.Simple) : Type 0 where
   pub s : Simple
   pub is : IsSimpleOf (as_read s) simple

@@ -8,7 +8,7 @@ use Rattle.tool_ranges.proofs.MatchedEvents.{FirstTerm, first_term}
 use Rattle.tool_ranges.proofs.matching.check.Goals as goal
 use Rattle.tool_ranges.proofs.matching.check.Goals.{In-Simple}
 
--- the term that comes first
+-- the next event is a term
 first : (c : In-Simple) → FirstTerm (grammar_of c.args.dialect) c.loop-event.invariant.0 c.in-Simple.simple c.next.new.self
 first c =
     let so_far = c.loop-event.invariant in

@@ -12,7 +12,7 @@ use Rattle.tool_ranges.proofs.TooLargeTerms.{count_all, count_end, count_more, c
 use Rattle.tool_ranges.proofs.matching.fitting.Goals as goal
 use Rattle.tool_ranges.proofs.matching.fitting.Goals.{In-Simple}
 
--- the simple that comes first
+-- the next event is a term
 first : (c : In-Simple) → FirstTerm (grammar_of c.args.dialect) c.loop-event.invariant.0 c.in-Simple.simple c.next.new.self
 first c =
     let so_far = c.loop-event.invariant in

@@ -14,7 +14,7 @@ not_counted : (all : Bool) (v : PlainVersion) → not (counts all v) ≡ (not al
 not_counted true v = refl
 not_counted false v = refl
 
--- the term that comes first
+-- the next event is a term
 first : (c : In-Simple) → FirstTerm (grammar_of c.args.dialect) c.loop-event.invariant.0 c.in-Simple.simple c.next.new.self
 first c =
     let so_far = c.loop-event.invariant in

@@ -11,7 +11,7 @@ use Rattle.tool_ranges.proofs.MatchedMeanings.{same_plain}
 use Rattle.std.proofs.lemmas.Result.{IfOk-weaker}
 use Rattle.tool_ranges.proofs.meaning.satisfies.Goals as goal
 
--- what is answered in a dialect of a version, whose build doesn't count
+-- the result in a dialect for a version, whose build metadata doesn't count
 record Answers (t : Text) (rule : PreReleases) (v : PlainVersion) (r : Result Bool RangeError) (d : Dialect) : Type 0 where
   pub refusals : RefusesAs d t r
   pub meaning : IfOk r (λ met. (tree : TreeOf d) → SpellsAs d tree t → met ≡ meant_by d rule tree (without_build v))

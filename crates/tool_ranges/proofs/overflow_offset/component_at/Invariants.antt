@@ -4,7 +4,8 @@ use Rattle.semver_texts.specs.Texts.{is_dot}
 use Rattle.tool_ranges.specs.TooLarge.{component_at}
 use Rattle.tool_ranges.proofs.overflow_offset.component_at.Given as goal
 
--- what is left of the text begins after the components that were passed
+-- the rest of the text begins at `begin`, and the offset in the text is `begin` plus that in the
+-- rest
 abbrev pub invariant-loop-after : goal.invariant-loop-after
 invariant-loop-after l = (component_at l.limit (slice_split is_dot l.components) ≡ l.begin + component_at l.limit (slice_split is_dot l.rest))
     × (l.begin + length l.rest ≡ length l.components)

@@ -46,7 +46,8 @@ lower_pushed c s is fit =
           ∙ ap (λ o. map comparator_of old ++ at_side (lower_comparator c.args.lower) o z) (sym (ap (option_map side_value) w.in_default.is))
     ]
 
--- both sides, of which the comparators of the lower one were added
+-- if the comparators of the lower side were pushed, those of the upper side complete the term's
+-- comparators
 both_pushed : (c : Joined-first) (s : Simple) → IsSimpleOf s c.args.simple.now → term_fits c.args.dialect s ≡ true
     → map comparator_of c.match-first.comparators.items
     ++ at_side upper_comparator (option_map side_value c.sides-first.result.1) (version_of c.args.simple.now.partial)
