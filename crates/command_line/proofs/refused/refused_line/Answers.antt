@@ -8,7 +8,7 @@ use Rattle.tool_ranges.specs.declared.refusals.Refusal.{Refusal}
 use Rattle.command_line.specs.RefusedLines.{line_of}
 use Rattle.command_line.proofs.refused.refused_line.Goals as goal
 
--- the line is that of what was found
+-- the line is made from the offset and the reason that were found, if any
 of_found : {S E : Type 0} (bytes : S → Text) (d : Dialect) (error : RangeError) (t : Text) (found : Option Refusal)
     → IsRefusalAs d t found → (r : Result S E) → IfOk r (λ line. bytes line ≡ line_of error found (length t))
     → IfOk r (λ line. (x : Option Refusal) × IsRefusalAs d t x × (bytes line ≡ line_of error x (length t)))
