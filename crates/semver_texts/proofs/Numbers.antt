@@ -214,7 +214,7 @@ more_after text (b ∷ rest) n begins some number =
 
 -- ---- three numbers joined by dots
 
--- each of the three numbers, with the text that it is at the beginning of
+-- each of the three numbers, at the beginning of the text after the one before it and a dot
 record AreThree (text : List ℕ) (major minor patch : ℕ) (rest : List ℕ) : Type 0 where
   second : List ℕ
   third : List ℕ

@@ -1,5 +1,5 @@
 -- serves: tool_ranges::cargo::rewrite
--- What is known about a version and a range text after each event of the text.
+-- The progress of matching a version with a range text, after each event of the text.
 use Rattle.std.proofs.Common.{◌≡◌, Bool, true, false, ◌&&◌, ◌||◌, if◌then◌else◌, List, [], ◌∷◌, map, Option, Some, None, refl, sym, ap, ◌∙◌}
 use Rattle.std.proofs.Math.Bool.{and-true, and-false, or-false}
 use Rattle.std.proofs.lemmas.List.Folds.{list_all-map}
@@ -79,8 +79,8 @@ some_ranges lower CrateNpm t [] h = absurd h
 some_ranges lower CrateNpm t (r ∷ others) h = (yielded lower r, map (yielded lower) others, refl)
 
 module _ (d : Dialect) (all : Bool) (v : PlainVersion) where
-  -- what is known at the end, from what was known before the events: `None` if the text is not a
-  -- range, and `Some None` if a number doesn't fit
+  -- the progress at the end, from the progress before the events: `None` if the text is not a range,
+  -- and `Some None` if a number doesn't fit
   abbrev pub told : Bool → Progress → Option (List Event) → Option (Option Progress)
   told fit t None = None
   told fit t (Some es) =
@@ -100,7 +100,7 @@ module _ (d : Dialect) (all : Bool) (v : PlainVersion) where
 
   -- ---- the events of ranges
 
-  -- what is known after the terms of one range
+  -- the progress after the terms of one range
   abbrev folded : Progress → List Simple → Progress
   folded t ss = record t {
     here = t.here && list_all (term_met d all v) ss;
@@ -134,7 +134,7 @@ module _ (d : Dialect) (all : Bool) (v : PlainVersion) where
     every = t.every;
   }) es)
 
-  -- what is known at the beginning of a range
+  -- the progress at the beginning of a range
   abbrev fresh : Bool → Bool → Progress
   fresh met every = record { here = true; counts = counts all v; nothing = true; met = met; every = every }
 
@@ -150,7 +150,8 @@ module _ (d : Dialect) (all : Bool) (v : PlainVersion) where
       ∙ (λ i. fresh (or_assoc met (range_met d all v ss) (list_any (range_met d all v) (next ∷ others)) i)
       (or_assoc every (range_every ss) (list_any range_every (next ∷ others)) i))
 
-  -- what is known after the events of a tree is correct for the tree
+  -- the progress after the events of a tree says whether the version satisfies a range of the tree,
+  -- and whether some range matches everything
   pub says_so : (t : Text) (tree : TreeOf d) → SpellsAs d tree t → (progress : Progress)
       → ended (counts all v) (after d all v (begun (counts all v)) (events_in (ranges_of (lower_of d all) d tree))) ≡ progress
       → Says d all v progress tree
