@@ -10,7 +10,7 @@ use Rattle.semver_texts.proofs.Numbers.{IsNumber-from_canonical, digits_value_nu
 use Rattle.semver_tokens.specs.Tokens.{TokenValue, Numeric, AlphaNumeric}
 use Rattle.semver_tokens.specs.Steps.Scanning.{component}
 
--- a run that is a number is its token `Numeric`, and any other run `AlphaNumeric`
+-- the token of a run is `Numeric` if the run is a number, and `AlphaNumeric` otherwise
 pub component_cases : (run : List ℕ) (P : TokenValue → Type 0) → (IsCanonical run → P (Numeric (digits_value 10 run)))
     → (¬ (IsCanonical run) → P (AlphaNumeric run)) → P (component run)
 unfolding component

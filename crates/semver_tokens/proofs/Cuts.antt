@@ -1,5 +1,5 @@
 -- serves: semver_tokens::lexer::LexerIterator::next, steps
--- A text may be cut where a token ends.
+-- The end of a token is a character boundary of the text.
 use Rattle.std.proofs.Common.{◌≡◌, ℕ, zero, suc, ◌+◌, ◌-◌, ◌<◌, ◌≤◌, Bool, true, List, ◌++◌, length, get_or, take, drop, sym, refl}
 use Rattle.std.proofs.Common.{ap, ◌∙◌, subst, arith, IsUtf8, length-drop, length-append, length-take-le, take-append-drop, zero-add}
 use Rattle.std.proofs.Common.{get_or-drop, Some, ltb}
@@ -22,7 +22,6 @@ use Rattle.semver_tokens.proofs.FirstToken.{all_of_prefix, IsFound, first_token-
 small_ascii : (bs : List ℕ) → AllByRecursion (λ b. IsTrue (ltb b 128)) bs → IsAscii bs
 small_ascii bs all = ascii_from (λ b. ltb b 128) (λ b h. ltb-true b 128 h) bs all
 
--- a token's text is ASCII
 pub IsAscii-token_text : (text : List ℕ) (place : ℕ) (t : TokenValue) → IsTokenAt text place t → IsAscii (token_text text t)
 IsAscii-token_text text place (Whitespace first after) w = ascii_from is_space space_ascii _ w.3
 IsAscii-token_text text place (Numeric n) small = IsAscii-decimal n small
@@ -32,7 +31,7 @@ IsAscii-token_text text place GtEq w = small_ascii (token_text text GtEq) (refl,
 IsAscii-token_text text place Or w = small_ascii (token_text text Or) (refl, (refl, tt))
 IsAscii-token_text text place t w = small_ascii (token_text text t) (refl, tt)
 
--- a text may be cut after ASCII
+-- the offset after some ASCII bytes is a character boundary
 pub cut_after_ascii : (text : List ℕ) (place : ℕ) (xs more : List ℕ) → IsUtf8 text → drop place text ≡ xs ++ more → 0 < length xs
     → IsAscii xs → IsCharBoundary text (place + length xs)
 cut_after_ascii text place xs more utf8 e some ascii =
@@ -44,7 +43,7 @@ cut_after_ascii text place xs more utf8 e some ascii =
     let after : place + last + 1 ≡ place + length xs = omega arith in
     subst (IsCharBoundary text) after (IsCharBoundary-after_ascii text (place + last) utf8 (omega arith) small)
 
--- and after the first token of what is at a place
+-- so is the offset after a token
 pub cut_after_token : (text : List ℕ) (place : ℕ) (t : TokenValue) (n : ℕ) → place ≤ length text → IsUtf8 (drop place text)
     → first_token place (drop place text) ≡ Some (t, n) → IsCharBoundary text (place + n)
 cut_after_token text place t n within utf8 e =
@@ -55,7 +54,7 @@ cut_after_token text place t n within utf8 e =
     IsCharBoundary-from_rest text place n within (subst (IsCharBoundary (drop place text))
     (zero-add (length (token_text text t)) ∙ f.len) cut)
 
--- and after the longest front of bytes that pass a test, where these are ASCII
+-- the longest prefix of bytes that pass a test ends at a character boundary, if only ASCII bytes pass
 module _ (p : ℕ → Bool) (small : (b : ℕ) → p b ≡ true → b < 128) where
   cut_after_some : (bs : List ℕ) → IsUtf8 bs → 0 < prefix_len p bs → IsCharBoundary bs (prefix_len p bs)
   cut_after_some bs utf8 some =
@@ -72,6 +71,5 @@ module _ (p : ℕ → Bool) (small : (b : ℕ) → p b ≡ true → b < 128) whe
       at_len zero e = IsCharBoundary-start bs utf8
       at_len (suc n) e = rw e (cut_after_some bs utf8 (omega (arith, e)))
 
--- so after the longest front of letters and digits
 pub cut_after_run : (bs : List ℕ) → IsUtf8 bs → IsCharBoundary bs (prefix_len is_ascii_alphanumeric bs)
 cut_after_run bs utf8 = cut_after_prefix is_ascii_alphanumeric run_ascii bs utf8

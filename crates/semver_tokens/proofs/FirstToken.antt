@@ -1,5 +1,5 @@
 -- serves: semver_tokens::laws::one_token_list
--- The first token of a text, and what is after it.
+-- The first token of a text, and the bytes after it.
 use Rattle.std.proofs.Common.{◌≡◌, ℕ, ◌+◌, ◌-◌, ◌<◌, ◌≤◌, Bool, true, false, eqb, ◌&&◌, ◌||◌, List, [], ◌∷◌, ◌++◌, length, take, drop}
 use Rattle.std.proofs.Common.{Option, Some, None, sym, refl, ap, ◌∙◌, arith, length-drop, take-append-drop}
 use Rattle.std.specs.Prelude.{is_some, slice_range, slice_index, take_while}
@@ -18,12 +18,11 @@ pub use Rattle.semver_texts.proofs.Lists.{by_test, all_of_prefix, never, prefix_
 pub use Rattle.semver_texts.proofs.Runs.{run_is_no_space, run_is_part}
 use Rattle.std.proofs.lemmas.List.Folds.{length-prefix_len}
 
--- nothing, or some value
 pub option_cases : {A G : Type 0} (o : Option A) → (o ≡ None → G) → ((x : A) → o ≡ Some x → G) → G
 option_cases None f g = f refl
 option_cases (Some x) f g = g x refl
 
--- the byte would lengthen the token
+-- whether the byte, if it is right after the token, would lengthen it
 abbrev pub continues : TokenValue → ℕ → Bool
 continues Lt b = eqb b 61
 continues Gt b = eqb b 61
@@ -32,11 +31,12 @@ continues (Numeric n) b = is_ascii_alphanumeric b
 continues (AlphaNumeric bytes) b = is_ascii_alphanumeric b
 continues _ b = false
 
--- what follows lengthens the token; at the end there is no byte, and 0 lengthens none
+-- whether the first of these bytes lengthens the token; at the end of a text, `slice_index` is 0,
+-- which lengthens no token
 abbrev pub continues_into : TokenValue → List ℕ → Bool
 continues_into t bs = continues t (slice_index bs 0)
 
--- what is at a place begins with a token, which ends where more begins
+-- the bytes bs at the offset `place` are the token t and then `more`, which doesn't lengthen it
 pub record IsFront (text : List ℕ) (place : ℕ) (t : TokenValue) (bs more : List ℕ) : Type 0 where
   pub spelled : bs ≡ token_text text t ++ more
   pub is_token : IsTokenAt text place t
@@ -73,7 +73,7 @@ unfolding first_token
 is_some-first_token place [] = refl
 is_some-first_token place (b ∷ bs) = grind (arith, nat_tests, is_some-sign)
 
--- the token of a run, or white space, is found where it is
+-- the first token, by the kind of its first byte b
 pub first_token-at_run : (place b : ℕ) (bs : List ℕ) → is_ascii_alphanumeric b ≡ true
     → first_token place (b ∷ bs) ≡ Some (component (take_while is_ascii_alphanumeric (b ∷ bs)), prefix_len is_ascii_alphanumeric (b ∷ bs))
 unfolding first_token
@@ -89,7 +89,7 @@ pub first_token-at_other : (place b : ℕ) (bs : List ℕ) → is_space b ≡ fa
 unfolding first_token
 first_token-at_other place b bs s r = rw (s, r) refl
 
--- ---- what `sign` gives
+-- ---- the result of `sign`
 
 sign_text : (text : List ℕ) (b : ℕ) (bs : List ℕ) (t : TokenValue) (n : ℕ) → sign b (slice_index bs 0) ≡ Some (t, n)
     → token_text text t ≡ take n (b ∷ bs)
@@ -126,7 +126,7 @@ IsTokenAt-component text place run is_run =
 pub continues-component : (run : List ℕ) (b : ℕ) → continues (component run) b ≡ is_ascii_alphanumeric b
 continues-component run b = component_cases run (λ t. continues t b ≡ is_ascii_alphanumeric b) (λ c. refl) (λ other. refl)
 
--- ---- what is found is the first token
+-- ---- the token that is found is the first one
 
 pub record IsFound (text : List ℕ) (place : ℕ) (bs : List ℕ) (t : TokenValue) (n : ℕ) : Type 0 where
   pub front : IsFront text place t bs (drop n bs)
@@ -147,7 +147,7 @@ module _ (text : List ℕ) (place : ℕ) where
         positive = is.1;
       }
 
-  -- a token of all bytes in front that pass a test
+  -- a token whose text is the longest prefix of bytes that pass a test
   found_prefix : (p : ℕ → Bool) (b : ℕ) (bs : List ℕ) (t : TokenValue) → p 0 ≡ false → p b ≡ true
       → token_text text t ≡ take (prefix_len p (b ∷ bs)) (b ∷ bs) → IsTokenAt text place t → ((x : ℕ) → continues t x ≡ p x)
       → IsFound text place (b ∷ bs) t (prefix_len p (b ∷ bs))

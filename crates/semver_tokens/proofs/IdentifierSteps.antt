@@ -1,5 +1,5 @@
 -- serves: semver_tokens::parser::Parser::identifier, answer
--- The shape of an identifier, token by token, and that each identifier that is read has a value.
+-- The automaton that reads an identifier token by token, and the value of each identifier.
 use Rattle.std.proofs.Common.{◌≡◌, ℕ, ◌^◌, ◌<◌, Bool, true, false, List, [], ◌∷◌, ◌++◌, length, map, Some, None, Option, Ok}
 use Rattle.std.proofs.Common.{Err, sym, refl, ap, ◌∙◌, arith, append-nil, cond, decimal}
 use Rattle.std.specs.Prelude.{option_map, IsTrue, flat_map, slice_get}
@@ -21,17 +21,17 @@ use Rattle.semver_tokens.proofs.FirstToken.{by_test}
 use Rattle.semver_tokens.proofs.TokenLists.{decimal_is_run}
 use Rattle.semver_tokens.proofs.ReadingSteps.{IsReadBy, Pops, Stops, longest_stops, none_taken, reads_value, next_given, expected_given}
 
--- at false a run is wanted; at true one has been read
+-- the automaton of an identifier: it is in the state false before a run, and in true after one
 abbrev pub id_step : Bool → TokenValue → Option Bool
 id_step false t = cond (is_component t) (Some true) None
 id_step true Hyphen = Some false
 id_step true _ = None
 
--- further runs
+-- runs, each after a hyphen
 abbrev pub hyphened : List TokenValue → List TokenValue
 hyphened runs = flat_map (λ t. Hyphen ∷ t ∷ []) runs
 
--- a first run, and each other after a hyphen
+-- the tokens are a run, and further runs, each after a hyphen
 pub record HasFirstRun (ts : List TokenValue) : Type 0 where
   pub first : TokenValue
   pub runs : List TokenValue
@@ -75,7 +75,7 @@ identifier_leads_on : (ts : List TokenValue) → IsIdentifierShape ts → run id
 identifier_leads_on ts w =
     let f = first_run_of ts w in rw f.is (component_leads f.first f.first_run (hyphened f.runs) ∙ runs_lead f.runs f.each_run)
 
--- what was taken from where a run is wanted, and from after one
+-- the rest of an identifier, from before a run on (false) or from after a run on (true)
 abbrev HasRuns : Bool → List TokenValue → Type 0
 HasRuns false ts = HasFirstRun ts
 HasRuns true ts = (runs : List TokenValue) × AllByRecursion (λ t. IsTrue (is_component t)) runs × (ts ≡ hyphened runs)
@@ -96,7 +96,6 @@ id_live : (s : Bool) → (more : List TokenValue) × (u : Bool) × (run id_step 
 id_live true = ([], true, refl, refl)
 id_live false = (Numeric 0 ∷ [], true, refl, refl)
 
--- the shape of an identifier is read from where a run is wanted
 pub identifier_is_read : IsReadBy id_step (λ b. b) false IsIdentifierShape
 identifier_is_read = record {
   shape = λ ts u e ok. identifier_of (runs_taken false ts (e ∙ ap (λ b. Some b) ok));
@@ -105,7 +104,7 @@ identifier_is_read = record {
   live = id_live;
 }
 
--- and where it was read, a run is the last that was taken
+-- if the longest prefix is an identifier, it ends after a run, and no hyphen follows
 pub identifier_stops : {ts front rest : List TokenValue} → IsLongestFront IsIdentifierShape ts front rest → IsIdentifierShape front
     → (run id_step false front ≡ Some true) × Stops id_step true rest
 identifier_stops {ts} {front} {rest} w shape =
@@ -114,9 +113,9 @@ identifier_stops {ts} {front} {rest} w shape =
     let leads : run id_step false front ≡ Some true = cc (whole.1, whole.2) in
     (leads, rw (same_Some stop.0 true (sym stop.1 ∙ leads)) at stop.2)
 
--- ---- the value of an identifier that is whole
+-- ---- the value of an identifier
 
--- what a token of some text is
+-- the requirements on a token that don't depend on the text and the offset
 abbrev pub IsWellFormed : TokenValue → Type 0
 IsWellFormed (Numeric n) = n < 2 ^ 64
 IsWellFormed (AlphaNumeric s) = IsRun s × ¬ (IsNumber s)
@@ -136,12 +135,12 @@ texts_joined : (t : TokenValue) (runs : List TokenValue) → inner_texts (t ∷ 
 texts_joined t [] = append-nil (inner_text t)
 texts_joined t (r ∷ runs) = ap (λ l. inner_text t ++ 45 ∷ l) (texts_joined r runs)
 
--- a hyphen is no digit
+-- a text with a hyphen doesn't consist of digits
 hyphen_no_digits : (xs ys : List ℕ) → all_ascii_digits (xs ++ 45 ∷ ys) ≡ false
 hyphen_no_digits [] ys = refl
 hyphen_no_digits (x ∷ xs) ys = and_right _ _ (hyphen_no_digits xs ys)
 
--- what an identifier of these tokens is kept as
+-- the value of an identifier: the number if it is one, otherwise the text
 abbrev pub kept_as : Option ℕ → List ℕ → IdentifierValue
 kept_as None text = alphanumeric text
 kept_as (Some n) text = numeric n
@@ -178,14 +177,15 @@ kept_spells ts w well = let f = first_run_of ts w in rw f.is (runs_kept f.first 
 
 -- ---- taking an identifier from a parser
 
--- from the state s a front of an identifier was taken, and t is left
+-- the tokens `front` of an identifier were taken from the state s, and t is left; `after` says whether
+-- the last of them is a run
 abbrev pub IsRead : ParserState → List TokenValue → Bool → ParserState → Type 0
 IsRead s front after t = IsTaken id_step false s front after t
 
 pub nothing_read : (s : ParserState) → IsRead s [] false s
 nothing_read s = none_taken identifier_is_read s
 
--- a front that is one token longer was taken
+-- one more token x was taken, and fewer tokens remain
 pub record ReadsMore (s t : ParserState) (front : List TokenValue) (x : TokenValue) (after : Bool) (u : ParserState) : Type 0 where
   pub taken : IsRead s (front ++ x ∷ []) after u
   pub shorter : length u.remaining < length t.remaining
@@ -195,7 +195,7 @@ reads_more : (s t u : ParserState) (front : List TokenValue) (x : TokenValue) (a
 reads_more s t u front x after pops taken = record { taken = taken; shorter = omega (arith, ap length pops.first) }
 
 module _ (s t : ParserState) (front : List TokenValue) where
-  -- the run that is wanted
+  -- `expect_run` takes a run, or returns the error of reading an identifier
   pub run_given : IsRead s front false t → (d : Step (Option ℕ)) → d ≡ expect_run t
       → Gives (λ e u. PassesIdentifier s (Err e) u) (λ n u. (x : TokenValue) × ReadsMore s t front x true u × (n ≡ number_of x)) d
   run_given k d e =
@@ -213,7 +213,7 @@ module _ (s t : ParserState) (front : List TokenValue) where
       number (AlphaNumeric text) n e = cc
       number _ n e = cc
 
-  -- the hyphen that comes next
+  -- `pop` takes the hyphen that comes next, or returns the error of reading an identifier
   pub hyphen_given : IsRead s front true t → look t ≡ Some Hyphen → (d : Step TokenValue) → d ≡ pop t
       → Gives (λ e u. PassesIdentifier s (Err e) u) (λ x u. ReadsMore s t front Hyphen false u) d
   hyphen_given k looked d e =
@@ -221,7 +221,7 @@ module _ (s t : ParserState) (front : List TokenValue) where
       (λ u. ReadsMore s t front Hyphen false u) Hyphen false looked refl
       (λ u pops taken. reads_more s t u front Hyphen false pops taken))
 
-  -- no hyphen comes next
+  -- if no hyphen comes next, reading the identifier returns n, which is its number if it is one
   pub identifier_ends : (n : Option ℕ) → IsRead s front true t → n ≡ lone_number front → ¬ (look t ≡ Some Hyphen)
       → TakesIdentifier s (Ok n) t
   unfolding reads_value
@@ -237,7 +237,7 @@ module _ (s t : ParserState) (front : List TokenValue) where
       stops (Hyphen ∷ rem) other = absurd (other refl)
       stops (x ∷ rem) other = refl
 
--- two tokens more are no number alone
+-- two or more tokens aren't a single number
 pub not_alone : (front : List TokenValue) (x y : TokenValue) → lone_number ((front ++ x ∷ []) ++ y ∷ []) ≡ None
 not_alone [] x y = refl
 not_alone (t ∷ []) x y = refl

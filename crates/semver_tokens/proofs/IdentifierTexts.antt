@@ -1,5 +1,5 @@
 -- serves: semver_tokens::parser::Parser::identifier, answer
--- The text that an identifier's tokens spell is the longest front of letters, digits and hyphens.
+-- The text of an identifier's tokens is the longest prefix of letters, digits and hyphens.
 use Rattle.std.proofs.Common.{◌≡◌, ℕ, ◌+◌, ◌<◌, Bool, true, false, eqb, ◌||◌, List, [], ◌∷◌, ◌++◌, length, None, Some, Option, Result}
 use Rattle.std.proofs.Common.{Ok, Err, sym, refl, ap, subst, ◌∙◌, ◌⊎◌, inl, inr, arith, append_assoc}
 use Rattle.std.specs.Prelude.{IsTrue, slice_index, take_while, not}
@@ -27,7 +27,7 @@ use Rattle.semver_tokens.proofs.TokenLists.{prefix_is, shows_kind, decimal_is_ru
 use Rattle.semver_tokens.proofs.ReadingSteps.{Stops, reads_other}
 use Rattle.semver_tokens.proofs.IdentifierSteps.{id_step, identifier_stops, hyphened, first_run_of, IsWellFormed, kept_as, kept_spells}
 
--- a token of an identifier
+-- whether a token may be in an identifier
 abbrev pub is_piece : TokenValue → Bool
 is_piece Hyphen = true
 is_piece t = is_component t
@@ -46,7 +46,7 @@ pieces_bytes [] all well = tt
 pieces_bytes (t ∷ ts) all well =
     passes_append is_part_byte (inner_text t) (inner_texts ts) (piece_bytes t all.0 well.0) (pieces_bytes ts all.1 well.1)
 
--- the text of such a token doesn't depend on the input
+-- the text of a token of an identifier doesn't depend on the input
 piece_text : (text : List ℕ) (t : TokenValue) → IsPiece t → token_text text t ≡ inner_text t
 piece_text text (Numeric n) h = refl
 piece_text text (AlphaNumeric s) h = refl
@@ -57,7 +57,7 @@ pub pieces_text : (text : List ℕ) (ts : List TokenValue) → AllByRecursion Is
 pieces_text text [] all = refl
 pieces_text text (t ∷ ts) all = (λ i. piece_text text t all.0 i ++ pieces_text text ts all.1 i)
 
--- what leads on is such a token
+-- all tokens that lead on in an identifier may be in one
 pub pieces : (s u : Bool) (ts : List TokenValue) → run id_step s ts ≡ Some u → AllByRecursion IsPiece ts
 pieces s u [] e = tt
 pieces false u (Numeric n ∷ ts) e = (refl, pieces true u ts e)
@@ -73,7 +73,7 @@ well_formed text place (Numeric n) w = w
 well_formed text place (AlphaNumeric s) w = w
 well_formed text place _ w = tt
 
--- each of them is in some place
+-- the token is at some offset of the text
 abbrev pub IsPlaced : List ℕ → TokenValue → Type 0
 IsPlaced text t = (at : ℕ) × IsTokenAt text at t
 
@@ -81,9 +81,9 @@ pub each_placed : (text : List ℕ) (place : ℕ) (ts : List TokenValue) → Are
 each_placed text place [] a = tt
 each_placed text place (t ∷ ts) a = ((place, a.0), each_placed text (place + length (token_text text t)) ts a.1)
 
--- ---- what follows
+-- ---- the token after an identifier
 
--- a token other than a hyphen doesn't begin with one
+-- a token that is neither a hyphen nor a component doesn't begin with a hyphen, a letter or a digit
 other_hyphen : (text : List ℕ) (place : ℕ) (t : TokenValue) → IsTokenAt text place t → ¬ (t ≡ Hyphen) → is_component t ≡ false
     → is_part_byte (slice_index (token_text text t) 0) ≡ false
 other_hyphen text place (Whitespace first after) w other run =
@@ -96,7 +96,7 @@ other_hyphen text place (AlphaNumeric s) w other run = cc
 other_hyphen text place Hyphen w other run = absurd (other refl)
 other_hyphen text place _ w other run = refl
 
--- where no token begins, none of these bytes does
+-- neither does a text at whose beginning no token begins
 bad_byte : (rest : List ℕ) → (rest ≡ []) ⊎ IsBadStart rest → is_part_byte (slice_index rest 0) ≡ false
 bad_byte [] ended = refl
 bad_byte (b ∷ bs) (inl e) = cc
@@ -109,7 +109,7 @@ bad_byte (b ∷ bs) (inr bad) = no_part b (opens_nothing b bs bad.1).2 (no_sign 
     no_part : (b : ℕ) → is_ascii_alphanumeric b ≡ false → is_sign b ≡ false → is_part_byte b ≡ false
     no_part b r s = grind (arith, nat_tests)
 
--- the last of the tokens of an identifier is a run, so no run follows
+-- the last token of an identifier is a run, so the token after it isn't one
 no_run_follows : (s : Bool) (ts : List TokenValue) (t : TokenValue) (us : List TokenValue) → 0 < length ts → run id_step s ts ≡ Some true
     → NoneMerge (ts ++ t ∷ us) → is_component t ≡ false
 no_run_follows s [] t us some e none = absurd (omega (arith, some))
@@ -121,7 +121,7 @@ no_run_follows true (x ∷ []) t us some e none = cc
 no_run_follows s (x ∷ y ∷ ts) t us some e none =
     option_and_then_some _ (id_step s x) true e (λ q here on. no_run_follows q (y ∷ ts) t us (omega arith) on none.1)
 
--- what follows begins with none of these bytes
+-- the text after an identifier doesn't begin with a hyphen, a letter or a digit
 follows : (text : List ℕ) (place : ℕ) (ts rest : List TokenValue) (end : List ℕ) → 0 < length ts → run id_step false ts ≡ Some true
     → Stops id_step true rest
     → AreInPlace text place (ts ++ rest) → NoneMerge (ts ++ rest) → (end ≡ []) ⊎ IsBadStart end
@@ -139,9 +139,9 @@ some_led : (ts : List TokenValue) → run id_step false ts ≡ Some true → 0 <
 some_led [] e = cc
 some_led (t ∷ ts) e = omega arith
 
--- ---- what was read
+-- ---- an identifier that was read
 
--- the front that was read, where it leads, and what stops it
+-- the text of the tokens is the longest prefix of letters, digits and hyphens, and they are well formed
 pub record IsCut (text : List ℕ) (front : List TokenValue) : Type 0 where
   pub cut : take_while is_part_byte text ≡ inner_texts front
   pub well : AllByRecursion IsWellFormed front
@@ -170,14 +170,14 @@ front_is_cut text s t n from w =
       well = well;
     }
 
--- so it has the value of which the tokens tell
+-- the value of an identifier that was read: its number, or that longest prefix if it isn't a number
 pub front_has_value : (text : List ℕ) (s t : ParserState) (n : Option ℕ) → IsStateFrom text s → (w : PassesIdentifier s (Ok n) t)
     → n ≡ lone_number w.front → SpellsIdentifier (kept_as n (take_while is_part_byte text)) (inner_texts w.front)
 front_has_value text s t n from w number =
     let c = front_is_cut text s t n from w in
     rw (number, c.cut) (kept_spells w.front w.answer.whole.shape c.well)
 
--- one that is no number alone is read as the text of that front
+-- an identifier that isn't a number is read as that longest prefix
 pub reads_text : (text kept : List ℕ) (s t : ParserState) (n : Option ℕ) → IsStateFrom text s → (w : TakesIdentifier s (Ok n) t)
     → n ≡ None → kept ≡ take_while is_part_byte text → ReadsIdentifier s (Ok (alphanumeric kept)) t
 reads_text text kept s t n from w none is =
@@ -186,18 +186,18 @@ reads_text text kept s t n from w none is =
     (subst (λ x. SpellsIdentifier (kept_as x kept) (inner_texts w.passes.front)) none
     (subst (λ l. SpellsIdentifier (kept_as n l) (inner_texts w.passes.front)) (sym is) value))
 
--- and it holds a run
+-- an identifier contains a run
 pub front_holds_run : (front : List TokenValue) → IsIdentifierShape front → HoldsRun front
 front_holds_run front w =
     let f = first_run_of front w in record { before = []; component = f.first; after = hyphened f.runs; split = f.is; is_run = f.first_run }
 
--- ---- the answers of a call
+-- ---- results of a call
 
 pub unless_out_of_memory : {T P : Type 0} (r : Result T Error) → P → UnlessOutOfMemory r P
 unless_out_of_memory (Err error.OutOfMemory) p = tt
 unless_out_of_memory _ p = p
 
--- what follows from what a call says of its error
+-- if P implies Q, then Q may replace P in a statement about an error
 pub unless_err : {P Q : Type 0} (e : Error) → (P → Q) → UnlessOutOfMemory {T = Unit {0}} (Err e) P
     → UnlessOutOfMemory {T = Unit {0}} (Err e) Q
 unless_err error.OutOfMemory f p = tt
@@ -207,7 +207,7 @@ pub if_err : {P Q : Type 0} (e : Error) → (P → Q) → IfOutOfMemory {T = Uni
 if_err error.OutOfMemory f p = f p
 if_err _ f p = tt
 
--- where an identifier was read, memory may run out
+-- if reading an identifier can succeed, it can also run out of memory and leave the same state
 pub read_may_run_out : {n : Option ℕ} (s t : ParserState) → PassesIdentifier s (Ok n) t → MayRunOutInIdentifier s t
 read_may_run_out s t w = record {
   front = w.front;

@@ -1,5 +1,5 @@
 -- serves: semver_tokens::lexer::count_tokens, end
--- What a call of `next` says of the state before it and the state after it.
+-- The states of a lexer before and after a call of `next`, as its result determines them.
 use Rattle.std.proofs.Common.{◌≡◌, ℕ, List, [], ◌∷◌, Some, None, Option, Result, Ok, Err, sym, refl, ap, ◌∙◌}
 use Rattle.std.specs.Iterator.{YieldsFirstBy}
 use Rattle.semver_tokens.specs.Tokens.{TokenValue}
@@ -9,7 +9,7 @@ use Rattle.semver_tokens.specs.declared.lexer.Token.{Token}
 use Rattle.semver_tokens.specs.declared.lexer.Error.{Error}
 use Rattle.semver_tokens.specs.declared.lexer.Error.TheVariants.{UnexpectedChar}
 
--- the items tell the state
+-- the state of a lexer that has these items left
 abbrev state_of : List (Result TokenValue Error) → ParserState
 state_of [] = record { remaining = []; pending = None }
 state_of ((Ok t) ∷ items) = record { remaining = t ∷ (state_of items).remaining; pending = (state_of items).pending }
@@ -25,7 +25,8 @@ state_of-items (t ∷ ts) pending =
 same_state : (s t : ParserState) → items_left s ≡ items_left t → s ≡ t
 same_state s t e = sym (state_of-items s.remaining s.pending) ∙ ap state_of e ∙ state_of-items t.remaining t.pending
 
--- by what `next` gives
+-- the states if `next` returns nothing, and below, the state before it if it returns a token or an
+-- error
 pub state_at_none : (s u : ParserState) → (items_left s ≡ []) × (items_left u ≡ [])
     → (s ≡ record { remaining = []; pending = None }) × (u ≡ record { remaining = []; pending = None })
 state_at_none s u e = (same_state s _ e.0, same_state u _ e.1)
@@ -38,7 +39,7 @@ pub state_at_error : (s u : ParserState) (c : ℕ) → items_left s ≡ Err (Une
     → s ≡ record { remaining = []; pending = Some c }
 state_at_error s u c e = sym (state_of-items s.remaining s.pending) ∙ ap state_of e
 
--- what isn't a token comes where none remains
+-- if `next` returns no token, no token remained
 pub none_remains : (s u : ParserState) (r : Option (Result Token Error)) → YieldsFirstBy item_value items_left s r u
     → ((t : Token) → ¬ (r ≡ Some (Ok t))) → s.remaining ≡ []
 none_remains s u None gives other = ap (λ z. z.remaining) (state_at_none s u gives).0

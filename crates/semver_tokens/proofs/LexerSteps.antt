@@ -1,5 +1,5 @@
 -- serves: semver_tokens::lexer::Lexer::new
--- What a lexer has left, one item on.
+-- The state that a lexer has left at the start, after each item, and after an error.
 use Rattle.std.proofs.Common.{◌≡◌, ℕ, ◌+◌, ◌≤◌, Bool, true, false, List, [], ◌∷◌, length, drop, sym, refl, ap, inl, arith, length-drop}
 use Rattle.std.proofs.Common.{Some, None, Ok}
 use Rattle.std.specs.Prelude.{slice_get, chars}
@@ -11,12 +11,12 @@ use Rattle.semver_tokens.specs.Views.{items_left}
 use Rattle.semver_tokens.proofs.FirstToken.{IsFound, first_token-found}
 use Rattle.semver_tokens.proofs.TokenLists.{scan_finds, scan_is, tokens_cons, scan-none, length-tokens}
 
--- at the start it is the state of the text
+-- at the start, it is the state of the text
 pub state_at_start : (text : List ℕ) → IsStateOf text (state_left text 0 false)
 unfolding state_left state_from
 state_at_start text = ((scan (length text) text 0).1, scan_finds text (length text) 0 (omega arith), refl)
 
--- from a place on it is the state of what is there
+-- at the offset `place`, it is the state of the text from there on
 pub state_at_place : (text : List ℕ) (place : ℕ) → IsStateFrom (drop place text) (state_left text place false)
 unfolding state_left state_from
 state_at_place text place = record {
@@ -28,7 +28,7 @@ state_at_place text place = record {
   pending = refl;
 }
 
--- and of nothing after the bad character
+-- after the bad character, it is the state of an empty text
 pub state_after_error : (text : List ℕ) (place : ℕ) → IsStateFrom [] (state_left text place true)
 unfolding state_left
 state_after_error text place = record {
@@ -40,12 +40,12 @@ state_after_error text place = record {
   pending = sym (ap (λ cs. slice_get cs 0) chars-nil);
 }
 
--- the state of a text is one from its first place on
+-- the state of a text is the state at the offset 0
 pub from_start : (text : List ℕ) (s : ParserState) → IsStateOf text s → IsStateFrom text s
 from_start text s w = record { input = text; place = 0; rest = w.0; begins = refl; tokens = w.1; pending = w.2 }
 
 module _ (text : List ℕ) (place : ℕ) where
-  -- after a token
+  -- if a token begins at the offset, it is the first item, and the items after it follow
   pub items_left-token : (t : TokenValue) (n : ℕ) → first_token place (drop place text) ≡ Some (t, n)
       → items_left (state_left text place false) ≡ Ok t ∷ items_left (state_left text (place + n) false)
   unfolding state_left state_from
@@ -56,7 +56,8 @@ module _ (text : List ℕ) (place : ℕ) where
       (omega arith) in
       ap (λ p. items_left (record { remaining = p.0; pending = slice_get (chars p.1) 0 })) all
 
-  -- where no token begins
+  -- if no token begins at the offset, the only item is the error for the character there, if there is
+  -- one
   pub items_left-rest : first_token place (drop place text) ≡ None
       → items_left (state_left text place false) ≡ items_left (record { remaining = []; pending = slice_get (chars (drop place text)) 0 })
   unfolding state_left state_from
@@ -64,7 +65,7 @@ module _ (text : List ℕ) (place : ℕ) where
       ap (λ p. items_left (record { remaining = p.0; pending = slice_get (chars p.1) 0 }))
       (scan-none text (length text) place none)
 
--- after the bad character
+-- after the bad character, no item is left
 pub items_left-failed : (text : List ℕ) (place : ℕ) → items_left (state_left text place true) ≡ []
 unfolding state_left
 items_left-failed text place = refl

@@ -1,5 +1,6 @@
 -- serves: semver_tokens::parser::Parser::identifier, answer
--- Reading a shape token by token: the tokens taken so far lead to a state, and a token that leads on is taken.
+-- Reading tokens of a shape one after another: the tokens taken so far lead to a state of an
+-- automaton, and the next token is taken if it leads on, that is, if the automaton has a step for it.
 use Rattle.std.proofs.Common.{◌≡◌, ℕ, ◌<◌, ◌≤◌, Bool, true, false, List, [], ◌∷◌, ◌++◌, length, Some, None, Option, Result, Ok, Err, take}
 use Rattle.std.proofs.Common.{sym, refl, ap, ◌∙◌, ◌⊎◌, inl, inr, ⊎_elim, arith, append-nil, append_assoc, length-append}
 use Rattle.std.specs.Prelude.{option_and_then, option_map, slice_get}
@@ -15,7 +16,7 @@ use Rattle.semver_tokens.specs.VersionReading.{Refuses, inner_texts, last_alone}
 use Rattle.semver_tokens.proofs.FirstToken.{option_cases}
 
 module _ {S : Type 0} (step : S → TokenValue → Option S) where
-  -- no token leads on
+  -- the next token, if there is one, doesn't lead on
   abbrev pub Stops : S → List TokenValue → Type 0
   Stops s [] = Unit {0}
   Stops s (t ∷ ts) = step s t ≡ None
@@ -24,7 +25,7 @@ module _ {S : Type 0} (step : S → TokenValue → Option S) where
   run-append s u [] us e = ap (λ v. run step v us) (same_Some s u e)
   run-append s u (t ∷ ts) us e = option_and_then_some _ (step s t) u e (λ v leads on. rw leads (run-append v u ts us on))
 
-  -- a front of what leads on leads on
+  -- if a list of tokens leads on, so does each of its prefixes
   pub run_front : (s u : S) (ts us : List TokenValue) → run step s (ts ++ us) ≡ Some u → (v : S) × (run step s ts ≡ Some v)
   run_front s u [] us e = (s, refl)
   run_front s u (t ∷ ts) us e = option_and_then_some _ (step s t) u e (λ v leads on. rw leads (run_front v u ts us on))
@@ -33,7 +34,7 @@ module _ {S : Type 0} (step : S → TokenValue → Option S) where
       → run step s (ts ++ t ∷ []) ≡ Some q
   one_more_leads s p q ts t leads on = run-append s p ts (t ∷ []) leads ∙ ap (option_and_then (λ v. Some v)) on
 
-  -- no front that leads on is longer than one after which nothing does
+  -- if the token after a prefix doesn't lead on, no longer prefix does
   stopped_is_longest : (s p q : S) (front rest longer more : List TokenValue) → longer ++ more ≡ front ++ rest → run step s front ≡ Some p
       → Stops p rest → run step s longer ≡ Some q → length longer ≤ length front
   stopped_is_longest s p q front rest [] more same leads stops on = omega arith
@@ -47,15 +48,15 @@ module _ {S : Type 0} (step : S → TokenValue → Option S) where
       let shorter = stopped_is_longest v p q front rest longer more (cc) (rw w_is at after) stops beyond in
       omega (arith, shorter)))
 
--- ---- what a pop gives
+-- ---- the result of `pop`
 
--- a token, and what it leaves
+-- the token x was taken from the state s, and the state t is left
 pub record Pops (s : ParserState) (x : TokenValue) (t : ParserState) : Type 0 where
   pub first : s.remaining ≡ x ∷ t.remaining
   pub pending : t.pending ≡ s.pending
   pub known : (0 < length t.remaining) ⊎ (t.pending ≡ None)
 
--- or no token, of these tokens that remain and this pending character
+-- the error that is returned instead of a token, by the tokens that remain and the pending character
 pub data Refused : List TokenValue → Option ℕ → ErrorValue → Type 0 where
   at_end : Refused [] None spec.UnexpectedEnd
   at_nothing : (c : ℕ) → Refused [] (Some c) (spec.Lexer c)
@@ -74,7 +75,8 @@ popped s = at_tokens s.remaining s.pending
     at_tokens (x ∷ []) (Some c) = (at_last x c, refl)
     at_tokens (x ∷ y ∷ ts) pending = record { first = refl; pending = refl; known = inl (omega arith) }
 
--- a shape that is read from a state on, where each state leads to acceptance
+-- an automaton that accepts the token lists of a shape and no others. Its start doesn't accept, and
+-- from each of its states some tokens lead to one that accepts
 pub record IsReadBy {S : Type 0} (step : S → TokenValue → Option S) (accepts : S → Bool) (start : S)
     (Shape : List TokenValue → Type 0) : Type 0 where
   pub shape : (ts : List TokenValue) (u : S) → run step start ts ≡ Some u → accepts u ≡ true → Shape ts
@@ -82,7 +84,7 @@ pub record IsReadBy {S : Type 0} (step : S → TokenValue → Option S) (accepts
   pub wants : accepts start ≡ false
   pub live : (s : S) → (more : List TokenValue) × (u : S) × (run step s more ≡ Some u) × (accepts u ≡ true)
 
--- ---- steps one after the other
+-- ---- steps one after another
 
 pub then_given : {A B : Type 0} (F : ErrorValue → ParserState → Type 0) (P : A → ParserState → Type 0) (Q : B → ParserState → Type 0)
     (d : Step A) (f : A → ParserState → Step B)
@@ -92,7 +94,8 @@ then_given F P Q (Err e, t) f given more = given
 
 module _ {S : Type 0} {step : S → TokenValue → Option S} {accepts : S → Bool} {start : S} {Shape : List TokenValue → Type 0}
     (r : IsReadBy step accepts start Shape) where
-  -- what was taken is the longest front, where nothing leads on
+  -- if a prefix leads on, and the token after it doesn't, it is the longest prefix with which a list
+  -- of the shape begins
   pub longest_front : (ts front rest : List TokenValue) (s : S) → ts ≡ front ++ rest → run step start front ≡ Some s → Stops step s rest
       → IsLongestFront Shape ts front rest
   longest_front ts front rest s split leads stops = record {
@@ -104,7 +107,7 @@ module _ {S : Type 0} {step : S → TokenValue → Option S} {accepts : S → Bo
         stopped_is_longest step start s on.0 front rest longer more (sym e ∙ split) leads stops on.1;
   }
 
-  -- and nothing leads on from the longest front
+  -- the token after the longest prefix doesn't lead on
   pub longest_stops : (ts front rest : List TokenValue) → IsLongestFront Shape ts front rest
       → (s : S) × (run step start front ≡ Some s) × Stops step s rest
   longest_stops ts front rest w =
@@ -122,7 +125,8 @@ module _ {S : Type 0} {step : S → TokenValue → Option S} {accepts : S → Bo
           (l.0, r.shape _ l.1 (run-append step start u (front ++ t ∷ []) l.0 front_on ∙ l.2) l.3) in
           omega (arith, longer, length-append front (t ∷ []))))
 
-  -- reading may run out of memory where a front that was taken holds what takes memory
+  -- reading may run out of memory if a prefix that leads on contains something that is allocated,
+  -- since the longest prefix contains it, too
   pub runs_out_after : {Holds : List TokenValue → Type 0}
       → ((front : List TokenValue) (t : TokenValue) → Holds front → Holds (front ++ t ∷ [])) → {s u : ParserState}
       → (front rest : List TokenValue) (p : S) → s.remaining ≡ front ++ rest
@@ -141,7 +145,7 @@ module _ {S : Type 0} {step : S → TokenValue → Option S} {accepts : S → Bo
       (λ q on. runs_out_after longer (front ++ t ∷ []) rest q (cc (append_assoc front (t ∷ []) rest))
       (one_more_leads step start p q front t leads on) (longer front t holds) left)
 
-  -- what was taken is whole exactly where its state accepts
+  -- tokens that lead to a state that doesn't accept don't have the shape
   pub not_whole : (front : List TokenValue) (s : S) → run step start front ≡ Some s → accepts s ≡ false → ¬ (Shape front)
   not_whole front s leads refuses shape = let q = r.read front shape in cc (q.1, q.2)
 
@@ -162,7 +166,7 @@ module _ {S : Type 0} {step : S → TokenValue → Option S} {accepts : S → Bo
   -- ---- the ways in which reading ends
 
   module _ {V : Type 0} (Spells : V → List ℕ → Type 0) where
-    -- a front is left where nothing leads on, and isn't whole
+    -- an error is returned: the token after the prefix doesn't lead on, and the prefix isn't whole
     pub reads_error : {s u : ParserState} {e : ErrorValue} (front rest : List TokenValue) (p : S) → s.remaining ≡ front ++ rest
         → run step start front ≡ Some p → Stops step p rest → ¬ (IsWhole Shape front s.pending rest)
         → Refuses s.remaining s.pending rest e u.remaining → u.pending ≡ s.pending → Reads Shape Spells s (Err e) u
@@ -175,7 +179,7 @@ module _ {S : Type 0} {step : S → TokenValue → Option S} {accepts : S → Bo
     }
 
     module _ {s t : ParserState} {front : List TokenValue} {p : S} (k : IsTaken step start s front p t) where
-      -- its place accepts, and nothing leads on
+      -- a value is returned: the state accepts, and the next token doesn't lead on
       unfoldable pub reads_value : (v : V) → accepts p ≡ true → Stops step p t.remaining → Spells v (inner_texts front)
           → Reads Shape Spells s (Ok v) t
       reads_value v takes stops spelled = record {
@@ -195,7 +199,7 @@ module _ {S : Type 0} {step : S → TokenValue → Option S} {accepts : S → Bo
           known (inr (inr none)) = inr (cc)
           known (inl empty) = let at_start : run step start front ≡ Some start = rw empty refl in cc (k.leads, r.wants, takes)
 
-      -- a token comes that doesn't lead on
+      -- `UnexpectedToken` is returned: the state doesn't accept, and the next token doesn't lead on
       pub reads_unexpected : {x : TokenValue} {u : ParserState} → Pops t x u → accepts p ≡ false → step p x ≡ None
           → Reads Shape Spells s (Err (spec.UnexpectedToken x)) u
       reads_unexpected {x} {u} pops refuses none =
@@ -209,7 +213,7 @@ module _ {S : Type 0} {step : S → TokenValue → Option S} {accepts : S → Bo
           refused [] (Some c) (inr h) = cc
           refused (y ∷ left) (Some c) known = (refl, refl)
 
-      -- a token is wanted, or the next one would do, and no token is given
+      -- the error of `pop` is returned: the state doesn't accept, or the next token would lead on
       pub reads_stuck : {e : ErrorValue} → Refused t.remaining t.pending e
           → (accepts p ≡ false) ⊎ ((x : TokenValue) × (q : S) × (look t ≡ Some x) × (step p x ≡ Some q)) → Reads Shape Spells s (Err e) t
       reads_stuck {e} refused way = at_refusal t.remaining t.pending e refused k.split k.pending k.known way
@@ -219,7 +223,7 @@ module _ {S : Type 0} {step : S → TokenValue → Option S} {accepts : S → Bo
           last_of (x ∷ []) = refl
           last_of (x ∷ y ∷ front) = last_of (y ∷ front)
 
-          -- at a pending character nothing is whole without a token after it
+          -- a prefix without a token after it isn't whole if a character is pending
           not_known : {front : List TokenValue} (c : ℕ) → Some c ≡ s.pending → ¬ (IsWhole Shape front s.pending [])
           not_known c same whole = ⊎_elim (λ some. omega (arith, some)) (λ none. cc) whole.known
 
@@ -248,7 +252,8 @@ module _ {S : Type 0} {step : S → TokenValue → Option S} {accepts : S → Bo
 
       -- ---- the steps of a parser
 
-      -- no token is given, where one is wanted or the next one would do; or one is
+      -- `pop` takes a token or returns the error of reading, if the state doesn't accept or the next
+      -- token leads on
       pop_given : (P : TokenValue → ParserState → Type 0)
           → (accepts p ≡ false) ⊎ ((x : TokenValue) × (q : S) × (look t ≡ Some x) × (step p x ≡ Some q))
           → ((x : TokenValue) (u : ParserState) → Pops t x u → P x u) → Gives (λ e u. Reads Shape Spells s (Err e) u) P (pop t)
@@ -258,7 +263,7 @@ module _ {S : Type 0} {step : S → TokenValue → Option S} {accepts : S → Bo
           at_pop (Ok x, u) pops = more x u pops
           at_pop (Err e, u) w = rw w.1 (reads_stuck w.0 way)
 
-      -- the next token leads on, and is taken if it is given
+      -- `pop` takes the next token, which leads on, or returns the error of reading
       pub next_given : (P : ParserState → Type 0) (x : TokenValue) (q : S) → look t ≡ Some x → step p x ≡ Some q
           → ((u : ParserState) → Pops t x u → IsTaken step start s (front ++ x ∷ []) q u → P u)
           → Gives (λ e u. Reads Shape Spells s (Err e) u) (λ y u. P u) (pop t)
@@ -268,7 +273,8 @@ module _ {S : Type 0} {step : S → TokenValue → Option S} {accepts : S → Bo
           let here : Pops t x u = rw same at pops in
           more u here (taken_more k here leads))
 
-      -- a token is expected that has a value, and no other would do
+      -- `expect` takes a token with a value or returns the error of reading, if the state doesn't
+      -- accept and only tokens with a value lead on
       pub expected_given : {A : Type 0} (P : A → ParserState → Type 0) (value : TokenValue → Option A) (next : S) → accepts p ≡ false
           → ((x : TokenValue) → look t ≡ Some x → step p x ≡ option_map (λ (a : A). next) (value x))
           → ((x : TokenValue) (a : A) (u : ParserState) → value x ≡ Some a → Pops t x u → IsTaken step start s (front ++ x ∷ []) next u
@@ -282,15 +288,16 @@ module _ {S : Type 0} {step : S → TokenValue → Option S} {accepts : S → Bo
           at_value x u pops here (Some a) e = more x a u e pops (taken_more k pops (here ∙ ap (option_map (λ (a : A). next)) e))
           at_value x u pops here None e = reads_unexpected pops wants (here ∙ ap (option_map (λ (a : A). next)) e)
 
--- ---- what reading tells
+-- ---- results of reading
 
--- a refusal doesn't speak of values
+-- the error that reading returns doesn't depend on which text spells a value
 pub reads_refused : {V W : Type 0} {Shape : List TokenValue → Type 0} {Spells : V → List ℕ → Type 0} (Other : W → List ℕ → Type 0)
     (s t : ParserState) (e : ErrorValue)
     → Reads Shape Spells s (Err e) t → Reads Shape Other s (Err e) t
 reads_refused Other s t e w = record { front = w.front; rest = w.rest; longest = w.longest; answer = w.answer; pending = w.pending }
 
--- and an answer has any value that its text spells
+-- if reading returns a value for one `Spells`, it returns for another any value that the text of the
+-- same prefix spells
 pub reads_other : {V W : Type 0} {Shape : List TokenValue → Type 0} {Spells : V → List ℕ → Type 0} (Other : W → List ℕ → Type 0)
     (s t : ParserState) (v : V) (x : W) (w : Reads Shape Spells s (Ok v) t)
     → Other x (inner_texts w.front) → Reads Shape Other s (Ok x) t
@@ -303,7 +310,7 @@ reads_other Other s t v x w spelled =
       pending = w.pending;
     }
 
--- the longest front is one
+-- there is at most one longest prefix
 pub same_front : (Shape : List TokenValue → Type 0) (ts front other rest left : List TokenValue) → IsLongestFront Shape ts front rest
     → IsLongestFront Shape ts other left → (front ≡ other) × (rest ≡ left)
 same_front Shape ts front other rest left a b =
@@ -313,7 +320,7 @@ same_front Shape ts front other rest left a b =
     ∙ take_at other left (length front) (sym len) in
     (same, append_cancel_left front rest left (sym a.split ∙ b.split ∙ ap (λ l. l ++ left) (sym same)))
 
--- and so is the error, with what it leaves
+-- there is at most one error, and one list of tokens that it leaves
 pub same_refusal : (ts : List TokenValue) (pending : Option ℕ) (rest : List TokenValue) (e f : ErrorValue) (left other : List TokenValue)
     → Refuses ts pending rest e left → Refuses ts pending rest f other → (e ≡ f) × (left ≡ other)
 same_refusal ts (Some c) [] e f left other a b = (cc, cc)
@@ -322,7 +329,7 @@ same_refusal ts None [] e f left other a b = (cc, cc)
 same_refusal ts None (t ∷ rest) e f left other a b = (cc, cc)
 same_refusal ts (Some c) (t ∷ u ∷ rest) e f left other a b = (cc, cc)
 
--- reading gives one answer and leaves one state, where a text spells one value
+-- reading has at most one result and leaves at most one state, if a text spells at most one value
 pub reads_once : {V : Type 0} (Shape : List TokenValue → Type 0) (Spells : V → List ℕ → Type 0)
     → ((v w : V) (text : List ℕ) → Spells v text → Spells w text → v ≡ w)
     → (s : ParserState) (r q : Result V ErrorValue) (t u : ParserState) → Reads Shape Spells s r t → Reads Shape Spells s q u

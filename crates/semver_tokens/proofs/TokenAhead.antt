@@ -1,5 +1,5 @@
 -- serves: semver_tokens::parser::Parser::new, bad_start
--- One token ahead of a lexer.
+-- Reading one token ahead from a lexer, as the parser does.
 use Rattle.std.proofs.Common.{◌≡◌, ℕ, List, [], ◌∷◌, ◌++◌, length, Some, None, Option, Result, Ok, Err, sym, refl, ap, ◌∙◌, ◌⊎◌, inl}
 use Rattle.std.proofs.Common.{inr, IsUtf8, ◌<◌, arith, append_assoc}
 use Rattle.std.proofs.lemmas.List.{map_push}
@@ -18,7 +18,7 @@ use Rattle.semver_tokens.specs.declared.lexer.Token.{Token}
 use Rattle.semver_tokens.specs.declared.lexer.Error.{Error}
 use Rattle.semver_tokens.specs.declared.lexer.Error.TheVariants.{UnexpectedChar}
 
--- ---- what `next` and `transpose` give
+-- ---- the results of `next` and `transpose`
 
 pub record IsAhead (s : ParserState) (o : Option Token) (u : ParserState) : Type 0 where
   pub state : s ≡ ahead o u
@@ -39,13 +39,13 @@ next_err s u None x gives e = cc
 next_err s u (Some (Ok t)) x gives e = cc
 next_err s u (Some (Err (UnexpectedChar c))) x gives e = (c, cc, state_at_error s u c gives)
 
--- without a token ahead none remains
+-- if there is no token ahead, no token remains
 pub remaining_none : {T : Type 0} (o : Option T) (u : ParserState) → IfNone o (u ≡ record { remaining = []; pending = None })
     → IfNone o (u.remaining ≡ [])
 remaining_none None u e = ap (λ s. s.remaining) e
 remaining_none (Some t) u e = tt
 
--- the first token is given, and what was read ahead comes first
+-- `pop` returns the first token, and the token that was read ahead is then the first one
 pub pop_first : (s u : ParserState) (first : TokenValue) (o : Option Token) → IsAhead s o u
     → ◌≡◌ {A = Step TokenValue} (Ok first, ahead o u) (pop (record { remaining = first ∷ s.remaining; pending = s.pending }))
 pop_first s u first o a = rw a.state (at_ahead o a.none)
@@ -57,7 +57,7 @@ pop_first s u first o a = rw a.state (at_ahead o a.none)
 
 -- ---- the start
 
--- the text is a bad start where no token remains and a character is pending
+-- a text with no tokens, but a pending character, is a bad start
 pub bad_start_at_error : (text : List ℕ) (c : ℕ) → IsStateOf text (record { remaining = []; pending = Some c }) → IsBadStart text
 bad_start_at_error text c state = at_rest state.0 state.1.ended state.1.spelled state.2
   where
@@ -65,7 +65,8 @@ bad_start_at_error text c state = at_rest state.0 state.1.ended state.1.spelled 
     at_rest rest (inr bad) same pending = rw same bad
     at_rest rest (inl empty) same pending = let none : None ≡ Some c = cc chars-nil in cc
 
--- and then what is ahead of the lexer isn't the state of the text
+-- a text whose first token was read ahead, or that has neither a token nor a pending character, isn't
+-- a bad start
 pub no_bad_start : (text : List ℕ) (o : Option Token) (u : ParserState) → IsUtf8 text
     → IfNone o (u ≡ record { remaining = []; pending = None }) → IsStateOf text (ahead o u) → ¬ (IsBadStart text)
 no_bad_start text o u utf8 none state bad =
@@ -84,21 +85,21 @@ no_bad_start text o u utf8 none state bad =
 
 -- ---- the last token
 
--- where nothing remains and `next` gives no error, no character is pending
+-- if no token remains, and `next` returns no error, no character is pending
 pub none_pending : (s u : ParserState) (r : Option (Result Token Error)) → YieldsFirstBy item_value items_left s r u → s.remaining ≡ []
     → ((x : Error) → ¬ (option_transpose r ≡ Err x)) → s.pending ≡ None
 none_pending s u None gives none fine = cc ((state_at_none s u gives).0)
 none_pending s u (Some (Ok t)) gives none fine = cc (state_at_token s u (token_value t) gives)
 none_pending s u (Some (Err x)) gives none fine = absurd (fine x refl)
 
--- one more token is gathered
+-- after one more token is gathered, the gathered tokens and those that remain are still all tokens
 pub gathered_more : (ts us : List Token) (t : Token) (s u : ParserState) (all : List TokenValue) → us ≡ ts ++ t ∷ []
     → s ≡ record { remaining = token_value t ∷ u.remaining; pending = u.pending } → map token_value ts ++ s.remaining ≡ all
     → map token_value us ++ u.remaining ≡ all
 gathered_more ts us t s u all pushed one sofar =
     cc (map_push token_value ts t, append_assoc (map token_value ts) (token_value t ∷ []) u.remaining)
 
--- the tail, where no character is pending
+-- the result of `tail` if no character is pending
 pub tail_gives : (s : ParserState) (ts : List TokenValue) (o : Option Token) (end : ParserState) → ts ≡ s.remaining → s.pending ≡ None
     → o ≡ None → end ≡ record { remaining = []; pending = None } → ◌≡◌ {A = Step (List TokenValue)} (Ok ts, ahead o end) (tail s)
 tail_gives s ts o end all no_pending no_token at_end = rw (all, no_token, at_end, no_pending) refl

@@ -1,5 +1,5 @@
 -- serves: semver_tokens::laws::one_token_list
--- The tokens of a text are one list: it is found from the left, and no other is it.
+-- The list of the tokens of a text: `scan` finds it from left to right, and it is the only one.
 use Rattle.std.proofs.Common.{◌≡◌, ℕ, zero, suc, ◌+◌, ◌-◌, ◌<◌, ◌≤◌, Bool, true, false, eqb, ◌||◌, not, List, [], ◌∷◌, ◌++◌}
 use Rattle.std.proofs.Common.{length, take, drop, Some, None, sym, refl, ap, ◌∙◌, inl, inr, arith, decimal, ◌⊎◌}
 use Rattle.std.proofs.Common.{append_assoc, length-append, length-drop, length-take-le}
@@ -21,14 +21,14 @@ use Rattle.semver_tokens.proofs.FirstToken.{never, option_cases, IsFront, IsFoun
 use Rattle.semver_tokens.proofs.FirstToken.{is_some-first_token, first_token-at_run, first_token-at_space, first_token-at_other}
 use Rattle.semver_tokens.proofs.FirstToken.{space_is_no_run, space_is_no_eq, run_is_no_space, run_is_no_eq}
 
--- ---- a front that is a token is what is found
+-- ---- a prefix that is a token is found
 
 pub first_token-empty : (place : ℕ) (bs : List ℕ) → slice_get bs 0 ≡ None → first_token place bs ≡ None
 unfolding first_token
 first_token-empty place [] e = refl
 first_token-empty place (b ∷ bs) e = cc
 
--- the same, where only the first byte is known
+-- the first token of bytes of which only the first one, b, is known
 after_first : (bs : List ℕ) (b : ℕ) → slice_get bs 0 ≡ Some b → (rest : List ℕ) × (bs ≡ b ∷ rest)
 after_first [] b e = cc
 after_first (x ∷ bs) b e = (bs, cc)
@@ -64,7 +64,7 @@ first_token-space place (b ∷ bs) more some all stop =
     first_token-at_space place b (bs ++ more) all.0
     ∙ ap (λ n. Some (Whitespace place (place + n), n)) (prefix_is is_space (b ∷ bs) more all refl stop)
 
--- a whitespace token within the text is as long as its places say
+-- the length of a range of the text is the difference of its offsets
 length_slice : (text : List ℕ) (first after : ℕ) → first < after → after ≤ length text
     → length (slice_range text first after) + first ≡ after
 length_slice text first after some within =
@@ -87,9 +87,10 @@ first_token-front text place (AlphaNumeric s) bs more f at =
     cc (first_token-run place s more f.is_token.0 f.stops, component_text s f.is_token.0.0 f.is_token.1)
 first_token-front text place _ bs more f at = rw f.spelled refl
 
--- ---- neighbours
+-- ---- adjacent tokens
 
--- a token's text isn't empty, and its first byte tells what kind of token it is
+-- the text of a token isn't empty, and its first byte shows whether the token is `=`, white space or
+-- a component
 pub record ShowsKind (u : TokenValue) (text_of_u : List ℕ) : Type 0 where
   pub some : 0 < length text_of_u
   pub eq : eqb (slice_index text_of_u 0) 61 ≡ is_eq u
@@ -126,7 +127,7 @@ or_false : (a : Bool) → (a || false) ≡ a
 or_false true = refl
 or_false false = refl
 
--- the first byte of u would lengthen t exactly where the two merge
+-- the first byte of u would lengthen t if and only if t and u merge
 continues_merges : (t u : TokenValue) (bs : List ℕ) → ShowsKind u bs → continues t (slice_index bs 0) ≡ merges t u
 continues_merges Lt u bs k = k.eq ∙ sym (or_false (is_eq u))
 continues_merges Gt u bs k = k.eq ∙ sym (or_false (is_eq u))
@@ -138,7 +139,7 @@ continues_merges _ u bs k = refl
 continues_into-token : (t u : TokenValue) (bs more : List ℕ) → ShowsKind u bs → continues_into t (bs ++ more) ≡ merges t u
 continues_into-token t u bs more k = ap (continues t) (get_or_append_left bs more 0 0 k.some) ∙ continues_merges t u bs k
 
--- no token goes on where no token begins
+-- a byte at which no token begins isn't `=`, white space, a letter or a digit
 pub opens_nothing : (b : ℕ) (bs : List ℕ) → not (opens_token (b ∷ bs)) ≡ true
     → (eqb b 61 ≡ false) × (is_space b ≡ false) × (is_ascii_alphanumeric b ≡ false)
 opens_nothing b bs h = let q = closed (is_sign b) (is_space b) (is_ascii_alphanumeric b) _ h in (grind (arith, nat_tests, q.0), q.1, q.2)
@@ -187,7 +188,7 @@ module _ (text : List ℕ) where
   none_merge_rest t [] none = tt
   none_merge_rest t (u ∷ us) none = none.1
 
-  -- the first of the tokens is the front, and the others are the tokens of what follows
+  -- the text begins with the first of its tokens; below, the others are the tokens after it
   pub first_front : (place : ℕ) (t : TokenValue) (ts : List TokenValue) (rest : List ℕ) → AreTokensFrom text place (t ∷ ts) rest
       → IsFront text place t (drop place text) (tokens_text text ts ++ rest)
   first_front place t ts rest a = record {
@@ -207,7 +208,7 @@ module _ (text : List ℕ) where
     ended = a.ended;
   }
 
-  -- a front that is a token, and the tokens of what follows, are the tokens
+  -- a token that is found, and the tokens after it, are the tokens of the text
   pub tokens_cons : (place : ℕ) (t : TokenValue) (n : ℕ) (ts : List TokenValue) (rest : List ℕ) → IsFound text place (drop place text) t n
       → AreTokensFrom text (place + n) ts rest → AreTokensFrom text place (t ∷ ts) rest
   tokens_cons place t n ts rest f a =
@@ -220,7 +221,7 @@ module _ (text : List ℕ) where
         ended = a.ended;
       }
 
--- ---- the list that is found, and that it is the only one
+-- ---- the list that `scan` finds is the only one
 
 none_opens : (place : ℕ) (bs : List ℕ) → first_token place bs ≡ None → (bs ≡ []) ⊎ IsBadStart bs
 none_opens place [] e = inl refl
@@ -248,7 +249,7 @@ module _ (text : List ℕ) where
   unfolding scan
   scan-some n place t len e = rw (e, scan) refl
 
-  -- from the left the tokens are found
+  -- `scan` finds the tokens, if n is large enough
   pub scan_finds : (n place : ℕ) → length text ≤ place + n → AreTokensFrom text place (scan n text place).0 (scan n text place).1
   scan_finds zero place enough =
       let done : drop place text ≡ [] = drop_all place text (omega arith) in
@@ -265,7 +266,7 @@ module _ (text : List ℕ) where
       rw (scan-some n place found.0 found.1 e)
       (tokens_cons text place found.0 found.1 _ _ f (scan_finds n (place + found.1) (omega arith))))
 
-  -- each token takes a byte at least
+  -- there are at most as many tokens as bytes
   pub length-tokens : (place : ℕ) (ts : List TokenValue) (rest : List ℕ) → AreTokensFrom text place ts rest
       → length ts ≤ length (drop place text)
   length-tokens place [] rest a = omega arith
@@ -281,7 +282,7 @@ module _ (text : List ℕ) where
         length-drop (place + length (token_text text t)) text,
       )
 
-  -- and what they are is what is found
+  -- any list of the tokens of the text is the one that `scan` finds
   pub scan_is : (n place : ℕ) (ts : List TokenValue) (rest : List ℕ) → AreTokensFrom text place ts rest → length text ≤ place + n
       → scan n text place ≡ (ts, rest)
   scan_is n place [] rest a enough =
@@ -298,7 +299,7 @@ module _ (text : List ℕ) where
       (first_front text place t ts rest a) refl)
       ∙ ap (λ p. (t ∷ p.0, p.1)) rest_is
 
-  -- the tokens of a text are one list
+  -- a text has at most one list of tokens
   pub same_tokens : (place : ℕ) (ts us : List TokenValue) (rest other : List ℕ) → AreTokensFrom text place ts rest
       → AreTokensFrom text place us other → (ts ≡ us) × (rest ≡ other)
   same_tokens place ts us rest other a b =

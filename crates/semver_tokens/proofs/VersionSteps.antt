@@ -1,5 +1,5 @@
 -- serves: semver_tokens::parser::Parser::version, answer
--- The shape of a version, token by token.
+-- The automaton that reads the shape of a version token by token.
 use Rattle.std.proofs.Common.{◌≡◌, ℕ, ◌<◌, Bool, true, false, List, [], ◌∷◌, ◌++◌, length, Some, sym, refl, ap, ◌∙◌}
 use Rattle.std.proofs.Common.{◌⊎◌, inl, inr, ⊎_elim, arith, append_assoc}
 use Rattle.std.specs.Prelude.{IsTrue, flat_map}
@@ -12,14 +12,14 @@ use Rattle.semver_tokens.specs.Steps.Taking.{after_number, at_run, after_run, en
 use Rattle.semver_tokens.proofs.ReadingSteps.{run-append, IsReadBy}
 use Rattle.semver_tokens.proofs.IdentifierSteps.{id_step, one_run, run_more, identifier_is_read}
 
--- the place where a run of a part is wanted, and the one after it
+-- the position before a run of a part (false) or after it (true)
 abbrev pub run_place : Part → Bool → Place
 run_place part false = at_run part
 run_place part true = after_run part
 
 -- ---- identifiers joined by dots, from the left
 
--- further identifiers
+-- identifiers, each after a dot
 abbrev dotted : List (List TokenValue) → List TokenValue
 dotted ids = flat_map (λ id. Dot ∷ id) ids
 
@@ -60,14 +60,15 @@ ids_part sign ts a =
 no_part : (sign : TokenValue) → IsPartShape sign []
 no_part sign = record { ids = []; each = tt; parted = inl (refl, refl) }
 
--- ---- from what is accepted to its parts
+-- ---- the parts of an accepted list of tokens
 
--- where a run is wanted, identifiers; after a run, what goes on with it
+-- before a run (false), the tokens are identifiers joined by dots; after a run (true), they are so
+-- together with any run before them
 abbrev CompletesIds : Bool → List TokenValue → Type 0
 CompletesIds false ts = AreIds ts
 CompletesIds true ts = (t : TokenValue) → IsTrue (is_component t) → AreIds (t ∷ ts)
 
--- what is after the identifiers of a part
+-- the tokens that may follow the identifiers of a part
 data Follows (u : Place) : Part → List TokenValue → Type 0 where
   nothing : (part : Part) → Follows u part []
   space : (part : Part) (a b : ℕ) (ts : List TokenValue) → run step end ts ≡ Some u → Follows u part (Whitespace a b ∷ ts)
@@ -112,7 +113,7 @@ outer_rest u _ _ (nothing part) is = (omega arith, tt)
 outer_rest u _ _ (space part a b ts e) is = space_rest u a b ts e
 outer_rest u _ _ (plus ts e) is = cc
 
--- a part, if it is there, and what is after it
+-- a part, which may be missing, and the rest after it
 record IsParted (sign : TokenValue) (Rest : List TokenValue → Type 0) (ts : List TokenValue) : Type 0 where
   part : List TokenValue
   rest : List TokenValue
@@ -128,7 +129,7 @@ one_there : {u : Place} {part : Part} {Rest : List TokenValue → Type 0} {ts : 
 one_there sign r after =
     record { part = sign ∷ r.ids; rest = r.rest; shape = ids_part sign r.ids r.on; after = after; is = ap (λ l. sign ∷ l) r.is }
 
--- the build and white space, and before them the pre-release
+-- the build metadata and the white space after it; below, the pre-release before them
 build_rest : (u : Place) → accepts u ≡ true → (part : Part) (ts : List TokenValue) → Follows u part ts → IsParted Plus IsOuterShape ts
 build_rest u ok _ _ (nothing part) = none_there (omega arith, tt)
 build_rest u ok _ _ (space part a b ts e) = none_there (space_rest u a b ts e)
@@ -144,7 +145,7 @@ patch_rest (Plus ∷ ts) u ok e = none_there (build_rest u ok pre_release _ (plu
 patch_rest (Whitespace a b ∷ ts) u ok e = none_there (build_rest u ok pre_release _ (space pre_release a b ts e))
 patch_rest (_ ∷ ts) u ok e = cc
 
--- three numbers, and what is after them
+-- the three numbers, and the rest after them
 numbers_rest : (ts : List TokenValue) (u : Place) → accepts u ≡ true → run step (at_number major) ts ≡ Some u
     → (a b c : ℕ) × (rest : List TokenValue) × (ts ≡ Numeric a ∷ Dot ∷ Numeric b ∷ Dot ∷ Numeric c ∷ rest)
     × (run step (after_number patch) rest ≡ Some u)
@@ -174,15 +175,15 @@ major_rest before outer ts u ok e =
       joined = cc (regroup before (Numeric n.0 ∷ Dot ∷ Numeric n.1 ∷ Dot ∷ Numeric n.2 ∷ []) r.part r.after.part r.after.rest);
     }
 
--- what is accepted has the shape
+-- an accepted list of tokens has the shape of a version
 version_shape : (ts : List TokenValue) (u : Place) → run step start ts ≡ Some u → accepts u ≡ true → IsVersionShape ts
 version_shape ((Whitespace a b) ∷ ts) u e ok = major_rest (Whitespace a b ∷ []) (omega arith, (refl, tt)) ts u ok e
 version_shape (Numeric n ∷ ts) u e ok = major_rest [] (omega arith, tt) (Numeric n ∷ ts) u ok e
 version_shape _ u e ok = cc
 
--- ---- from a shape to what is accepted
+-- ---- each list of the shape is accepted
 
--- the tokens of an identifier lead through a part
+-- tokens that lead on in an identifier lead on in a part
 pub identifier_leads : (part : Part) (b v : Bool) (ts : List TokenValue) → run id_step b ts ≡ Some v
     → run step (run_place part b) ts ≡ Some (run_place part v)
 identifier_leads part b v [] e = ap (λ x. Some (run_place part x)) (same_Some b v e)
@@ -210,20 +211,20 @@ module _ (part : Part) where
   ids_lead [] some all = absurd (omega (arith, some))
   ids_lead (id ∷ ids) some all = run-append step (at_run part) (after_run part) id (dotted ids) (id_leads id all.0) ∙ dotted_lead ids all.1
 
-  -- a part leads on after its last run, or nothing is there
+  -- a part leads to the position after a run, or is empty and stays at `from`
   part_leads : (sign : TokenValue) (from : Place) (ts : List TokenValue) → step from sign ≡ Some (at_run part) → IsPartShape sign ts
       → (run step from ts ≡ Some from) ⊎ (run step from ts ≡ Some (after_run part))
   part_leads sign from ts leads w =
       ⊎_elim (λ none. inl (rw none.1 refl)) (λ some. inr (rw (some.1, leads) (ids_lead w.ids some.0 w.each))) w.parted
 
--- tokens lead from the place to one where a version may end
+-- the tokens lead from p to a position where a version may end
 abbrev Ends : Place → List TokenValue → Type 0
 Ends p ts = (u : Place) × (run step p ts ≡ Some u) × (accepts u ≡ true)
 
 ends_more : (p q : Place) (front rest : List TokenValue) → run step p front ≡ Some q → Ends q rest → Ends p (front ++ rest)
 ends_more p q front rest leads ends = (ends.0, run-append step p q front rest leads ∙ ends.1, ends.2)
 
--- a white space at the end, or nothing
+-- at most one white space leads to a position where a version may end, if it may end before it, too
 outer_ends : (from : Place) → ((a b : ℕ) → step from (Whitespace a b) ≡ Some end) → accepts from ≡ true → (ts : List TokenValue)
     → IsOuterShape ts → Ends from ts
 outer_ends from leads ok [] outer = (from, refl, ok)
@@ -267,7 +268,6 @@ version_live (at_run part) = (Numeric 0 ∷ [], after_run part, refl, refl)
 version_live (after_run part) = ([], after_run part, refl, refl)
 version_live end = ([], end, refl, refl)
 
--- the shape of a version is read from the start on
 pub version_is_read : IsReadBy step accepts start IsVersionShape
 version_is_read = record {
   shape = version_shape;

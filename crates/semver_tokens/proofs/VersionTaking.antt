@@ -1,5 +1,6 @@
 -- serves: semver_tokens::parser::Parser::version, answer
--- Taking a version token by token: each step goes on, or is a way in which reading ends.
+-- Taking a version token by token: each step of the parser takes tokens that lead on, or returns the
+-- error of reading a version.
 use Rattle.std.proofs.Common.{◌≡◌, ℕ, ◌<◌, Bool, true, false, List, [], ◌∷◌, ◌++◌, length, Some, None, Option, Ok, Err, sym}
 use Rattle.std.proofs.Common.{refl, ap, ◌∙◌, ◌⊎◌, inl, inr, ⊎_elim, ◌↔◌, arith, append_assoc, append-nil, length-append, decimal, map}
 use Rattle.std.proofs.Common.{codes}
@@ -26,7 +27,7 @@ use Rattle.semver_tokens.proofs.IdentifierSteps.{id_step, identifier_is_read, id
 use Rattle.semver_tokens.proofs.FirstToken.{by_test}
 use Rattle.semver_tokens.proofs.VersionSteps.{version_is_read, run_place, identifier_leads}
 
--- reading a version from the state s is refused
+-- reading a version from the state s returns the error e and leaves the state t
 abbrev pub RefusesVersion : ParserState → ErrorValue → ParserState → Type 0
 RefusesVersion s e t = ReadsVersion s (Err e) t
 
@@ -34,7 +35,7 @@ pub nothing_taken : (s : ParserState) → IsTakenTo s start [] s
 nothing_taken s = record { front = []; taken = none_taken version_is_read s; text_is = refl }
 
 module _ {s t : ParserState} {p : Place} {text : Text} (k : IsTakenTo s p text t) where
-  -- one token more
+  -- after one more token x was taken, the text is longer by the text of x
   one_more : {u : ParserState} {q : Place} (x : TokenValue) → IsTaken step start s (k.front ++ x ∷ []) q u
       → IsTakenTo s q (text ++ inner_text x) u
   one_more x taken =
@@ -50,7 +51,8 @@ module _ {s t : ParserState} {p : Place} {text : Text} (k : IsTakenTo s p text t
       next_given version_is_read SpellsCore k.taken (λ u. IsTakenTo s q (text ++ inner_text x) u) x q looked leads
       (λ u pops taken. one_more x taken)
 
-  -- white space was taken, or none comes next
+  -- after white space is skipped, P is true, if it is true both after white space was taken and in the
+  -- state t without white space next
   space_given : (P : ParserState → Type 0) (q : Place) → ((a b : ℕ) → look t ≡ Some (Whitespace a b) → step p (Whitespace a b) ≡ Some q)
       → ((u : ParserState) → IsTakenTo s q text u → P u) → (((a b : ℕ) → ¬ (look t ≡ Some (Whitespace a b))) → P t)
       → Gives (RefusesVersion s) (λ (x : Unit {0}) u. P u) (skip_whitespace t)
@@ -63,7 +65,7 @@ module _ {s t : ParserState} {p : Place} {text : Text} (k : IsTakenTo s p text t
       at_look None looked = none (λ a b d. cc)
       at_look (Some x) looked = none (λ a b d. cc)
 
-  -- a token that has a value is taken, and has this text
+  -- `expect` takes a token with a value, whose text is added, or returns the error of reading a version
   valued_given : {A : Type 0} (value : TokenValue → Option A) (value_text : A → Text) (q : Place)
       → ((x : TokenValue) (a : A) → value x ≡ Some a → inner_text x ≡ value_text a) → accepts p ≡ false
       → ((x : TokenValue) → look t ≡ Some x → step p x ≡ option_map (λ (a : A). q) (value x))
@@ -86,7 +88,7 @@ dot_text : (x : TokenValue) (d : Unit {0}) → dot_of x ≡ Some d → inner_tex
 dot_text Dot d e = refl
 dot_text _ d e = cc
 
--- the number after another
+-- the number that follows the major or the minor
 abbrev following : Number → Number
 following major = minor
 following _ = patch
@@ -107,11 +109,11 @@ dot_number_given {t = t} {k = k} taken wants =
     (λ x u after. valued_given after number_of decimal (after_number (following k)) number_text refl
     (λ y looked. number_leads (following k) y))
 
--- their text
+-- the text of three numbers, joined by dots
 abbrev pub numbers_text : ℕ × ℕ × ℕ → Text
 numbers_text n = join_with_byte 46 (map decimal (n.0 ∷ n.1 ∷ n.2 ∷ []))
 
--- all three were taken, or the first comes next
+-- the three numbers n were taken from the state s, and the state u is left
 abbrev pub HasNumbers : ParserState → ℕ × ℕ × ℕ → ParserState → Type 0
 HasNumbers s n u = IsTakenTo s (after_number patch) (numbers_text n) u
 
@@ -140,7 +142,7 @@ numbers_given s d e =
 
 -- ---- an identifier of a part
 
--- what was taken, and the front that an identifier's reading found
+-- an identifier of a part is read from the state t, after the tokens `k.front` were taken
 module _ {part : Part} {s t : ParserState} {text : Text} (k : IsTakenTo s (at_run part) text t) where
   fronts_lead : (front : List TokenValue) (b : Bool) → run id_step false front ≡ Some b
       → run step start (k.front ++ front) ≡ Some (run_place part b)
@@ -149,7 +151,7 @@ module _ {part : Part} {s t : ParserState} {text : Text} (k : IsTakenTo s (at_ru
   fronts_split : (front rest : List TokenValue) → t.remaining ≡ front ++ rest → s.remaining ≡ (k.front ++ front) ++ rest
   fronts_split front rest e = cc (append_assoc k.front front rest)
 
-  -- it was read with this text, and no hyphen comes next
+  -- the identifier v was taken, too, and no hyphen comes next
   pub record IsIdentifierTaken (v : IdentifierValue) (u : ParserState) : Type 0 where
     pub id : Text
     pub spells : SpellsIdentifier v id
@@ -256,7 +258,8 @@ holds_longer ts t h = record {
   is_run = h.is_run;
 }
 
--- after a sign comes a run
+-- if tokens after a `-` or a `+` lead to a position where a version may end, the first of them is a
+-- run of an identifier
 pub sign_holds : (sign : TokenValue) → (sign ≡ Hyphen) ⊎ (sign ≡ Plus) → (part : Part) (ts : List TokenValue) (last : Place)
     → run step (at_run part) ts ≡ Some last → accepts last ≡ true → HoldsIdentifierRun (sign ∷ ts)
 sign_holds sign is_sign part [] last e ok = cc
@@ -265,7 +268,7 @@ sign_holds sign is_sign part (t ∷ ts) last e ok =
     (λ h. record { before = []; sign = sign; component = t; after = ts; split = refl; is_sign = is_sign; is_run = h })
     (λ other. cc)
 
--- the places before any identifier
+-- the positions before any identifier
 abbrev is_before : Place → Bool
 is_before start = true
 is_before (at_number k) = true
@@ -287,19 +290,20 @@ holds_from (after_number patch) before (Whitespace a b ∷ t ∷ ts) part e = cc
 holds_from p before (_ ∷ ts) part e = cc
 
 module _ {part : Part} {s : ParserState} where
-  -- a front after a run, taken as far as it goes
+  -- reading a version may run out of memory if a prefix of the tokens leads to the position after a
+  -- run of an identifier
   runs_out : {u : ParserState} (front rest : List TokenValue) → s.remaining ≡ front ++ rest → run step start front ≡ Some (after_run part)
       → IsEndPart s u → MayRunOutInVersion s u
   runs_out front rest split leads left =
       runs_out_after version_is_read holds_longer front rest (after_run part) split leads (holds_from start refl front part leads) left
 
-  -- after a run
+  -- reading a version may run out of memory right after a run of an identifier was taken
   taken_runs_out : {t : ParserState} {text : Text} → IsTakenTo s (after_run part) text t → MayRunOutInVersion s t
   taken_runs_out {t} k =
       runs_out k.front t.remaining k.taken.split k.taken.leads
       (record { taken = k.front; split = k.taken.split; pending = k.taken.pending })
 
-  -- in an identifier
+  -- reading a version may run out of memory if reading an identifier in it may
   identifier_runs_out : {t u : ParserState} {text : Text} → IsTakenTo s (at_run part) text t → MayRunOutInIdentifier t u
       → MayRunOutInVersion s u
   identifier_runs_out {t} {u} k m =
@@ -326,7 +330,7 @@ module _ {part : Part} {s : ParserState} where
 
 -- ---- the identifiers of a part
 
--- texts, each with a dot after it
+-- texts, each followed by a dot
 abbrev pub dotted : List Text → Text
 dotted [] = []
 dotted (x ∷ xs) = (x ++ codes ".") ++ dotted xs
@@ -340,12 +344,12 @@ dotted_more : (xs : List Text) (x : Text) → dotted (xs ++ x ∷ []) ≡ dotted
 dotted_more [] x = append-nil (x ++ codes ".")
 dotted_more (y ∷ xs) x = cc (dotted_more xs x, append_assoc (y ++ codes ".") (dotted xs) (x ++ codes "."))
 
--- the identifiers so far, and a mark comes next
+-- the identifiers ids were taken since the state t, and a mark comes next in the state u
 abbrev pub AreBeforeMark : ParserState → List IdentifierValue → ParserState → Type 0
 AreBeforeMark t ids u =
     AtMark t (λ s part text. (texts : List Text) × AllZip SpellsIdentifier ids texts × IsAtMark s part (text ++ dotted texts) u)
 
--- and it was taken
+-- the identifiers ids, and the mark before the next identifier, were taken since the state t
 abbrev pub AreAfterMark : ParserState → List IdentifierValue → ParserState → Type 0
 AreAfterMark t ids u =
     AtMark t (λ s part text. (texts : List Text) × AllZip SpellsIdentifier ids texts × IsTakenTo s (at_run part) (text ++ dotted texts) u)
@@ -370,7 +374,7 @@ module _ (t v w : ParserState) (ids : List IdentifierValue) (k : AreAfterMark t 
     pub part_runs_out_after : PartMayRunOut true t w
     part_runs_out_after s part text at = taken_runs_out (identifier_taken (k s part text at).2 id w reads).taken
 
-    -- a dot comes next
+    -- if a dot comes after the identifier, it is the mark before another one
     pub part_before_dot : look w ≡ Some Dot → AreBeforeMark t (ids ++ id ∷ []) w
     part_before_dot dot s part text at =
         let m = k s part text at in
@@ -388,7 +392,7 @@ module _ (t v w : ParserState) (ids : List IdentifierValue) (k : AreAfterMark t 
           },
         )
 
-    -- none comes next
+    -- if no dot comes after the identifier, the part ends with it
     pub part_ends : ¬ (look w ≡ Some Dot) → TakesPart true t (Ok (ids ++ id ∷ []), w)
     part_ends no_dot s part text at =
         let m = k s part text at in
@@ -408,24 +412,24 @@ abbrev pub mark_of : Part → TokenValue
 mark_of pre_release = Hyphen
 mark_of build = Plus
 
--- where a token leads on after a part
+-- the position to which a token leads right after a part, or `None` if it doesn't lead on
 abbrev way_on : Part → TokenValue → Option Place
 way_on part (Whitespace a b) = Some end
 way_on pre_release Plus = Some (at_run build)
 way_on _ _ = None
 
--- after a part or its absence: the version may end here
+-- the state after a part that was taken or is missing: the version may end here
 pub record IsAfter (s : ParserState) (part : Part) (text : Text) (t : ParserState) : Type 0 where
   pub place : Place
   pub taken : IsTakenTo s place text t
   pub may_end : accepts place ≡ true
   pub leads : (x : TokenValue) → look t ≡ Some x → step place x ≡ way_on part x
 
--- all is taken that leads on, with this text
+-- reading a version from the state s returns any value that the text spells, and leaves the state u
 abbrev pub ReadsAll : ParserState → Text → ParserState → Type 0
 ReadsAll s text u = (v : VersionValue) → SpellsCore v text → ReadsVersion s (Ok v) u
 
--- the part that was taken, with its text
+-- a part with the identifiers ids was taken after the text; there are none if the part is missing
 pub record IsPart (s : ParserState) (part : Part) (text : Text) (ids : List IdentifierValue) (t : ParserState) : Type 0 where
   pub part_text : Text
   pub spells : SpellsPart (inner_text (mark_of part)) ids part_text

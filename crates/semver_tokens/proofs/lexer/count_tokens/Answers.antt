@@ -14,7 +14,7 @@ none c =
       | in_default-via-in_default w ↦ (let h = w.in_default.is in λ t e. cc)
     ])
 
--- one token less remains
+-- `next` takes the first token that remains
 one_less : (c : In-Some-Ok)
     → c.loop-end.end ≡ record {
       remaining = token_value c.in-Some-Ok.field-0-0

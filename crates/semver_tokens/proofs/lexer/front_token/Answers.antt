@@ -15,11 +15,9 @@ use Rattle.semver_tokens.proofs.Cuts.{cut_after_run}
 use Rattle.semver_tokens.proofs.lexer.front_token.Goals as goal
 use Rattle.semver_tokens.proofs.lexer.front_token.Goals.{In_ok-first, After-run_len-len, After-range, then-bytes-gt1, else-bytes-gt1}
 
--- the first byte of the text
 first_byte : (c : In_ok-first) → slice_get c.args.rest.now 0 ≡ Some c.in_ok-first.field-0.now
 first_byte c = ap (λ bs. slice_get bs 0) (sym c.as_bytes-bytes.ensures.value) ∙ sym c.in_ok-first.ensures.value
 
--- the length of the run
 run_len_is : (c : After-run_len-len) → c.run_len-len.result ≡ prefix_len is_ascii_alphanumeric c.args.rest.now
 run_len_is c = c.run_len-len.ensures ∙ ap (prefix_len is_ascii_alphanumeric) c.as_bytes-bytes.ensures.value
 
@@ -46,14 +44,14 @@ returns-then-is_space c =
     ∙ sym (front_space c.args.start c.args.rest.now _ (first_byte (goal.at.returns-then-is_space c).In_ok-first)
     (sym c.if-is_space.ensures))
 
--- the run isn't empty, and the text may be cut after it
+-- the run isn't empty
 run_some : (c : After-run_len-len) → 0 < prefix_len is_ascii_alphanumeric c.args.rest.now
 run_some c = some_of_prefix is_ascii_alphanumeric c.args.rest.now _ (first_byte (at_first c)) (sym c.if-is_ascii_alphanumeric.ensures.value)
   where
     at_first : (c : After-run_len-len) → In_ok-first
     at_first c = (goal.at.range-requires-clause-end_boundary c).In_ok-first
 
--- what was cut
+-- the run that was cut off is the longest prefix of letters and digits
 run_is : (c : After-range) → c.range.result.now ≡ take (prefix_len is_ascii_alphanumeric c.args.rest.now) c.args.rest.now
 run_is c = c.range.ensures.value
     ∙ ap (λ n. take n c.args.rest.now) (omega (arith, run_len_is (goal.at.component-requires c).After-run_len-len))

@@ -26,7 +26,7 @@ cut_after c =
     cut_after_token c.self.inside.input.now c.self.inside.position _ _ c.self.invariant.0
     (subst IsUtf8 c.range_from-rest.ensures.value c.range_from-rest.utf8) (token_here c)
 
--- it comes first, and what is left follows
+-- the items that are left are this token and the items after it
 item_here : (c : In-Some)
     → items_left c.args.self.now ≡ Ok (token_value c.in-Some.token)
     ∷ items_left (state_left c.self.inside.input.now (c.self.inside.position + c.in-Some.len) false)
@@ -46,7 +46,8 @@ returns-in-Some-clause-goes c =
     let e = ap length (item_here (goal.at.returns-in-Some-clause-goes c).In-Some) in
     record { on = λ _. (tt, tt, rw c.if-self.false (omega (arith, e))); keeps = tt; rests = λ _. tt }
 
--- no token begins at the position, so what is left is the first character there, if there is one
+-- no token begins at the position, so the only item that is left is the error for the character
+-- there, if there is one
 rest_here : (c : In_default) (o : Option ℕ) → o ≡ slice_get (chars c.range_from-rest.result.now) 0
     → items_left c.args.self.now ≡ items_left (record { remaining = []; pending = o })
 rest_here c o e =
@@ -61,7 +62,7 @@ returns-in_err-character-clause-steps c =
     (c.in_err-character.ensures.steps.2 ∙ ap (λ bs. slice_get (chars bs) 0) c.chars.ensures.rest) in
     rw c.from_residual.ensures (none, none)
 
--- it is the one item, and nothing is left after it
+-- the error for that character is the only item that is left
 bad_here : (c : goal.After-self-2-1)
     → items_left c.args.self.now ≡ Err (UnexpectedChar c.in_ok-character.character)
     ∷ items_left (state_left c.self.inside.input.now c.self.inside.position true)

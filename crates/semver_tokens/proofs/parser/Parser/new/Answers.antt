@@ -6,7 +6,7 @@ use Rattle.semver_tokens.proofs.LexerSteps.{from_start}
 use Rattle.semver_tokens.proofs.parser.Parser.new.Goals as goal
 use Rattle.semver_tokens.proofs.parser.Parser.new.Goals.{In_ok-lookahead}
 
--- the first item is what the lexer has first
+-- the token that was read ahead is the first one of the new lexer
 ahead : (c : In_ok-lookahead) → IsAhead c.new-lexer.result c.in_ok-lookahead.lookahead c.next.new.self
 ahead c =
     next_ok c.new-lexer.result c.next.new.self c.next.result c.in_ok-lookahead.lookahead c.next.ensures.steps

@@ -4,7 +4,7 @@ use Rattle.semver_tokens.proofs.TokenAhead.{IsAhead, next_ok, pop_first, remaini
 use Rattle.semver_tokens.proofs.parser.Parser.pop.Goals as goal
 use Rattle.semver_tokens.proofs.parser.Parser.pop.Goals.{In_ok-after}
 
--- what is ahead after the pop
+-- the token that is ahead after the call
 ahead : (c : In_ok-after) → IsAhead c.copy-lexer.result c.in_ok-after.after c.next.new.self
 ahead c =
     next_ok c.copy-lexer.result c.next.new.self c.next.result c.in_ok-after.after c.next.ensures.steps

@@ -6,7 +6,7 @@ use Rattle.semver_tokens.proofs.TokenAhead.{none_pending, gathered_more, tail_gi
 use Rattle.semver_tokens.proofs.parser.Parser.tail.Goals as goal
 use Rattle.semver_tokens.proofs.parser.Parser.tail.Goals.{In-Some-Ok, in_default-next, in_default-next-2}
 
--- one token less remains
+-- `next` takes the first token that remains
 one_less : (c : In-Some-Ok)
     → c.loop-token.lexer ≡ record {
       remaining = token_value c.in-Some-Ok.token
@@ -42,7 +42,7 @@ none c = none_remains c.loop-token.lexer c.next-in-loop-token.new.self c.next-in
       | in_default-next-2 w ↦ none_is_no_token _ w.in_default-next.is
     ])
 
--- and no character is pending
+-- no character is pending after the loop
 no_pending : (c : goal.After-self-3-1) → c.self.inside.lexer.pending ≡ None
 no_pending c =
     let at_end = c.copy.ensures.same ∙ c.count_tokens-count.ensures.end in

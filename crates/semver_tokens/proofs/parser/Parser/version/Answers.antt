@@ -39,7 +39,7 @@ pre : (c : In_ok-pre) → HasNumbers c.args.self.now (c.in_ok-major.major, c.in_
 pre c k =
     pre_given k c.at_hyphen-has_pre.result c.at_hyphen-has_pre.ensures _ c.in_ok-pre.ensures.answer
 
--- ---- the build
+-- ---- the build metadata
 
 pub returns-in_err-build-clause-answer : goal.returns-in_err-build-clause-answer
 returns-in_err-build-clause-answer c =
