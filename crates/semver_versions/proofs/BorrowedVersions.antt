@@ -1,5 +1,5 @@
 -- serves: semver_versions::version::read, out_of_memory
--- The version that a borrowed version of the crate's dialect is of.
+-- The version of a borrowed version in the crate's dialect.
 use Rattle.std.proofs.Common.{◌≡◌, ◌<◌, ℕ, List, [], ◌∷◌, length, map, sym, refl, ap, ◌∙◌, arith, inl, inr, ⊎_elim, ◌⊎◌}
 use Rattle.std.specs.Prelude.{◌==◌, ◌↔◌, Option, Some, None, Result, Ok, Err, IfErr, IfOk, IfSome}
 use Rattle.std.proofs.lemmas.List.{length-map}
@@ -21,9 +21,9 @@ module _ (before : ℕ) (text : Text) (v : VersionValue) (w : SpellsVersion v te
   pub its_version : v ≡ version_of o
   its_version = borrowed_version Crate before o is.0 v text is.1 is.2 w
 
--- ---- it has identifiers exactly where their text isn't empty
+-- ---- a part has identifiers if and only if its text isn't empty
 
--- as many, however digits are read
+-- the number of identifiers doesn't depend on how digits are read
 by_length : (digits : Digits) (ids : List IdentifierValue) → length (identifiers_by digits ids) ≡ length ids
 by_length Kept ids = refl
 by_length AnySize ids = length-map ids any_size
@@ -83,7 +83,7 @@ has_some before text o is some =
           (λ build. inr (some_where o.digits o.build is.0.build (ap (λ (u : VersionValue). u.build) e) build)) some,
     )
 
--- ---- the result of it
+-- ---- the result of a call
 
 pub if_ok_more : {A E : Type 0} {P Q : A → Type 0} (r : Result A E) → ((x : A) → P x → Q x) → IfOk r P → IfOk r Q
 if_ok_more (Ok x) more p = more x p
@@ -102,7 +102,7 @@ exactly text u spells v = (
     same : {u w : VersionValue} → Some u ≡ Some w → u ≡ w
     same e = cc
 
--- a borrowed version of the crate's dialect keeps digits as they are
+-- the version of a borrowed version in the crate's dialect has the identifiers as they are kept
 pub kept_of : (before : ℕ) (text : Text) (v : VersionValue) → SpellsVersion v text → (o : VersionRefValue) → IsVersionRefAfter before text o
     → v ≡ kept_version_of o
 kept_of before text v w o is =

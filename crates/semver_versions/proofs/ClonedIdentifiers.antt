@@ -1,5 +1,5 @@
 -- serves: semver_versions::read_version::ReadVersion::without_build, plain
--- Cloned identifiers have the same values.
+-- Cloned identifiers have the same values as the originals.
 use Rattle.std.proofs.Common.{rules, ◌≡◌, List, [], ◌∷◌, map, refl, ap₂}
 use Rattle.std.specs.List.{AllZip}
 use Rattle.semver_texts.specs.declared.version.Identifier.{Identifier}

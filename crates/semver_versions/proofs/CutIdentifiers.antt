@@ -1,5 +1,5 @@
 -- serves: semver_versions::laws::one_version_in
--- Identifiers as they are found byte by byte, and as they are cut at dots.
+-- Identifiers that are found byte by byte are the same as those that are cut at dots.
 use Rattle.std.proofs.Common.{◌≡◌, ℕ, ◌<◌, Bool, true, false, List, [], ◌∷◌, ◌++◌, length, take, drop}
 use Rattle.std.proofs.Common.{sym, refl, ap, ◌∙◌, subst, arith, append_assoc, append-nil, length-append, one-add, decimal}
 use Rattle.std.specs.Prelude.{◌==◌, ◌||◌, slice_index, Option, Some, None}
@@ -25,7 +25,7 @@ use Rattle.semver_versions.proofs.KeptTexts.{are_parts, identifiers_are_parts, m
 use Rattle.semver_versions.proofs.KeptTexts.{parts_cut}
 use Rattle.semver_texts.proofs.PartRuns.{parts_pass}
 
--- ---- one run more
+-- ---- one more run
 
 run_more : (run : Text) (b : ℕ) → IsRun run → is_ascii_alphanumeric b ≡ true → IsRun (run ++ b ∷ [])
 run_more run b is_run letter =
@@ -88,7 +88,7 @@ stands = runs_stand is_ascii_alphanumeric
 abbrev front : Text → Text
 front bytes = take (prefix_len is_dotted_byte bytes) bytes
 
--- then they are identifiers
+-- if `stands` is true, `front` is identifiers joined by dots, after the run before it if there is one
 begun : (bytes : Text) → (stands false bytes ≡ true → AreJoined (front bytes))
     × ((run : Text) → IsRun run → stands true bytes ≡ true → AreJoined (run ++ front bytes))
 begun [] = (λ e. cc, λ run is e. rw append-nil (alone run is))
@@ -103,7 +103,7 @@ begun (b ∷ bytes) =
     (λ h. rw (n, o, h, one-add) (λ e. cc, λ run is e. rw (eqb-true b 46 h) (before_dot run (front bytes) is (more.0 e))))
     (λ x. rw (n, o, x) (λ e. cc, λ run is e. rw append-nil (alone run is)))))
 
--- ---- and identifiers stand so
+-- ---- `stands` is true for identifiers
 
 letters_stand : (run more : Text) → Passes is_ascii_alphanumeric run → stands true (run ++ more) ≡ stands true more
 letters_stand [] more all = refl
@@ -113,7 +113,7 @@ run_stands : (in_run : Bool) (run more : Text) → IsRun run → stands in_run (
 run_stands in_run [] more is = absurd (omega (arith, is.0))
 run_stands in_run (b ∷ run) more is = rw is.1.0 (letters_stand run more is.1.1)
 
--- a text after which a run is being read
+-- after this text, `stands` continues as after a run
 abbrev Stands : Text → Type 0
 Stands text = (in_run : Bool) (more : Text) → stands in_run (text ++ more) ≡ stands true more
 
@@ -136,9 +136,9 @@ identifiers_stand : (in_run : Bool) (texts : List Text) (more : Text) → 0 < le
 identifiers_stand in_run texts more some each =
     joined_stand 46 (λ more. refl) texts some (all_more identifier_stands texts each) in_run more
 
--- ---- whichever hyphens they may have
+-- ---- identifiers with either rule for hyphens
 
--- what follows the front begins with no byte of it
+-- after a run, `stands` is true if the next byte isn't a letter, a digit, a hyphen or a dot
 other_stands : (more : Text) → is_dotted_byte (slice_index more 0) ≡ false → stands true more ≡ true
 other_stands [] e = refl
 other_stands (b ∷ more) e = let n = not_inner b e in rw (n.0, n.1)
@@ -146,7 +146,7 @@ other_stands (b ∷ more) e = let n = not_inner b e in rw (n.0, n.1)
     not_inner : (b : ℕ) → is_dotted_byte b ≡ false → (is_ascii_alphanumeric b ≡ false) × ((b == 45 || b == 46) ≡ false)
     not_inner b e = (grind (arith, nat_tests), grind (arith, nat_tests))
 
--- they are found
+-- if `runs_stand` is true, `front` is one or more identifiers
 stand_found : (h : Hyphens) (bytes : Text) → runs_stand (is_run_byte h) false bytes ≡ true
     → (0 < length (front bytes)) × AreIdentifiers h (cut_at_dots (front bytes))
 stand_found Any bytes e = some_parts (front bytes) (sym (runs_ahead bytes) ∙ e)
@@ -161,7 +161,7 @@ stand_found BetweenRuns bytes e =
       subst (AllByRecursion IsIdentifierText) (sym cut) w.each,
     )
 
--- and where they are there, they stand so
+-- if `front` is one or more identifiers, `runs_stand` is true
 found_stand : (h : Hyphens) (bytes : Text) → 0 < length (front bytes) → AreIdentifiers h (cut_at_dots (front bytes))
     → runs_stand (is_run_byte h) false bytes ≡ true
 found_stand Any bytes some each = runs_ahead bytes ∙ ap (list_all is_part) (sym (some_cut (front bytes) some)) ∙ each
@@ -186,7 +186,7 @@ module _ (h : Hyphens) (mark : ℕ) where
         λ i. marked (mark ∷ []) (cut_at_dots (same.0 i)) ++ same.1 i,
       )
 
-  -- the part that is found
+  -- `marked_part` finds identifiers or nothing, and the text is these after their mark, and the rest
   pub part_found : (t inner rest : Text) → marked_part h mark t ≡ Some (inner, rest)
       → AreIdentifiers h (cut_at_dots inner) × (t ≡ marked (mark ∷ []) (cut_at_dots inner) ++ rest)
   part_found [] inner rest e = none_found [] inner rest e
@@ -202,7 +202,7 @@ module _ (h : Hyphens) (mark : ℕ) where
       (λ other. let none : None ≡ Some (inner, rest) = rw (y, other) at e in cc))
       (λ n. none_found (b ∷ t) inner rest (rw n at e))
 
-  -- where there is a part, it is that
+  -- `marked_part` finds the part at the beginning of a text, if the rest after it can't belong to it
   pub part_is : (t inner rest : Text) → AreIdentifiers h (cut_at_dots inner) → t ≡ marked (mark ∷ []) (cut_at_dots inner) ++ rest
       → is_dotted_byte (slice_index rest 0) ≡ false → (slice_index rest 0 == mark) ≡ false → marked_part h mark t ≡ Some (inner, rest)
   part_is [] [] rest each split ended no_mark = cc
@@ -220,7 +220,7 @@ module _ (h : Hyphens) (mark : ℕ) where
       )
       (ap Some (λ i. (taken i, (ap (λ k. drop k (part ++ rest)) n ∙ drop_at part rest (length part) refl) i)))
 
--- ---- what a version of the crate has
+-- ---- the identifiers of a version in the crate's grammar
 
 pub spelled_are : (ids : List IdentifierValue) (ts : List Text) → AllZip SpellsIdentifier ids ts → AllByRecursion IsIdentifierText ts
 spelled_are = all_zipped spelled_is

@@ -1,5 +1,5 @@
 -- serves: semver_versions::laws::one_borrowed_version
--- The borrowed version of a text in a dialect: which version it is of, and where its parts are.
+-- The borrowed version of a text in a dialect: its version, and the offsets of its parts.
 use Rattle.std.proofs.Common.{codes, ◌≡◌, ℕ, true, false, List, [], ◌∷◌, ◌++◌, length, take, refl, ◌∙◌, suc, arith, ap, sym}
 use Rattle.std.proofs.Common.{subst, append_assoc, append-nil, length-append}
 use Rattle.std.specs.Prelude.{◌↔◌, Option, Some, None, IfSome, slice_index}
@@ -25,9 +25,9 @@ use Rattle.semver_versions.proofs.ReadTexts.{Digit, crate_before, crate_read, di
 use Rattle.semver_versions.proofs.ReadTexts.{one_version_in, read_of, three}
 use Rattle.semver_versions.proofs.ReadVersions.{its_numbers}
 
--- ---- the version that a borrowed version is of
+-- ---- the version of a borrowed version
 
--- it is the version whose borrowed version it is
+-- the version of the borrowed version of v is v
 module _ (digits : Digits) where
   after_is : (before : ℕ) (v : VersionValue) (ts us : List Text) → AllZip (IsKeptBy digits) v.plain.pre ts
       → AllZip (IsKeptBy digits) v.build us → v ≡ version_of (version_ref_after digits before v)
@@ -52,7 +52,8 @@ pub its_version_in : (d : Grammar) (o : VersionRefValue) (v : VersionValue) (tex
     → v ≡ version_of o
 its_version_in d o v text is w = borrowed_version d (before_numbers text) o is.0 v text is.1 is.2 w
 
--- in the crate's dialect white space is before it
+-- in the crate's dialect only white space may be before a version, so `IsVersionRefIn` is
+-- `IsVersionRefOf`
 space_no_digit : (b : ℕ) → is_ascii_digit b ≡ true → is_space b ≡ false
 space_no_digit b h = grind (arith, nat_tests)
 
@@ -72,9 +73,9 @@ same_version_ref o text = (
   λ is. (is.0, is.1, is.2 ∙ ap (λ k. version_ref_after Kept k is.0) (spaces_before is.0 text is.1)),
 )
 
--- ---- where its parts are
+-- ---- the offsets of the parts
 
--- a part is after its mark
+-- a part is in the text right after its mark
 stands : (mark place : ℕ) (part lead rest text : Text) → text ≡ lead ++ ((mark ∷ part) ++ rest) → place ≡ length lead
     → StandsAt (after_mark place part) part text
 stands mark place [] lead rest text whole at = refl
@@ -86,7 +87,7 @@ stands mark place (b ∷ part) lead rest text whole at =
     regroup : (a b c : Text) → a ++ ((mark ∷ b) ++ c) ≡ (a ++ (mark ∷ [])) ++ (b ++ c)
     regroup a b c = simp append_assoc
 
--- the identifiers of a part are after their mark, which is at the place
+-- the identifiers of a part are in the text right after their mark, which is at the offset `place`
 part_stands : (digits : Digits) (mark place : ℕ) (ids : List IdentifierValue) (ts : List Text) (lead rest text : Text)
     → AllZip (IsKeptBy digits) ids ts
     → text ≡ lead ++ (marked (mark ∷ []) ts ++ rest) → place ≡ length lead

@@ -1,5 +1,6 @@
 -- serves: semver_versions::laws::one_version
--- Texts of letters, digits and hyphens, the identifiers that they are kept as, and such texts between dots.
+-- Texts of letters, digits and hyphens, the identifiers that they are kept as, and such texts joined
+-- by dots.
 use Rattle.std.proofs.Common.{◌≡◌, ℕ, ◌<◌, ◌≤◌, ◌^◌, Bool, true, false, List, [], ◌∷◌, ◌++◌, length, map, arith, ap, sym, refl}
 use Rattle.std.proofs.Common.{◌∙◌, subst}
 use Rattle.std.specs.Prelude.{◌&&◌, nat_lt, if◌then◌else◌, slice_index}
@@ -31,7 +32,7 @@ use Rattle.semver_versions.specs.Steps.Reading.{AreIdentifiers, IsKeptBy}
 
 -- ---- one text
 
--- it isn't empty, and has these bytes alone
+-- a text that isn't empty, and has only letters, digits and hyphens
 abbrev pub IsPartText : Text → Type 0
 IsPartText t = (0 < length t) × Passes is_part_byte t
 
@@ -39,7 +40,7 @@ pub part_bytes : (t : Text) → is_part t ≡ true → IsPartText t
 part_bytes [] e = cc
 part_bytes (b ∷ t) e = (omega arith, each_passes is_part_byte (b ∷ t) e)
 
--- the text of the identifier that a text is kept as
+-- an identifier is printed as the text from which it was kept
 text_of_kept : (digits : Digits) (t : Text) → identifier_text (identifier_by digits (identifier_of t)) ≡ t
 text_of_kept digits t =
     by_test (is_number t)
@@ -60,7 +61,7 @@ text_of_kept digits t =
     of_text_alone Kept other = refl
     of_text_alone AnySize other = rw other refl
 
--- digits of any size are their number, and other texts themselves
+-- if digits may be of any size, a text is kept as its number if it is one, and as it is otherwise
 of_any_size : (t : Text) → any_size (identifier_of t) ≡ (if is_number t then numeric (digits_value 10 t) else alphanumeric t)
 of_any_size t =
     by_test (is_number t)
@@ -69,7 +70,7 @@ of_any_size t =
     (λ large. rw (number, large) (rw (number, large) refl)))
     (λ other. rw other (rw other refl))
 
--- what SemVer 2.0.0 keeps
+-- `IsKeptBy AnySize` is `IsKeptAs`, which says how SemVer 2.0.0 keeps identifiers
 number_part : (t : Text) → is_number t ≡ true → is_part t ≡ true
 number_part [] e = cc
 number_part (b ∷ t) e =
@@ -97,7 +98,7 @@ kept_any_all = zip_more kept_any
 pub any_kept_all : (ids : List IdentifierValue) (ts : List Text) → AllZip (IsKeptBy AnySize) ids ts → AllZip IsKeptAs ids ts
 any_kept_all = zip_more any_kept
 
--- and what the crate's grammar spells
+-- `IsKeptBy Kept` is `SpellsIdentifier`, if the text is an identifier of the crate's grammar
 number_spelled : (t : Text) → (is_number t && nat_lt (digits_value 10 t) (2 ^ 64)) ≡ true → IsNumber t
 number_spelled t y =
     let both = and_parts _ _ y in
@@ -171,7 +172,7 @@ kept_is AnySize (id ∷ ids) (t ∷ ts) all = (λ i. all.0.1 i ∷ kept_is AnySi
 pub identifiers_are_parts : (ts : List Text) → AllByRecursion IsIdentifierText ts → list_all is_part ts ≡ true
 identifiers_are_parts ts all = all_passes is_part ts (all_more identifier_is_part ts all)
 
--- so are identifiers, whichever hyphens they may have
+-- identifiers are parts, whichever hyphens they may have
 pub are_parts : (h : Hyphens) (ts : List Text) → AreIdentifiers h ts → list_all is_part ts ≡ true
 are_parts Any ts each = each
 are_parts BetweenRuns ts each = identifiers_are_parts ts each
@@ -180,14 +181,14 @@ pub no_identifiers : (h : Hyphens) → AreIdentifiers h []
 no_identifiers Any = refl
 no_identifiers BetweenRuns = tt
 
--- joined by dots and cut there they are the same
+-- parts that are joined by dots, and then cut at the dots, are the same parts again
 pub parts_cut : (ts : List Text) → list_all is_part ts ≡ true → cut_at_dots (join_with_byte 46 ts) ≡ ts
 parts_cut [] e = refl
 parts_cut (t ∷ ts) e =
     some_cut (join_with_byte 46 (t ∷ ts)) (joined_some t ts (part_bytes t (and_parts _ _ e).0).0) ∙ split_parts t ts e
 
 module _ (digits : Digits) where
-  -- the text of identifiers is the one that they are kept from
+  -- identifiers joined by dots are printed as the text from which they were kept
   pub kept_dotted : (ids : List IdentifierValue) (t : Text) → AllZip (IsKeptBy digits) ids (cut_at_dots t) → t ≡ dotted_text ids
   kept_dotted ids t all = sym (joined_cut t) ∙ ap (join_with_byte 46) (kept_texts digits ids _ all)
 
@@ -208,7 +209,8 @@ marked_cut mark t some =
     rw (some_cut t some) (marked_some (mark ∷ []) _ (omega (arith, length-slice_split is_dot t))
     ∙ rw (join_with_byte-slice_split 46 t))
 
--- a part that is there begins with its mark
+-- if the mark of a part and the first byte after the part fail a test, so does the first byte of
+-- both together, whether or not the part is empty
 pub begins_marked : (p : ℕ → Bool) (mark : ℕ) (ts : List Text) (more : Text) → p mark ≡ false → p (slice_index more 0) ≡ false
     → p (slice_index (marked (mark ∷ []) ts ++ more) 0) ≡ false
 begins_marked p mark [] more here there = there

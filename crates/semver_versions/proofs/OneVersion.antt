@@ -1,5 +1,6 @@
 -- serves: semver_versions::laws::one_version
--- What a text that spells a version of the crate begins with and goes on with; it spells no other.
+-- How a text that spells a version in the crate's grammar begins and continues. It spells only one
+-- version.
 use Rattle.std.proofs.Common.{◌≡◌, ℕ, Bool, true, false, List, [], ◌∷◌, ◌++◌, sym, ◌∙◌, subst, append_assoc, append-nil}
 use Rattle.std.specs.Prelude.{slice_index}
 use Rattle.semver_texts.specs.Texts.{BeginsWithNumbers, is_part_byte, is_space}
@@ -36,13 +37,13 @@ space_begins : (p : ℕ → Bool) (after : List ℕ) → Passes is_space after �
 space_begins p [] all past space = past
 space_begins p (b ∷ after) all past space = space b all.0
 
--- three numbers don't begin with white space
+-- a text that begins with three numbers doesn't begin with white space
 pub numbers_first : {text rest : List ℕ} {major minor patch : ℕ} → BeginsWithNumbers text major minor patch rest
     → is_space (slice_index text 0) ≡ false
 numbers_first n = no_space (digit_begins n)
 
 module _ {v : VersionValue} {text : List ℕ} (w : SpellsVersion v text) where
-  -- what is after the white space before it, and what after its numbers
+  -- the text after the white space before the version; below, the text after the numbers
   abbrev pub at_numbers : List ℕ
   at_numbers = w.core ++ w.after
 
@@ -55,7 +56,7 @@ module _ {v : VersionValue} {text : List ℕ} (w : SpellsVersion v text) where
   pub core_begins : BeginsWithNumbers at_numbers v.plain.major v.plain.minor v.plain.patch (marked_rest (crate_read w))
   core_begins = its_numbers (crate_read w)
 
-  -- a test that white space and the marks fail
+  -- if white space and the marks fail a test, so does the byte after each part of the version
   module _ (p : ℕ → Bool) (past : p 0 ≡ false) (space : (b : ℕ) → is_space b ≡ true → p b ≡ false) where
     pub build_ends : p (slice_index w.after 0) ≡ false
     build_ends = space_begins p w.after w.spaces_after past space
@@ -69,7 +70,7 @@ module _ {v : VersionValue} {text : List ℕ} (w : SpellsVersion v text) where
 pub one_version : (v w : VersionValue) (text : List ℕ) → SpellsVersion v text → SpellsVersion w text → v ≡ w
 one_version = one_version_in Crate
 
--- a core is a version without white space
+-- the core of a version spells the version, without white space around it
 pub bare : {v : VersionValue} {text : List ℕ} → SpellsCore v text → SpellsVersion v text
 bare {text = text} w = record {
   before = [];

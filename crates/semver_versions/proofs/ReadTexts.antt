@@ -1,5 +1,5 @@
 -- serves: semver_versions::laws::one_version_in
--- A whole text that spells a version in a dialect is read as it, and as no other.
+-- A whole text that spells a version in a dialect is read as this version, and as no other.
 use Rattle.std.proofs.Common.{codes, ◌≡◌, inl, inr, ⊎_elim, ℕ, ◌+◌, ◌<◌, ◌^◌, Bool, true, false, List, [], ◌∷◌, ◌++◌, length}
 use Rattle.std.proofs.Common.{refl, ◌∙◌, arith, ap, sym, subst, append_assoc, append-nil, length-append, decimal, map, one-add}
 use Rattle.std.specs.Prelude.{◌↔◌, IsTrue, is_some, not, Option, Some, None, slice_index}
@@ -54,7 +54,7 @@ digit_begins {text} {major} {minor} {patch} {rest} n =
     (digit_first (decimal major) (46 ∷ (decimal minor ++ (46 ∷ (decimal patch ++ rest)))) (decimal_nonempty major n.major_fits)
     (decimal_digits major n.major_fits))
 
--- so without a digit at the front there are none
+-- a text that doesn't begin with a digit doesn't begin with numbers
 pub no_numbers : {text : Text} {major minor patch : ℕ} {rest : Text} → is_ascii_digit (slice_index text 0) ≡ false
     → ¬ (BeginsWithNumbers text major minor patch rest)
 no_numbers none n =
@@ -66,7 +66,7 @@ digit_dotted b h = grind (arith, nat_tests)
 digit_no_v : (b : ℕ) → is_ascii_digit b ≡ true → b ≡ 118 → ⊥
 digit_no_v b h e = grind (arith, nat_tests)
 
--- ---- how many bytes are before them
+-- ---- the number of bytes before the numbers
 
 abbrev no_digit : ℕ → Bool
 no_digit b = not (is_ascii_digit b)
@@ -83,7 +83,7 @@ sign_passes Crate sign rest is = rw is tt
 sign_passes Cargo sign rest is = rw is tt
 sign_passes Npm sign rest is = ⊎_elim (λ v. rw v (refl, tt)) (λ none. rw (none.0) tt) is
 
--- ---- what is before them
+-- ---- the text before the numbers
 
 module _ (d : Grammar) (text rest : Text) (at : IsBefore d text rest) where
   abbrev pub front_of : Text
@@ -107,7 +107,7 @@ no_around d text digit = rw digit.whole (no_size d digit.byte digit.rest (digit_
 no_v : (text : Text) → Digit text → slice_index text 0 ≡ 118 → ⊥
 no_v text d e = digit_no_v d.byte d.digit (sym (ap (λ t. slice_index t 0) d.whole) ∙ e)
 
--- numbers at the front of a text
+-- nothing is before the numbers if the text begins with a digit
 pub at_front : (d : Grammar) (text : Text) → Digit text → IsBefore d text text
 at_front d text digit = ([], [], none_around d, no_sign d, refl, no_around d text digit)
   where
@@ -116,7 +116,7 @@ at_front d text digit = ([], [], none_around d, no_sign d, refl, no_around d tex
     no_sign Cargo = refl
     no_sign Npm = inr (refl, no_v text digit)
 
--- the rest is the same
+-- there is only one rest after the sign
 one_sign : (d : Grammar) (sign other rest left : Text) → IsSign d sign rest → IsSign d other left → sign ++ rest ≡ other ++ left
     → rest ≡ left
 one_sign Crate sign other rest left a b e = sym (ap (λ t. t ++ rest) a) ∙ e ∙ ap (λ t. t ++ left) b
@@ -135,7 +135,7 @@ pub one_before : (d : Grammar) (text rest left : Text) → IsBefore d text rest 
 one_before d text rest left a b =
     one_sign d a.1 b.1 rest left a.3 b.3 (same_around d a.0 b.0 _ _ a.2 b.2 (sym a.4 ∙ b.4) a.5 b.5).1
 
--- ---- a text that spells a version is read as it
+-- ---- a text that spells a version is read as this version
 
 abbrev pub three : VersionValue → Text
 three v = join_with_byte 46 (map decimal (numbers v.plain))
@@ -143,7 +143,7 @@ three v = join_with_byte 46 (map decimal (numbers v.plain))
 to_right : (a b c e : Text) → (a ++ (b ++ c)) ++ e ≡ a ++ (b ++ (c ++ e))
 to_right a b c e = simp append_assoc
 
--- what is read of it, from which the text follows
+-- the text is read as the version, after everything that is before the numbers
 abbrev pub IsReadOf : Grammar → VersionValue → Text → Type 0
 IsReadOf d v text = (rest : Text) × IsBefore d text rest × IsRead d v rest
 
@@ -244,7 +244,7 @@ read_any Npm v text w =
       read,
     )
 
--- and a text that is read as it spells it
+-- a text that is read as a version spells this version
 pub spells_any : (d : Grammar) (v : VersionValue) (text rest : Text) → IsBefore d text rest → IsRead d v rest → SpellsAtAnyLength d v text
 spells_any Crate v text rest at w = record {
   before = at.0;
@@ -284,7 +284,7 @@ spells_any Npm v text rest at w = record {
   whole = at.4 ∙ ap (λ t. at.0 ++ (at.1 ++ t)) (core_then w);
 }
 
--- a text of a dialect is one of any length that is short
+-- a text spells a version in a grammar if and only if it does at any length, and is short enough
 pub any_of : (d : Grammar) (v : VersionValue) (text : Text) → SpellsIn d v text → SpellsAtAnyLength d v text
 any_of Crate v text w = w
 any_of Cargo v text w = w
@@ -303,7 +303,7 @@ in_short Npm v text short w = (w, short)
 pub read_of : (d : Grammar) (v : VersionValue) (text : Text) → SpellsIn d v text → IsReadOf d v text
 read_of d v text w = read_any d v text (any_of d v text w)
 
--- ---- a text spells one version
+-- ---- a text spells at most one version
 
 module _ (d : Grammar) (v : VersionValue) (text rest : Text) (at : IsBefore d text rest) (w : SpellsIn d v text) where
   pub read_after : IsRead d v rest
@@ -313,7 +313,7 @@ pub one_version_in : (d : Grammar) (v u : VersionValue) (text : Text) → Spells
 one_version_in d v u text a b =
     let read = read_of d v text a in one_read d v u read.0 read.2 (read_after d u text read.0 read.1 b)
 
--- ---- its borrowed version
+-- ---- the borrowed version
 
 pub borrowed_from : (d : Grammar) (text rest : Text) (found : Option VersionRefValue) → IsBefore d text rest
     → IsBorrowedAt d (before_numbers text) rest found → IsBorrowedFrom d text found

@@ -1,5 +1,5 @@
 -- serves: semver_versions::laws::one_version
--- A version in parts: its numbers, the identifiers after their marks, and what may be after it.
+-- A version in parts: its numbers, its identifiers after their marks, and the white space after it.
 use Rattle.std.proofs.Common.{◌≡◌, ℕ, ◌+◌, ◌≤◌, true, false, List, [], ◌∷◌, ◌++◌, length, map, arith, ap, sym, refl, ◌∙◌}
 use Rattle.std.proofs.Common.{subst, length-append, codes, decimal}
 use Rattle.std.specs.Prelude.{◌==◌, Some, None, slice_index}
@@ -26,7 +26,7 @@ use Rattle.semver_versions.proofs.KeptTexts.{all_kept, are_parts, begins_marked,
 use Rattle.semver_versions.proofs.KeptTexts.{kept_texts, parts_cut}
 use Rattle.semver_versions.proofs.WhiteSpaces.{is_outer, none_around, outer_bytes}
 
--- ---- what may be after a version begins with no byte of it
+-- ---- the text after a version doesn't begin with a byte of a version
 
 after_outer : (d : Grammar) (after : Text) → AreAround d after → is_outer (slice_index after 0) ≡ true
 after_outer d [] around = refl
@@ -94,7 +94,7 @@ module _ (d : Grammar) (text : Text) where
             split = pre.1 ∙ ap (λ t. marked (codes "-") (cut_at_dots found) ++ t) build.1;
           }
 
--- the parts with their marks are within what follows the numbers
+-- the parts with their marks aren't longer than the text after the numbers
 pub parts_fit : (d : Grammar) (rest pre build : Text) → AreParts d rest pre build
     → length (marked (codes "-") (cut_at_dots pre)) + length (marked (codes "+") (cut_at_dots build)) ≤ length rest
 parts_fit d rest pre build w =
@@ -174,7 +174,7 @@ module _ (d : Grammar) (text rest pre build : Text) (major minor patch : ℕ) (n
   has_version_ref fits before numbers_end at =
       (version_with digits major minor patch pre build, is_read fits, its_ref before numbers_end at)
 
--- no parts, where nothing follows the numbers
+-- there are no parts if the text after the numbers is empty
 pub no_parts : (d : Grammar) (text : Text) → (length text == 0) ≡ true → AreParts d text [] []
 no_parts d [] e = record {
   after = [];
@@ -191,7 +191,7 @@ no_parts d [] e = record {
     no_zeros Npm = refl
 no_parts d (b ∷ text) e = absurd (omega (arith, eqb-true (length (b ∷ text)) 0 e))
 
--- ---- and its numbers and its parts, from a version
+-- ---- the numbers and the parts of a version
 
 module _ {d : Grammar} {v : VersionValue} {text : Text} (w : IsRead d v text) where
   abbrev pub marked_rest : Text
@@ -239,7 +239,8 @@ module _ {d : Grammar} {v : VersionValue} {text : Text} (w : IsRead d v text) wh
         build = build_is i;
       })
 
-  -- so none is read where the numbers don't fit, or where there are no parts
+  -- if the text begins with three numbers, they are those of the version, so they are within the limit
+  -- of the grammar, and the parts of the version follow them
   module _ (rest : Text) (major minor patch : ℕ) (n : BeginsWithNumbers text major minor patch rest) where
     same : (v.plain.major ≡ major) × (v.plain.minor ≡ minor) × (v.plain.patch ≡ patch) × (marked_rest ≡ rest)
     same = same_numbers text _ _ _ major minor patch _ rest its_numbers n
@@ -250,7 +251,7 @@ module _ {d : Grammar} {v : VersionValue} {text : Text} (w : IsRead d v text) wh
     pub there_are_parts : AreParts d rest pre_of build_of
     there_are_parts = subst (λ t. AreParts d t pre_of build_of) same.3 its_parts
 
--- ---- a text is read as one version
+-- ---- a text is read as at most one version
 
 pub one_read : (d : Grammar) (v u : VersionValue) (text : Text) → IsRead d v text → IsRead d u text → v ≡ u
 one_read d v u text a b =

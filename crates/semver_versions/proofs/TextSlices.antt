@@ -1,5 +1,5 @@
 -- serves: semver_versions::version::read
--- A part of a version that is in a text ends between two of its characters.
+-- A part of a version that is in a text ends at a character boundary of the text.
 use Rattle.std.proofs.Common.{◌≡◌, ℕ, ◌+◌, ◌-◌, ◌<◌, ◌≤◌, IsTrue, length, get_or, drop, sym, ap, ◌∙◌, subst, arith}
 use Rattle.std.specs.List.{list_all}
 use Rattle.std.specs.Str.{IsCharBoundary, IsUtf8}
@@ -14,7 +14,7 @@ module _ (offset : ℕ) (part text : Text) (place : StandsAt offset part text) (
   pub within : offset + length part ≤ length text
   within = omega (arith, ap length place, length-take (length part) (drop offset text), length-drop offset text, some)
 
-  -- its last byte is that of the text
+  -- the last byte of the part is the byte at its offset in the text
   last_byte : get_or text (offset + (length part - 1)) 0 ≡ get_or part (length part - 1) 0
   last_byte =
       sym (get_or-drop offset text (length part - 1) 0)

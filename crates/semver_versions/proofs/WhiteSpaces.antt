@@ -1,5 +1,5 @@
 -- serves: semver_versions::laws::one_version_in
--- What may be before and after a version, character by character.
+-- The white space that may be before and after a version, character by character.
 use Rattle.std.proofs.Common.{◌≡◌, ℕ, ◌<◌, ◌≤◌, Bool, true, List, [], ◌∷◌, ◌++◌, length, take, drop, arith, ap, sym, refl, ◌∙◌}
 use Rattle.std.proofs.Common.{subst, append_assoc, append-nil, length-drop, ◌-◌}
 use Rattle.std.proofs.Math.Seq.{take-length}
@@ -16,7 +16,7 @@ use Rattle.semver_texts.specs.declared.grammar.Grammar.TheVariants.{Crate, Cargo
 use Rattle.semver_texts.proofs.Lists.{Passes, by_test, passes_append}
 use Rattle.semver_versions.specs.Steps.Reading.{AreAround, around_size, is_around}
 
--- a byte that no part has, and no mark is
+-- whether a byte is neither a letter, a digit, a hyphen, a dot nor a plus
 abbrev pub is_outer : ℕ → Bool
 is_outer b = not (is_dotted_byte b || (b == 43))
 
@@ -25,7 +25,7 @@ is_outer b = not (is_dotted_byte b || (b == 43))
 beyond : (b : ℕ) → 128 ≤ b → is_outer b ≡ true
 beyond b h = grind (arith, nat_tests)
 
--- each is white space of npm
+-- a character that may be around a version in some grammar is white space in npm's
 is_white : (d : Grammar) (c : Text) → is_around d c ≡ true → is_white_space c ≡ true
 is_white Crate [] e = cc
 is_white Crate (a ∷ []) e = grind (arith, nat_tests)
@@ -56,7 +56,7 @@ size_of Npm (a ∷ b ∷ []) more e = grind (arith, nat_tests)
 size_of Npm (a ∷ b ∷ c ∷ []) more e = grind (arith, nat_tests)
 size_of Npm (a ∷ b ∷ c ∷ d ∷ t) more e = cc
 
--- a letter or a digit begins none
+-- a character that may be around a version doesn't begin with a letter, a digit, a hyphen or a dot
 pub no_size : (d : Grammar) (b : ℕ) (t : Text) → is_dotted_byte b ≡ true → around_size d (b ∷ t) ≡ 0
 no_size Crate b [] e = grind (arith, nat_tests)
 no_size Crate b (c ∷ []) e = grind (arith, nat_tests)
@@ -71,10 +71,10 @@ none_size Crate = refl
 none_size Cargo = refl
 none_size Npm = refl
 
--- ---- any number of them
+-- ---- any number of characters
 
 module _ (d : Grammar) where
-  -- what the size counts is one
+  -- the bytes that `around_size` counts are a character that may be around a version
   counted : (t : Text) → 0 < around_size d t → is_around d (take (around_size d t) t) ≡ true
   counted t some = by_test (is_around d (take 1 t)) (λ y. rw (y) y)
       (λ n. by_test (is_around d (take 2 t)) (λ y. rw (n, y) y)
@@ -127,7 +127,8 @@ module _ (d : Grammar) where
       let more = same_characters cs ds x y left.1 right.1 others none none_y in
       (λ i. first i ++ more.0 i, more.1)
 
-  -- what is before the first other character is the same
+  -- a text can be split in only one way into characters that may be around a version and a rest that
+  -- doesn't begin with one
   pub same_around : (s t x y : Text) → AreAround d s → AreAround d t → s ++ x ≡ t ++ y → around_size d x ≡ 0 → around_size d y ≡ 0
       → (s ≡ t) × (x ≡ y)
   same_around s t x y a b e none none_y =
@@ -135,7 +136,7 @@ module _ (d : Grammar) where
       in
       (a.whole ∙ same.0 ∙ sym b.whole, same.1)
 
--- ---- by the dialects
+-- ---- in the crate's and in Cargo's grammar
 
 pub spaces_around : (t : Text) → Passes is_space t → AreAround Crate t
 spaces_around [] all = none_around Crate
@@ -159,9 +160,9 @@ nothing_around t w = w.whole ∙ none w.each w.are
     none [] e = refl
     none (c ∷ cs) e = cc
 
--- ---- at a place of the loop
+-- ---- a step of the loop
 
--- what follows so many bytes
+-- the bytes from the offset n to the end of a text
 pub left_is : (t : Text) (n : ℕ) → take (length t - n) (drop n t) ≡ drop n t
 left_is t n = ap (λ k. take k (drop n t)) (sym (length-drop n t)) ∙ take-length (drop n t)
 

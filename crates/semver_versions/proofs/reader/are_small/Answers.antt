@@ -3,7 +3,7 @@ use Rattle.std.proofs.lemmas.Bool.Decides.{nat_tests}
 use Rattle.std.proofs.lemmas.Nat.{le_or_l, le_or_r, or_lt}
 use Rattle.semver_versions.proofs.reader.are_small.Goals as goal
 
--- each is at most what the bits of all three make
+-- each of the three numbers is at most their bitwise or
 pub returns-clause-yes : goal.returns-clause-yes
 returns-clause-yes c = λ e.
     let two = bit_or c.args.major c.args.minor in

@@ -1,4 +1,4 @@
--- The characters before this place are counted.
+-- The characters before the offset `at` are counted.
 use Rattle.std.proofs.Common.{◌≡◌, ◌≤◌, take}
 use Rattle.semver_texts.specs.ToolVersions.{characters}
 use Rattle.semver_versions.proofs.reader.count_characters.Given as goal
