@@ -1,5 +1,5 @@
 -- serves: invalid_strings::refusals::explain
--- Texts that are no longer than any dialect allows.
+-- A text that is at least 8 bytes shorter than npm's limit isn't too long in any dialect.
 use Rattle.std.proofs.Common.{◌+◌, ◌≤◌, ◌++◌, arith, length, length-append, rules}
 use Rattle.std.proofs.lemmas.List.Elements.{All-contains, All-from_recursion}
 use Rattle.std.proofs.lemmas.List.Sums.{count_by-le-length}

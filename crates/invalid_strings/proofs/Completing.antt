@@ -1,5 +1,5 @@
 -- serves: invalid_strings::longest::longest_prefix
--- A loop over completions, of which none made a text of the language so far.
+-- A loop over completions, which looks for one that completes a prefix to a text of the language.
 use Rattle.std.proofs.Common.{◌≡◌, ◌∙◌, ℕ, ◌+◌, ◌<◌, ◌≤◌, List, [], ◌++◌, get_or, ap, arith, below_more, length, map, subst, sym}
 use Rattle.std.proofs.lemmas.List.{get_or-map, get_or_default, length-map}
 use Rattle.std.proofs.lemmas.List.Elements.{All-contains, All-from_recursion}
@@ -9,7 +9,7 @@ use Rattle.invalid_strings.specs.Prefixes.{AreShort, GoesOn}
 abbrev pub NoneYet : (Text → Type 0) → List Text → Text → ℕ → Type 0
 NoneYet Is completions prefix i = (k : ℕ) → k < i → ¬ (Is (prefix ++ get_or completions k []))
 
--- the completions are seen through references
+-- `refs` are references to the completions
 module _ {R : Type 0} (completions : List Text) (refs : List R) (now : R → Text) (same : map now refs ≡ completions) where
   pub as_long : length refs ≡ length completions
   as_long = sym (length-map refs now) ∙ ap length same
@@ -25,7 +25,7 @@ module _ {R : Type 0} (completions : List Text) (refs : List R) (now : R → Tex
       (All-from_recursion (λ completion. length completion ≤ 8) completions short)
       (i, inside, get_or_default completions i (get_or completions i []) [] inside))
 
-  -- there is room for each
+  -- a free capacity of 8 bytes is enough for each completion
   pub room_at : AreShort completions → (i : ℕ) (d : R) → i < length refs → (end room : ℕ) → end + 8 ≤ room
       → end + length (now (get_or refs i d)) ≤ room
   room_at short i d within end room large = omega (arith, short_at short i d within)

@@ -1,6 +1,8 @@
 -- serves: invalid_strings::laws::prefixes_begin_prefixes
--- How the prefixes of a language are completed, and those of what is made of languages: nothing by a shortest text, and each other
--- prefix that does not end within a character by one of a few completions, which is no longer than what completed it.
+-- How the prefixes of the texts of a language are completed, also if the language is built from
+-- others. The empty prefix is completed by a shortest text. Any other prefix is completed by one of a
+-- few completions. Compared with the rest after the prefix in a text of the language, that completion
+-- is not longer, and it begins within a character only if the rest does.
 use Rattle.std.proofs.Common.{◌≡◌, ℕ, ◌+◌, ◌<◌, ◌≤◌, ◌⊎◌, inl, inr, cond, Bool, true, false, List, [], ◌∷◌, ◌++◌, map, length}
 use Rattle.std.proofs.Common.{refl, sym, ap, ◌∙◌, subst, arith, append-nil, append_assoc}
 use Rattle.std.specs.Prelude.{nat_le, not, ◌&&◌, ◌||◌}
@@ -19,14 +21,15 @@ use Rattle.semver_texts.specs.ToolVersions.{characters, goes_on}
 use Rattle.semver_texts.proofs.Lists.{by_test}
 use Rattle.invalid_strings.specs.Prefixes.{AreCompletions, AreShort, GoesOn}
 
--- ---- what completes a prefix
+-- ---- completions
 
--- the text begins within a character
+-- whether the text begins within a character
 abbrev pub is_cut : Text → Bool
 is_cut [] = false
 is_cut (b ∷ t) = goes_on b
 
--- how the texts of a language are measured: in characters, if each of them is UTF-8, or in bytes
+-- how the lengths of texts are measured: in characters, if all texts of the language are UTF-8, or in
+-- bytes
 pub data Measure : Type 0 where
   in_characters in_bytes : Measure
 
@@ -58,7 +61,7 @@ IsCompleted = IsCompletedBy in_characters
 abbrev pub Completes : (Text → Type 0) → Text → List Text → Type 0
 Completes = CompletesBy in_characters
 
--- ---- characters, where a text is cut, and completions
+-- ---- lengths, the two sides of a cut, and lists of completions
 
 pub characters_append : (x y : Text) → characters (x ++ y) ≡ characters x + characters y
 characters_append x y = sum_by-append (λ b. cond (not (goes_on b)) 1 0) x y
@@ -108,7 +111,7 @@ contains_mapped f xs x w = (
   get_or-map f xs w.0 x (f x) w.1 ∙ ap f w.2,
 )
 
--- what is whole doesn't begin within a character
+-- UTF-8 doesn't begin within a character
 utf8_uncut : (t : Text) → IsUtf8 t → is_cut t ≡ false
 utf8_uncut [] utf8 = refl
 utf8_uncut (b ∷ t) utf8 = let w = IsCharBoundary-start (b ∷ t) utf8 in lead b (λ high. w.1 (omega arith) high)
@@ -116,7 +119,7 @@ utf8_uncut (b ∷ t) utf8 = let w = IsCharBoundary-start (b ∷ t) utf8 in lead 
     lead : (b : ℕ) → (128 ≤ b → 192 ≤ b) → goes_on b ≡ false
     lead b high = grind (arith, nat_tests)
 
--- each of the completions is among others: a test that computes
+-- whether the text is in the list
 abbrev pub is_one : List Text → Text → Bool
 is_one [] e = false
 is_one (o ∷ os) e = bytes_eq o e || is_one os e
@@ -139,7 +142,8 @@ each_one os es y = each_shown (is_one os) (Contains os) (one_of os) es y
 all_among : (os es : List Text) → list_all (is_one os) es ≡ true → (e : Text) → Contains es e → Contains os e
 all_among os es y e = All-contains (Contains os) es e (All-from_recursion (Contains os) es (each_one os es y))
 
--- also that these others are short
+-- whether each of `others` has at most 8 bytes, and each of `es` is one of them or begins within a
+-- character
 abbrev pub are_among : List Text → List Text → Bool
 are_among others es = list_all (λ e. nat_le (length e) 8) others && list_all (λ e. is_cut e || is_one others e) es
 
@@ -152,7 +156,8 @@ each_among others es y =
           (λ e one u. one_of others e (rw u at one)) es parts.1,
     )
 
--- what completes a prefix, in other words: by other completions, in another language, after another text with the same more
+-- the completion of t in one language also completes u in another, if it is in the other list of
+-- completions and its result there is in the other language
 moves : {m : Measure} {Is Other : Text → Type 0} {completions others : List Text} {t u rest : Text}
     (g : IsCompletedBy m Is completions t rest) → (Contains completions g.more → Contains others g.more)
     → (Is (t ++ g.more) → Other (u ++ g.more)) → IsCompletedBy m Other others u rest
@@ -162,7 +167,7 @@ says : {m : Measure} {Is Other : Text → Type 0} {completions : List Text} {t u
     → (Is (t ++ g.more) → Other (u ++ g.more)) → IsCompletedBy m Other completions u rest
 says g to = moves g (λ one. one) to
 
--- also where more was after it
+-- a completion for a rest is also one for a longer rest
 longer : {m : Measure} {Is : Text → Type 0} {completions : List Text} {t rest : Text} (r y : Text)
     → IsCompletedBy m Is completions t r → rest ≡ r ++ y → IsCompletedBy m Is completions t rest
 longer {m = m} {rest = rest} r y g e = record {
@@ -173,10 +178,10 @@ longer {m = m} {rest = rest} r y g e = record {
   uncut = λ u. g.uncut (cut_prefix r y rest e u);
 }
 
--- ---- of one language
+-- ---- one language
 
 module _ {m : Measure} {Is : Text → Type 0} {least : Text} {completions : List Text} (w : CompletesBy m Is least completions) where
-  -- also of nothing
+  -- together with `least`, the completions complete each prefix, also the empty one
   pub goes_all : (t rest : Text) → Is (t ++ rest) → IsCompletedBy m Is (least ∷ completions) t rest
   goes_all [] rest is = record {
     more = least;
@@ -187,7 +192,7 @@ module _ {m : Measure} {Is : Text → Type 0} {least : Text} {completions : List
   }
   goes_all (b ∷ t) rest is = moves (w.goes b t rest is) (Contains-append_right (least ∷ []) completions _) (λ i. i)
 
-  -- of any bytes
+  -- each prefix, of any bytes, is completed by one of `others`, if all completions are among them
   pub bytes_go_on : (others : List Text) → list_all (is_one others) (least ∷ completions) ≡ true → (t rest : Text) → Is (t ++ rest)
       → GoesOn Is others t
   bytes_go_on others among t rest is =
@@ -195,7 +200,8 @@ module _ {m : Measure} {Is : Text → Type 0} {least : Text} {completions : List
       let e = all_among others (least ∷ completions) among g.more g.completion in
       (e.0, g.more, e.1, e.2, g.is)
 
-  -- of whole texts, by those that don't begin within a character
+  -- each prefix that is UTF-8 is completed by one of `others`, if the completions that don't begin
+  -- within a character are among them
   pub are_completions : (others : List Text) → AllByRecursion (AllByRecursion (λ b. b < 128)) others
       → are_among others (least ∷ completions) ≡ true → AreCompletions Is others
   are_completions others ascii among = record {
@@ -211,7 +217,7 @@ module _ {m : Measure} {Is : Text → Type 0} {least : Text} {completions : List
           (All-from_recursion (λ x. is_cut x ≡ false
           → Contains others x) (least ∷ completions) (each_among others (least ∷ completions) among).1) in_all
 
-  -- by others, which are these and more
+  -- the completions may be replaced by a list that contains them
   pub among : (others : List Text) → list_all (is_one others) completions ≡ true → CompletesBy m Is least others
   among others y = record {
     contains = w.contains;
@@ -221,7 +227,7 @@ module _ {m : Measure} {Is : Text → Type 0} {least : Text} {completions : List
     goes = λ b t rest is. moves (w.goes b t rest is) (all_among others completions y _) (λ i. i);
   }
 
-  -- the same texts, said otherwise
+  -- the language may be replaced by another definition of the same texts
   pub same : (Other : Text → Type 0) → ((t : Text) → Is t → Other t) → ((t : Text) → Other t → Is t) → CompletesBy m Other least completions
   same Other to from = record {
     contains = to least w.contains;
@@ -231,7 +237,7 @@ module _ {m : Measure} {Is : Text → Type 0} {least : Text} {completions : List
     goes = λ b t rest is. says (w.goes b t rest (from (b ∷ t ++ rest) is)) (to _);
   }
 
-  -- those of no more than so many characters
+  -- the texts of the language whose length is at most n have the same completions
   pub limited : (n : ℕ) → size m least ≤ n → CompletesBy m (λ t. Is t × (size m t ≤ n)) least completions
   limited n small = record {
     contains = (w.contains, small);
@@ -242,7 +248,7 @@ module _ {m : Measure} {Is : Text → Type 0} {least : Text} {completions : List
         says g (λ i. (i, omega (arith, is.1, g.short, size_append m (b ∷ t) g.more, size_append m (b ∷ t) rest)));
   }
 
-  -- or nothing
+  -- the language with the empty text has the same completions
   pub optional : CompletesBy m (λ t. (t ≡ []) ⊎ Is t) [] completions
   optional = record {
     contains = inl refl;
@@ -255,7 +261,7 @@ module _ {m : Measure} {Is : Text → Type 0} {least : Text} {completions : List
     ];
   }
 
--- one or the other
+-- the union of two languages
 pub choice : {m : Measure} {A B : Text → Type 0} {a b : Text} {ea eb : List Text} → CompletesBy m A a ea → CompletesBy m B b eb
     → size m a ≤ size m b
     → CompletesBy m (λ t. A t ⊎ B t) a (ea ++ eb)
@@ -273,7 +279,7 @@ choice {m} {A} {B} {a} {b} {ea} {eb} v w less = record {
   ];
 }
 
--- one of any number of languages
+-- the union of any number of languages
 pub any : {m : Measure} {I : Type 0} (L : I → Text → Type 0) (least : I → Text) (completions : I → List Text) (all : List Text)
     → ((i : I) → CompletesBy m (L i) (least i) (completions i)) → ((i : I) → list_all (is_one all) (completions i) ≡ true)
     → (j : I) → ((i : I) → size m (least j) ≤ size m (least i)) → CompletesBy m (λ t. (i : I) × L i t) (least j) all
@@ -317,7 +323,7 @@ byte_by m b small = record {
 pub byte : (b : ℕ) → b < 128 → Completes (λ t. t ≡ b ∷ []) (b ∷ []) ([] ∷ [])
 byte = byte_by in_characters
 
--- ---- one after another
+-- ---- a text of one language, and then one of another
 
 pub record Seq (A B : Text → Type 0) (t : Text) : Type 0 where
   pub first : Text
@@ -329,7 +335,7 @@ pub record Seq (A B : Text → Type 0) (t : Text) : Type 0 where
 pub both : {A B : Text → Type 0} (x y : Text) → A x → B y → Seq A B (x ++ y)
 both x y a b = record { first = x; second = y; in_first = a; in_second = b; whole = refl }
 
--- where what the second may be depends on what the first is
+-- the same if both languages depend on a value f, which is the same for both texts
 module _ {F : Type 0} (A B : F → Text → Type 0) where
   abbrev pub Dependent : Text → Type 0
   Dependent t = (f : F) × Seq (A f) (B f) t
@@ -396,7 +402,7 @@ seq {A = A} {B = B} v w =
     same (dependent (λ (x : Unit {0}). A) (λ x. B) (same v (λ t. Unit {0} × A t) (λ t i. (tt, i)) (λ t i. i.1)) (λ x. w)) (Seq A B)
     (λ t i. i.1) (λ t i. (tt, i))
 
--- ---- any number of them, and at most so many
+-- ---- any number of texts of a language, and at most n of them
 
 pub record Many (P : Text → Type 0) (t : Text) : Type 0 where
   pub texts : List Text
@@ -455,7 +461,7 @@ module _ {m : Measure} {P : Text → Type 0} {least : Text} {completions : List 
         (λ i. record { many = i.many; few = omega (arith, i.few, is.few) });
   }
 
--- ---- some, joined by a byte
+-- ---- one or more texts of a language, joined by a byte
 
 pub record Joined (between : ℕ) (P : Text → Type 0) (t : Text) : Type 0 where
   pub first : Text
@@ -465,7 +471,7 @@ pub record Joined (between : ℕ) (P : Text → Type 0) (t : Text) : Type 0 wher
 
 module _ (between : ℕ) (small : between < 128) {m : Measure} {P : Text
     → Type 0} {least : Text} {completions : List Text} (w : CompletesBy m P least completions) where
-  -- the first of them, as far as the prefix has it
+  -- a prefix of the first text
   first_goes : (t rest : Text) → P (t ++ rest) → IsCompletedBy m (Joined between P) (least ∷ completions) t rest
   first_goes t rest is = says (goes_all w t rest is) (λ i. record { first = _; others = []; each = (i, tt); whole = refl })
 
@@ -503,7 +509,7 @@ module _ (between : ℕ) (small : between < 128) {m : Measure} {P : Text
       first_short x [] = omega arith
       first_short x (y ∷ ys) = omega (arith, size_append m x (between ∷ join_with_byte between (y ∷ ys)))
 
--- ---- some, separated by what is of a language
+-- ---- one or more texts of a language, separated by texts of another
 
 abbrev pub Separated : (Text → Type 0) → (Text → Type 0) → Text → Type 0
 Separated S P = Seq P (Many (Seq S P))

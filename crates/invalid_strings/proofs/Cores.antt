@@ -1,5 +1,5 @@
 -- serves: invalid_strings::laws::prefixes_begin_prefixes
--- Prefixes of three numbers or wildcards, a pre-release and a build.
+-- How the prefixes of three numbers or wildcards, a pre-release and build metadata are completed.
 use Rattle.std.proofs.Common.{◌≡◌, ℕ, ◌⊎◌, inl, inr, List, [], ◌∷◌, ◌++◌, map, codes}
 use Rattle.std.proofs.Common.{refl, sym, ◌∙◌, subst, append_assoc, arith}
 use Rattle.std.specs.List.{AllByRecursion, join_with_byte}
@@ -27,7 +27,7 @@ marked_to mark P [] all = inl refl
 marked_to mark P (t ∷ ts) all =
     inr (both (mark ∷ []) (join_with_byte 46 (t ∷ ts)) refl (record { first = t; others = ts; each = all; whole = refl }))
 
--- ---- three numbers or wildcards, a pre-release and a build
+-- ---- three numbers or wildcards, a pre-release and build metadata
 
 pub record IsThree (N P Q : Text → Type 0) (t : Text) : Type 0 where
   pub a : Text

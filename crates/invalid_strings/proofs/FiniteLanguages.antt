@@ -1,5 +1,5 @@
 -- serves: invalid_strings::laws::prefixes_begin_prefixes
--- How the prefixes of some texts are completed, found by trying each.
+-- How the prefixes of finitely many texts are completed, found by trying each completion.
 use Rattle.std.proofs.Common.{◌≡◌, ℕ, ◌≤◌, Bool, true, false, List, [], ◌∷◌, ◌++◌, arith, append-nil, append_assoc, subst}
 use Rattle.std.specs.Prelude.{nat_le, not, ◌&&◌, ◌||◌}
 use Rattle.std.specs.List.{list_all, list_any}
@@ -14,12 +14,12 @@ use Rattle.semver_texts.specs.ToolVersions.{characters}
 use Rattle.invalid_strings.proofs.Completions.{Completes, each_shown, is_cut, is_one, one_of}
 
 module _ (texts completions : List Text) where
-  -- a prefix with this rest is completed so
+  -- whether `more` completes the prefix t, as `IsCompletedBy` says for this rest
   abbrev pub fills : Text → Text → Text → Bool
   fills t rest more =
       is_one texts (t ++ more) && (nat_le (characters more) (characters rest) && (is_cut rest || not (is_cut more)))
 
-  -- it has a completion, and so has each longer one
+  -- whether one of the completions completes t, and one completes each longer prefix of t ++ rest
   abbrev pub go_on : Text → Text → Bool
   go_on t [] = list_any (fills t []) completions
   go_on t (b ∷ rest) = list_any (fills t (b ∷ rest)) completions && go_on (t ++ b ∷ []) rest
@@ -32,7 +32,8 @@ module _ (texts completions : List Text) where
       (goes_on_at (front ++ b ∷ []) t rest (and_parts _ _ y).1)
 
   module _ (least : Text) where
-    -- each prefix of a text has one, and it is no shorter than the least
+    -- whether the text is UTF-8, isn't shorter than `least`, and each of its prefixes except the empty
+    -- one is completed
     abbrev pub is_filled : Text → Bool
     is_filled [] = false
     is_filled (b ∷ t) = is_utf8 (b ∷ t) && (nat_le (characters least) (characters (b ∷ t)) && go_on (b ∷ []) t)

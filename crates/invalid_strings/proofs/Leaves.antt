@@ -28,7 +28,7 @@ use Rattle.semver_texts.proofs.PartRuns.{part_passes}
 use Rattle.invalid_strings.proofs.Completions.{Completes, IsCompleted, Joined, characters_append, each_shown, is_one, joined, one_of, same}
 use Rattle.invalid_strings.proofs.FiniteLanguages.{finite, is_filled}
 
--- ---- bytes that pass
+-- ---- bytes that pass a test
 
 abbrev pub Passing : (ℕ → Bool) → Text → Type 0
 Passing p t = AllByRecursion (λ b. IsTrue (p b)) t
@@ -112,7 +112,7 @@ module _ (limit : ℕ) (some : 0 < limit) (large : limit ≤ 2 ^ 64) where
     };
   }
 
--- ---- an identifier of letters, digits and hyphens that passes a test, as each does with a letter more
+-- ---- an identifier that passes a test, if any text that ends in `a` passes it
 
 pub byte_apart : (x y : Text) → list_all is_part_byte (x ++ y) ≡ true → (list_all is_part_byte x ≡ true) × (list_all is_part_byte y ≡ true)
 byte_apart x y e = and_parts (list_all is_part_byte x) (list_all is_part_byte y) (sym (list_all-append is_part_byte x y) ∙ e)
@@ -211,14 +211,14 @@ identifier = same (joined 45 (omega arith) run) IsIdentifierText to from
 abbrev pub IsWhite : Text → Type 0
 IsWhite t = is_white_space t ≡ true
 
--- all of them
+-- all white space characters of JavaScript
 whites : List Text
 whites = map (λ b. b ∷ []) (32 ∷ 9 ∷ 10 ∷ 11 ∷ 12 ∷ 13 ∷ [])
     ++ ((0xC2 ∷ 0xA0 ∷ []) ∷ (0xE1 ∷ 0x9A ∷ 0x80 ∷ []) ∷ (0xE2 ∷ 0x81 ∷ 0x9F ∷ []) ∷ (0xE3 ∷ 0x80 ∷ 0x80 ∷ []) ∷ (0xEF ∷ 0xBB ∷ 0xBF ∷ [])
     ∷ map (λ c. 0xE2 ∷ 0x80 ∷ c ∷ [])
     (0x80 ∷ 0x81 ∷ 0x82 ∷ 0x83 ∷ 0x84 ∷ 0x85 ∷ 0x86 ∷ 0x87 ∷ 0x88 ∷ 0x89 ∷ 0x8A ∷ 0xA8 ∷ 0xA9 ∷ 0xAF ∷ []))
 
--- nothing, and what completes the bytes of a character
+-- the empty text, and the last bytes of a white space character, for a prefix that ends within one
 abbrev pub white_completions : List Text
 white_completions = [] ∷ (0xA0 ∷ []) ∷ (0x9A ∷ 0x80 ∷ []) ∷ (0x80 ∷ 0x80 ∷ []) ∷ (0x81 ∷ 0x9F ∷ []) ∷ (0xBB ∷ 0xBF ∷ []) ∷ (0x80
     ∷ []) ∷ (0x9F ∷ [])

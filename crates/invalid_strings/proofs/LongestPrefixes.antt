@@ -1,5 +1,5 @@
 -- serves: invalid_strings::laws::one_offset
--- The longest prefix of a text, as the search finds it.
+-- The longest prefix of a text with which some text of a language begins, and a search that finds it.
 use Rattle.std.proofs.Common.{◌≡◌, ℕ, ◌<◌, ◌≤◌, ⊎_elim, [], ◌++◌, List, ap, refl, sym, ◌∙◌, rules}
 use Rattle.std.proofs.Common.{subst, append-nil, append_assoc, arith, length, length-take, take, drop}
 use Rattle.std.specs.Prelude.{Err, IfOk, Ok, Result}
@@ -34,7 +34,8 @@ one_of_each Begins t (Ok m) (Ok n) a b = one_longest Begins t m n a b
 one_of_each Begins t (Ok m) (Err e) a b = tt
 one_of_each Begins t (Err e) s a b = tt
 
--- a shorter prefix of a text, between characters
+-- if some text of the language begins with the prefix up to n, one also begins with the prefix up to
+-- a lower offset m; both offsets have to be between two characters
 prefix_prefix : (Is : Text → Type 0) (t : Text) (m n : ℕ) → IsUtf8 t → IsCharBoundary t m → IsCharBoundary t n → m ≤ n
     → Begins Is (take n t) → Begins Is (take m t)
 prefix_prefix Is t m n utf8 at_m at_n within prefix =
@@ -46,7 +47,8 @@ prefix_prefix Is t m n utf8 at_m at_n within prefix =
     (shorter_prefix Is (take m (take n t)) (drop m (take n t)) (IsUtf8-drop (take n t) m whole at)
     (subst (Begins Is) (sym (take-append-drop m (take n t))) prefix))
 
--- what is known of the two offsets between which the search goes on
+-- the search continues between two offsets: some text of the language begins with the prefix up to
+-- `good`, and none with the prefix up to `bad`
 pub record IsSearched (Is : Text → Type 0) (t : Text) (good bad : ℕ) : Type 0 where
   pub below : good ≤ bad
   pub boundary : IsCharBoundary t good
@@ -100,7 +102,8 @@ module _ (Is : Text → Type 0) (completions : List Text) (t : Text) (w : AreCom
       let taken : prefix ≡ take n t = search rules in
       subst (Begins Is) taken (begins_from prefix goes)
 
-  -- the next prefix, between characters, doesn't begin a text of the language
+  -- the prefix up to `good` is the longest if no text of the language begins with the next longer one
+  -- that ends between two characters
   pub next_longest : IsUtf8 t → (good next : ℕ) → IsCharBoundary t good → Begins Is (take good t) → IsCharBoundary t next
       → ((k : ℕ) → good < k → k < next → ¬ (IsCharBoundary t k)) → (prefix : Text) → prefix ≡ slice_range t 0 next
       → ¬ (GoesOn Is completions prefix) → IsLongestPrefix (Begins Is) t good
@@ -117,7 +120,7 @@ module _ (Is : Text → Type 0) (completions : List Text) (t : Text) (w : AreCom
             (cases_lt n next);
       }
 
-  -- one of them moves to a offset between them
+  -- `good` or `bad` moves to an offset between them
   module _ (good bad middle : ℕ) (s : IsSearched Is t good bad) (after : good < middle) (before : middle < bad)
       (boundary : IsCharBoundary t middle) (prefix : Text) (is : prefix ≡ slice_range t 0 middle) where
     taken : prefix ≡ take middle t
@@ -154,7 +157,7 @@ module _ (Is : Text → Type 0) (completions : List Text) (t : Text) (w : AreCom
         (cases_lt n bad);
   }
 
--- ---- of bytes, by their longest prefix of UTF-8
+-- ---- bytes, and their longest prefix that is UTF-8
 
 whole_utf8 : (Is : Text → Type 0) → ((t : Text) → Is t → IsUtf8 t) → (x : Text) → BeginsWhole Is x → IsUtf8 x
 whole_utf8 Is utf8 x (more, ascii, is) =

@@ -1,5 +1,5 @@
 -- serves: invalid_strings::laws::prefixes_begin_prefixes
--- Prefixes of versions, by dialect.
+-- How the prefixes of versions are completed, in each dialect.
 use Rattle.std.proofs.Common.{◌≡◌, ℕ, ◌^◌, ◌<◌, ◌≤◌, ◌⊎◌, true, List, [], ◌∷◌, ◌++◌, Bool, map, codes, decimal, rules}
 use Rattle.std.proofs.Common.{refl, sym, ap, ◌∙◌, append_assoc, arith}
 use Rattle.std.specs.List.{AllByRecursion, AllZip, join_with_byte, list_all}
@@ -33,13 +33,13 @@ use Rattle.invalid_strings.specs.declared.bytes.Length.{Length}
 use Rattle.invalid_strings.specs.declared.bytes.Length.TheVariants.{Allowed, Any}
 use Rattle.std.specs.Prelude.{◌↔◌}
 
--- the completions of the versions, which are all UTF-8
+-- how the prefixes of versions in a grammar are completed, and that these versions are UTF-8
 pub record IsKnown (d : Grammar) : Type 0 where
   pub completions : AreCompletions (IsVersionTextIn d) version_completions
   pub utf8 : (t : Text) → IsVersionTextIn d t → IsUtf8 t
   pub bytes : (len : Length) (t rest : Text) → IsVersionOf len d (t ++ rest) → GoesOn (IsVersionOf len d) byte_completions t
 
--- of a dialect without a limit of the length
+-- `IsKnown` for a grammar that doesn't limit the length
 unlimited : {least : Text} {es : List Text} (d : Grammar) → Completes (IsVersionTextIn d) least es
     → ((len : Length) (t : Text) → IsVersionOf len d t ↔ IsVersionTextIn d t)
     → are_among version_completions (least ∷ es) ≡ true → list_all (is_one byte_completions) (least ∷ es) ≡ true → IsKnown d
@@ -49,7 +49,7 @@ unlimited {least} {es} d w each ascii all = record {
   bytes = λ len. bytes_go_on (same w (IsVersionOf len d) (λ t. (each len t).1) (λ t. (each len t).0)) byte_completions all;
 }
 
--- ---- identifiers, each of which passes
+-- ---- identifiers that all pass a test
 
 module _ (passes : Text → Bool) where
   pub parts_from : (ts : List Text) → AllByRecursion (IsPartWith passes) ts → (list_all is_part ts ≡ true) × (list_all passes ts ≡ true)
@@ -67,7 +67,7 @@ pub all_true : (ts : List Text) → list_all (λ t. true) ts ≡ true
 all_true [] = refl
 all_true (t ∷ ts) = all_true ts
 
--- ---- those of SemVer 2.0.0, with numbers below a limit
+-- ---- versions of SemVer 2.0.0 with numbers below a limit
 
 record IsSemverBelow (limit : ℕ) (t : Text) : Type 0 where
   v : VersionValue
@@ -144,7 +144,7 @@ cargo =
     same_length Allowed t = (λ w. w, λ w. w)
     same_length Any t = (λ w. w, λ w. w)
 
--- ---- npm's
+-- ---- versions of npm
 
 abbrev NpmText : Text → Type 0
 NpmText = Seq (Many IsWhite) (Seq (λ t. (t ≡ []) ⊎ (t ≡ codes "v")) (Seq (IsSemverBelow (2 ^ 53)) (Many IsWhite)))
@@ -207,7 +207,7 @@ npm =
       whole = w.whole;
     }
 
--- ---- the crate's
+-- ---- versions of the crate
 
 abbrev CrateCore : Text → Type 0
 CrateCore = IsThree (IsBelow (2 ^ 64)) IsIdentifierText IsIdentifierText
@@ -278,7 +278,7 @@ crate =
           whole = w.whole ∙ append_assoc w.before w.core w.after;
         }
 
--- ---- each dialect's
+-- ---- versions of each dialect
 
 pub known : (d : Grammar) → IsKnown d
 known Crate = crate

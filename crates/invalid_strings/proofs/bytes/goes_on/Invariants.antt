@@ -4,7 +4,8 @@ use Rattle.invalid_strings.specs.VersionPrefixes.{IsVersionOf}
 use Rattle.invalid_strings.proofs.Completing.{NoneYet}
 use Rattle.invalid_strings.proofs.bytes.goes_on.Given as goal
 
--- the prefix is as it was, and no completion so far makes a version
+-- the prefix in the buffer hasn't changed, and with any completion that was tried so far it isn't a
+-- version
 abbrev pub invariant-loop-completion : goal.invariant-loop-completion
 invariant-loop-completion l = record {
   begins : take l.fn.end l.buffer ≡ take l.fn.end l.fn.buffer;

@@ -2,7 +2,7 @@ use Rattle.std.proofs.Common.{ℕ, ◌<◌, ◌≤◌, ◌⊎◌}
 use Rattle.std.specs.Str.{IsCharBoundary}
 use Rattle.invalid_strings.proofs.longest.between.Given as goal
 
--- no offset so far is between two characters
+-- no offset that was tried so far is between two characters
 abbrev pub invariant-loop-at : goal.invariant-loop-at
 invariant-loop-at l = (k : ℕ) → l.middle ≤ k → k < l.at → l.good < k → ¬ (IsCharBoundary l.text k)
 

@@ -3,7 +3,8 @@ use Rattle.invalid_strings.specs.Buffers.{HoldsAfter}
 use Rattle.invalid_strings.proofs.Completing.{NoneYet}
 use Rattle.invalid_strings.proofs.longest.is_prefix.Given as goal
 
--- the buffer holds the prefix and has its room, and no completion so far makes a text of the language
+-- the buffer begins with the prefix and hasn't lost capacity, and the prefix with any completion that
+-- was tried so far isn't a text of the language
 abbrev pub invariant-loop-completion : goal.invariant-loop-completion
 invariant-loop-completion g l = record {
   held : HoldsAfter l.fn.prefix (string_bytes l.buffer);

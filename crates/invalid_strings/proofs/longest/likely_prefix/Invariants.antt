@@ -3,7 +3,7 @@ use Rattle.std.specs.Str.{IsCharBoundary}
 use Rattle.invalid_strings.specs.Prefixes.{Begins}
 use Rattle.invalid_strings.proofs.longest.likely_prefix.Given as goal
 
--- the prefix up to `good` begins a text of the language
+-- some text of the language begins with the prefix up to the offset `good`
 abbrev pub invariant-loop-good : goal.invariant-loop-good
 invariant-loop-good g l = record {
   below : l.good ≤ l.end;

@@ -2,7 +2,7 @@ use Rattle.std.proofs.Common.{◌≤◌, ◌-◌, string_capacity}
 use Rattle.invalid_strings.proofs.LongestPrefixes.{IsSearched}
 use Rattle.invalid_strings.proofs.longest.longest_from.Given as goal
 
--- the prefix up to `good` begins a text of the language, and that up to `bad` doesn't
+-- some text of the language begins with the prefix up to `good`, and none with that up to `bad`
 abbrev pub invariant-loop-good : goal.invariant-loop-good
 invariant-loop-good g l = record {
   searched : IsSearched (g.L.Language.is_text l.fn.language) l.fn.text l.good l.bad;

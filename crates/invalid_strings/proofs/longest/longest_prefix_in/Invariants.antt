@@ -3,7 +3,7 @@ use Rattle.std.specs.Str.{IsCharBoundary}
 use Rattle.invalid_strings.specs.Prefixes.{Begins}
 use Rattle.invalid_strings.proofs.longest.longest_prefix_in.Given as goal
 
--- the prefix up to `good` begins a text of the language
+-- some text of the language begins with the prefix up to the offset `good`
 abbrev pub invariant-rounds : goal.invariant-rounds
 invariant-rounds g l = record {
   boundary : IsCharBoundary l.fn.text l.good;

@@ -25,7 +25,7 @@ returns-clause-offset c =
     bytes_longest (IsVersionTextIn c.args.grammar) w.utf8 c.args.input.now c.text_prefix-text.result.now (is_prefix c) version_completions
     w.completions c.longest_prefix_in-offset.result c.longest_prefix_in-offset.ensures.longest
 
--- the reason of the prefix, as its parts are found
+-- the reason for the prefix of the input and the byte after it, from the values computed for them
 reason_of : (d : Grammar) (input : Text) (at : ℕ) (prefix : Text) (next : Option ℕ) (both : Text) (too_long : Bool) (reason : Reason)
     → prefix ≡ take at input → next ≡ byte_at input at → both ≡ take at input ++ byte_text (byte_at input at)
     → (IsTrue too_long ↔ IsTooLong d both)
