@@ -1,5 +1,5 @@
 -- serves: release_filter::laws::pieces_do_not_matter, composed
--- Lines that are the same to a filter, since they begin with the same bytes.
+-- Lines with the same verdicts, since they begin with the same bytes.
 use Rattle.std.proofs.Common.{◌≡◌, ◌≢◌, ◌∙◌, ◌⊎◌, ◌++◌, ◌∷◌, ◌≤◌, ◌<◌, [], List, ℕ, Bool, true, false, cond, refl, sym, ap, subst, inl, inr}
 use Rattle.std.proofs.Common.{append_assoc, append-nil, arith, length, length-append, length-take, map, take, drop}
 use Rattle.std.proofs.lemmas.Bool.{cases_lt}
@@ -19,7 +19,7 @@ use Rattle.release_filter.specs.Counting.{CountsValue}
 use Rattle.release_filter.proofs.Cuts.{NoEnd, front_of, no_end_marked, no_mark, only_line, whole_after}
 use Rattle.release_filter.proofs.LongLines.{marked_append, marked_length, same_front, take_all}
 
--- ---- lines of which the others are what these are
+-- ---- each verdict on some lines is also one on others
 
 module _ (rule : LineRule) where
   abbrev pub ShowsLine : Text → Text → Type 0
@@ -83,7 +83,7 @@ stops_shown e f xs ys c old new s a =
       why = a.why;
     }
 
--- ---- a line of which the front is held
+-- ---- a line whose first bytes are held
 
 pub some_long : (line : Text) → 0 < length line → some_line line ≡ line ∷ []
 some_long [] some = absurd (omega arith)
@@ -93,7 +93,8 @@ pub whole_front : (line : Text) → length line ≤ longest_front → take longe
 whole_front line few = take_all longest_front line few
 
 module _ (rule : LineRule) (front : Bool) where
-  -- what is held of a line, with this at its end, is what the line is with it
+  -- the held bytes of a long line, with `last` after them, have the same verdict as the whole line with
+  -- `last` after it
   pub shows_after : (line last : Text) → longest_front < length line
       → ShowsLine rule (after_mark front (take longest_front line ++ last)) (after_mark front (line ++ last))
   shows_after line last more = λ v is.
@@ -102,7 +103,7 @@ module _ (rule : LineRule) (front : Bool) where
       subst (λ l. IsVerdictOn rule (after_mark front l) v) (sym (append_assoc held (drop longest_front line) last) ∙ whole)
       (same_front rule front held last (drop longest_front line ++ last) v (omega (arith, length-take longest_front line)) is)
 
-  -- of the line that has begun, with what ends it, so much shows all
+  -- a line has the verdict of its first `longest_front` bytes
   pub shows_held : (line : Text) → Shows rule (some_line (after_mark front (take longest_front line))) (some_line (after_mark front line))
   shows_held line = by_size (cases_lt longest_front (length line))
     where
@@ -119,7 +120,7 @@ module _ (rule : LineRule) (front : Bool) where
           (shows_after line [] more) in
           rw (one, other) (subst (λ l. ShowsLine rule (after_mark front held) (after_mark front l)) (append-nil line) ends, tt)
 
--- ---- the line that has no end
+-- ---- a last line without an end
 
 abbrev pub closed_by : Bool → ℕ → Text
 closed_by closes end = cond closes (end ∷ []) []
@@ -162,7 +163,7 @@ module _ (ending : LineEnd) (front closes : Bool) where
           ∙ ap (λ (l : Text). l ∷ []) (sym (mark_before ending front line))
       by_closes false only = only ∙ ap (λ (l : Text). after_mark front l ∷ []) (sym (append-nil line))
 
-  -- it is taken with what it gets at its end
+  -- `lines_in` returns the last line with the end that it gets, or no line if it is empty
   pub last_closed : (line : Text) → NoEnd end line
       → some_line (after_mark front (line ++ closing closes (after_mark front line) (end ∷ []))) ≡ lines_in closes end
       (after_mark front line)
@@ -190,7 +191,7 @@ module _ (ending : LineEnd) (front closes : Bool) where
           long true = omega (arith, ap length (mark_before ending front line), length-append (after_mark front line) (end ∷ []))
           long false = omega (arith, ap (λ l. length (after_mark front l)) (append-nil line), ap length is)
 
-  -- what is held of it shows all
+  -- the last line has the verdict of its first `longest_front` bytes
   pub shows_last : (rule : LineRule) (line : Text) → NoEnd end line
       → Shows rule (lines_in closes end (after_mark front (take longest_front line))) (lines_in closes end (after_mark front line))
   shows_last rule line none = by_size (cases_lt longest_front (length line))
@@ -207,13 +208,14 @@ module _ (ending : LineEnd) (front closes : Bool) where
           let other = one_last line none (omega (arith, marked_length front line)) in
           rw (one, other) (shows_after rule front line (closed_by closes end) more, tt)
 
--- ---- a piece after what is held
+-- ---- a piece after the held bytes
 
 drop_front : (xs ys : Text) → drop (length xs) (xs ++ ys) ≡ ys
 drop_front [] ys = refl
 drop_front (x ∷ xs) ys = drop_front xs ys
 
--- the lines that bytes end with a piece after them are what those are that the held ones end
+-- `lines` and `left` were cut from the held bytes and a piece. If instead all bytes and the piece are
+-- cut, the lines have the same verdicts, and the bytes after them have the same beginning
 pub record Continues (end : ℕ) (rule : LineRule) (front : Bool) (bytes : Text) (lines : List Text) (left : Text) : Type 0 where
   pub whole_lines : List Text
   pub whole_left : Text

@@ -45,7 +45,7 @@ module _ (end : ℕ) where
   cut_lines [] rest each = refl
   cut_lines (line ∷ lines) rest each = grind (arith, append_assoc, lines_before, cut_lines lines rest each.1)
 
-  -- ---- the line that has no end
+  -- ---- a line without an end
 
   one_left : (x : ℕ) (xs : Text) → NoEnd end (x ∷ xs) → lines_of end (x ∷ xs) ≡ (x ∷ xs) ∷ []
   one_left x [] none = search rules
@@ -93,7 +93,8 @@ module _ (end : ℕ) where
       let less : length (y ∷ ys) - 1 ≡ length ys = omega arith in
       λ some. ap (λ n. get_or (y ∷ ys) n 0) less ∙ sym (ap (λ n. get_or (x ∷ y ∷ ys) n 0) long) ∙ ends (omega arith)
 
-  -- the lines of bytes that end with a line
+  -- the lines of some bytes, joined, are these bytes; below, each line is whole if the bytes end with
+  -- the byte that ends lines
   pub concat_lines : (xs : Text) → concat (lines_of end xs) ≡ xs
   concat_lines [] = refl
   concat_lines (x ∷ xs) = by_end _ (lines_of end xs) (concat_lines xs)
@@ -127,7 +128,7 @@ module _ (end : ℕ) where
           not_end : (x == end) ≡ false → NoEnd end (x ∷ [])
           not_end e = search rules
 
-  -- ---- one cut
+  -- ---- bytes are cut in only one way
 
   pub same_lines : (xs ys : List Text) (a b : Text) → AllByRecursion (IsWholeLine end) xs → AllByRecursion (IsWholeLine end) ys
       → NoEnd end a → NoEnd end b
@@ -160,7 +161,8 @@ module _ (end : ℕ) where
         ∙ ap (λ l. l ++ left) (sym (concat-append xs ys));
   }
 
-  -- bytes without an end are the front of a line
+  -- if no line ends in some bytes, they are a prefix of the first whole line, and the rest of that line
+  -- is whole itself
   pub front_of : (front more line rest : Text) → NoEnd end front → IsWholeLine end line → front ++ more ≡ line ++ rest
       → (last : Text) × (line ≡ front ++ last) × (more ≡ last ++ rest) × IsWholeLine end last
   front_of [] more line rest none whole e = (line, refl, e, whole)
@@ -172,7 +174,7 @@ module _ (end : ℕ) where
       let later = front_of front more (z ∷ line) rest (All-tail (λ b. b ≢ end) x front none) (whole_tail y z line whole) (cc) in
       (later.0, ap₂ (λ b l. b ∷ l) (sym same) later.1, later.2, later.3)
 
--- ---- after a mark
+-- ---- after a byte order mark
 
 pub no_end_marked : (end : ℕ) (front : Bool) (line : Text) → NoEnd end line → NoEnd end (after_mark front line)
 no_end_marked end false line none = none
@@ -197,7 +199,7 @@ front_append front (x ∷ xs) ys = search rules
 abbrev pub is_mark : ℕ → ℕ → ℕ → Bool
 is_mark a b c = (a == 0xEF) && ((b == 0xBB) && (c == 0xBF))
 
--- three bytes among which is the one that ends lines are no mark
+-- three bytes aren't a byte order mark if the byte that ends lines is among them
 no_mark_first : (ending : LineEnd) (a b c : ℕ) → a ≡ end_byte ending → is_mark a b c ≡ false
 no_mark_first LineFeed a b c is = search rules
 no_mark_first ZeroByte a b c is = search rules
@@ -210,7 +212,7 @@ pub no_mark : (ending : LineEnd) (a b c : ℕ) → c ≡ end_byte ending → is_
 no_mark LineFeed a b c is = search rules
 no_mark ZeroByte a b c is = search rules
 
--- a mark at the front of a text is at the front of its first line, of which more is left
+-- the byte order mark of a text is that of its first line, which is whole without it, too
 module _ (ending : LineEnd) where
   pub first_marked : (line rest : Text) → IsWholeLine (end_byte ending) line
       → (without_mark (line ++ rest) ≡ without_mark line ++ rest) × IsWholeLine (end_byte ending) (without_mark line)

@@ -1,5 +1,5 @@
 -- serves: release_filter::lines::Lines::push, takes
--- What taking lines does: none, some and more, up to an error too.
+-- The effects of taking no lines, one line and more lines, also up to an error.
 use Rattle.std.proofs.Common.{◌≡◌, ◌∙◌, ◌++◌, ◌∷◌, ◌||◌, [], List, Bool, true, false, not, refl, sym, ap, subst}
 use Rattle.std.proofs.Common.{append_assoc, append-nil, length}
 use Rattle.std.proofs.lemmas.List.Folds.{list_any-append}
@@ -26,7 +26,7 @@ counted_append c (v ∷ vs) ws = counted_append (counted_as v c) vs ws
 pub valid_append : (vs ws : List Verdict) → has_invalid vs ≡ false → has_invalid ws ≡ false → has_invalid (vs ++ ws) ≡ false
 valid_append vs ws p q = list_any-append (λ (v : Verdict). is_invalid v) vs ws ∙ cc
 
--- no more is held than may be
+-- no more lines are held than the selection allows
 abbrev pub HeldFew : FoldValue → Type 0
 HeldFew f = IsFew f.held.selection (length f.held.lines)
 
@@ -44,7 +44,7 @@ takes_none f old few = record { verdicts = []; folds = folds_none f old few; val
 
 -- ---- one line
 
--- of lines that aren't kept nothing is appended
+-- nothing is appended if no line is kept
 none_added : (w : Selection) (h g : HeldValue) (added : Text) → HoldsBy w h [] g added → added ≡ []
 none_added Each h g added p = p.1
 none_added Highest h g added p = p.2
@@ -109,7 +109,7 @@ module _ (f : FoldValue) (line : Text) (v : Verdict) (h : HeldValue) (old new : 
           why = (strict, [], front.0, ap (λ w. w ∷ []) front.1, refl, refl);
         }
 
--- what a test and its opposite say
+-- the value of a test, from its opposite
 pub is_valid : (valid bad : Bool) → valid ≡ not bad → valid ≡ true → bad ≡ false
 is_valid valid true is e = cc
 is_valid valid false is e = refl
@@ -120,7 +120,7 @@ is_bad valid false is e = cc
 
 -- ---- an error
 
--- an error came before any line was taken
+-- an allocation failed before any line was taken
 pub stops_first : (f : FoldValue) (lines : List Text) (c : CountsValue) (old new : Text) → HeldFew f → c ≡ f.counts → new ≡ old
     → Stops OutOfMemory f lines c old new
 stops_first f lines c old new few same none = record {
@@ -134,7 +134,7 @@ stops_first f lines c old new few same none = record {
   why = λ strict. refl;
 }
 
--- or after all of them
+-- an allocation failed after all lines were taken
 pub stops_last : (f g : FoldValue) (lines : List Text) (c : CountsValue) (old mid new : Text) → TakesLines f lines g old mid → c ≡ g.counts
     → new ≡ mid → Stops OutOfMemory f lines c old new
 stops_last f g lines c old mid new a same is = record {
@@ -148,7 +148,7 @@ stops_last f g lines c old mid new a same is = record {
   why = a.valid;
 }
 
--- or before some others
+-- an error at some lines is also one at these and more lines after them
 pub stops_before : (e : LinesError) (f : FoldValue) (lines more : List Text) (c : CountsValue) (old new : Text) → Stops e f lines c old new
     → Stops e f (lines ++ more) c old new
 stops_before e f lines more c old new a = record {
@@ -186,7 +186,7 @@ module _ (total : IsTotalOrder precedence) where
         (b.valid (subst IsTrue (sym (ap (λ (v : FoldValue). v.is_strict) a.folds.state)) strict));
   }
 
-  -- an error came after some lines
+  -- the reason for an error is the same if valid lines were taken before
   why_more : (e : LinesError) (f g : FoldValue) (vs ws : List Verdict) (c : CountsValue) → g.is_strict ≡ f.is_strict
       → (IsTrue f.is_strict → has_invalid vs ≡ false) → StopsBy e g ws c → StopsBy e f (vs ++ ws) c
   why_more OutOfMemory f g vs ws c same valid why = λ strict.
@@ -214,7 +214,7 @@ module _ (total : IsTotalOrder precedence) where
     why = why_more e f g a.verdicts b.verdicts c (ap (λ (v : FoldValue). v.is_strict) a.folds.state) a.valid b.why;
   }
 
-  -- and before the rest
+  -- an error at one line is an error at all lines, after the lines before it were taken
   pub stops_next : (e : LinesError) (f g : FoldValue) (lines done : List Text) (line : Text) (more : List Text) (c : CountsValue)
       (old mid new : Text) → lines ≡ done ++ line ∷ more → TakesLines f done g old mid → Stops e g (line ∷ []) c mid new
       → Stops e f lines c old new

@@ -1,5 +1,5 @@
 -- serves: release_filter::lines::Lines::push, takes
--- The lines that are held, as they lie in memory.
+-- Lists of held lines in memory, and the values that they stand for.
 use Rattle.std.proofs.Common.{◌≡◌, ◌∙◌, ◌++◌, ◌∷◌, [], List, ℕ, ap, arith, drop, length, map, refl, reverse, sym}
 use Rattle.std.proofs.lemmas.List.{length-map, map-append, reverse-append}
 use Rattle.semver_texts.specs.Texts.{Text}
@@ -12,7 +12,7 @@ use Rattle.release_filter.specs.declared.selection.IndexedLine.{IndexedLine}
 pub few_held : (h : Held) → IsFew (held_value h).selection (length (held_value h).lines)
 few_held h = λ best. omega (arith, length-map h.lines.items selected_value, h.few best)
 
--- so many of the lines were appended
+-- the first `count` lines were appended
 abbrev pub AppendsSome : List IndexedLine → ℕ → Text → Text → Type 0
 AppendsSome lines count old new =
     (done : Text) × (new ≡ old ++ done) × (done ++ text_of (seen_lines (drop count lines)) ≡ text_of (seen_lines lines))

@@ -1,5 +1,5 @@
 -- serves: release_filter::laws::pieces_do_not_matter, composed
--- What is held of kept lines: of none, of some and of more, and that it is one thing.
+-- The lines that are held after no lines, after some and after more. There is only one possibility.
 use Rattle.std.proofs.Common.{◌≡◌, ◌≢◌, ◌⊎◌, ◌∙◌, ◌++◌, ◌∷◌, ◌≤◌, [], List, true, false, refl, sym, ap, subst, inl, inr, arith, rules}
 use Rattle.std.proofs.Common.{append_assoc, append-nil, length, Less, Equal, Greater}
 use Rattle.std.proofs.lemmas.List.{map-append}
@@ -24,7 +24,7 @@ use Rattle.release_filter.proofs.Tests.{all_append, all_map}
 use Rattle.release_filter.proofs.Matching.{not_both}
 use Rattle.std.proofs.lemmas.Grind.{common_steps}
 
--- ---- the kept ones of lines
+-- ---- the kept lines
 
 pub kept_append : (xs ys : List Verdict) → selected_of (xs ++ ys) ≡ selected_of xs ++ selected_of ys
 kept_append [] ys = refl
@@ -33,7 +33,7 @@ kept_append (x ∷ xs) ys = ap (λ l. selected_as x ++ l) (kept_append xs ys) �
 
 -- ---- the highest by an order
 
--- by precedence the other way round versions are as well ordered
+-- the order of a selection, which is precedence or its reverse, is total
 pub total_of : (selection : Selection) → IsTotalOrder precedence → IsTotalOrder (order_of selection)
 total_of Each total = total
 total_of Highest total = total
@@ -56,7 +56,7 @@ module _ (order : PlainVersion → PlainVersion → Ordering) where
   pub first_best : (k : SelectedValue) → IsBest order (k ∷ []) (k ∷ [])
   first_best k = record { before = []; after = []; split = refl; earlier = tt; later = tt }
 
-  -- one more line, which is better or isn't
+  -- the best line after one more, which is better or isn't
   pub better_one : (best k : SelectedValue) → IsUnder k best → IsBest order (best ∷ k ∷ []) (k ∷ [])
   better_one best k under = record { before = best ∷ []; after = []; split = refl; earlier = (under, tt); later = tt }
 
@@ -67,7 +67,7 @@ module _ (order : PlainVersion → PlainVersion → Ordering) where
     pub isnt_over : (v w : PlainVersion) → ¬ (order w v ≡ Less) → order v w ≢ Greater
     isnt_over v w low = search rules
 
-    -- what isn't over one that is under another is under that
+    -- if k isn't above `best`, and `best` is below c, then k is below c
     under_both : (best c k : SelectedValue) → IsUnder c best → IsNotOver best k → IsUnder c k
     under_both best c k under low = search rules
 
@@ -75,7 +75,7 @@ module _ (order : PlainVersion → PlainVersion → Ordering) where
     not_none [] ys k e = cc
     not_none (x ∷ xs) ys k e = cc
 
-    -- the best of the best of some lines and of more
+    -- the best line of xs and ys together is the best of these: the best line of xs, and all lines of ys
     pub best_added : (xs ys m n : List SelectedValue) → IsBest order xs m → IsBest order (m ++ ys) n → IsBest order (xs ++ ys) n
     best_added xs ys [] n none b = rw none b
     best_added xs ys (best ∷ other ∷ more) n a b = absurd a
@@ -102,7 +102,7 @@ module _ (order : PlainVersion → PlainVersion → Ordering) where
               later = b.later;
             }
 
-    -- a later line isn't above one that is below it
+    -- if no line is above x, then x is below none of them
     before_it : (x y : SelectedValue) → IsUnder y x → (front back : List SelectedValue) → AllByRecursion (IsNotOver x)
         (front ++ y ∷ back) → ⊥
     before_it x y under [] back p = search rules
@@ -142,7 +142,7 @@ is_over Equal e = cc
 is_over Greater e = refl
 
 module _ (total : IsTotalOrder precedence) where
-  -- what compares as better is above the best one by the order
+  -- a version compares as better than b if and only if b is below it by the order of the selection
   better_over : (w : Selection) (b k : PlainVersion) → is_better_by w (precedence k b) ≡ true → order_of w b k ≡ Less
   better_over Each b k e = over_is (precedence k b) e (total.antisymm b k)
   better_over Highest b k e = over_is (precedence k b) e (total.antisymm b k)
@@ -172,7 +172,7 @@ module _ (total : IsTotalOrder precedence) where
     replaces (b ∷ []) few e = better_one (order_of w) b k (better_over w b.version k.version e)
     replaces (b ∷ c ∷ more) few e = absurd (omega arith)
 
--- ---- what is held
+-- ---- the held lines
 
 pub same_wanted : (w : Selection) (h g : HeldValue) (xs : List SelectedValue) (a : Text) → HoldsBy w h xs g a → g.selection ≡ h.selection
 same_wanted Each h g xs a p = cc
@@ -213,7 +213,7 @@ module _ (total : IsTotalOrder precedence) where
   holds_more_by Lowest h g k xs ys a b p q =
       let both = best_both Lowest h g k xs ys p.0 p.1 q.0 q.1 in (both.0, both.1, both_none a b p.2 q.2)
 
-  -- of some lines and then of more
+  -- the effect of some lines and then of more is that of all together
   pub holds_more : (h g k : HeldValue) (xs ys : List SelectedValue) (a b : Text) → Holds h xs g a → Holds g ys k b
       → Holds h (xs ++ ys) k (a ++ b)
   holds_more h g k xs ys a b p q =
@@ -243,7 +243,7 @@ pub selected_text : (text : Text) → selected_as (without_version text) ≡ []
 selected_text [] = refl
 selected_text (x ∷ xs) = refl
 
--- of what isn't kept nothing is selected
+-- a line that isn't kept isn't selected
 pub none_selected : (r : Judged) → ((borrowed : _) (given : _) → r ≡ Kept borrowed given → ⊥) → selected_as (verdict_of r) ≡ []
 none_selected (NotAVersion text) isnt = selected_text text.now
 none_selected Outside isnt = refl

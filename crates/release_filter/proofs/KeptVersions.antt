@@ -1,5 +1,6 @@
 -- serves: release_filter::filter::filter_text
--- Versions that pass, put before others and kept, some at a time.
+-- Keeping the versions that pass a test: their indices are collected, and then the versions at these
+-- indices are kept, a part of the list at a time.
 use Rattle.std.proofs.Common.{◌≡◌, ℕ, zero, suc, ◌+◌, ◌<◌, ◌≤◌, Bool, true, false, List, [], ◌∷◌, ◌++◌, map, filter, take, drop, set}
 use Rattle.std.proofs.Common.{length, get_or}
 use Rattle.std.proofs.Common.{sym, ap, ap₂, ◌∙◌, subst, arith, cond, add-zero, Some}
@@ -17,9 +18,10 @@ use Rattle.release_filter.specs.Steps.Members.{is_member}
 use Rattle.release_filter.proofs.Matching.{some_is}
 use Rattle.std.proofs.lemmas.Grind.{common_steps}
 
--- ---- the places of those that pass are put in front
+-- ---- collecting the indices of the items that pass
 
--- of the first items the places of those that pass are in front, in order
+-- the first `count` elements of `places` are the indices of those of the first `at` items that pass,
+-- in their order
 pub record AreInFront {X : Type 0} (p : X → Bool) (xs : List X) (places : List ℕ) (count at : ℕ) : Type 0 where
   pub few : count ≤ at
   pub long : length xs ≤ length places
@@ -68,12 +70,12 @@ module _ {X : Type 0} (p : X → Bool) (xs : List X) where
             ∙ append-nil (filter p (take at xs))));
       }
 
--- all of those that pass are in front
+-- after all items were tested, the first `count` elements of `places` are the indices of all that pass
 pub all_in_front : {X : Type 0} (p : X → Bool) (xs : List X) (places : List ℕ) (count at : ℕ) → at ≤ length xs → length xs ≤ at
     → AreInFront p xs places count at → map (slice_get xs) (take count places) ≡ map Some (filter p xs)
 all_in_front p xs places count at low high before = grind (arith, common_steps)
 
--- what is at a place in front
+-- the item at the i-th index is the i-th one of ys
 pub stands_at : {X : Type 0} (xs : List X) (places : List ℕ) (ys : List X) (i d : ℕ) (e : X) → i < length places
     → map (slice_get xs) places ≡ map Some ys → slice_get xs (get_or places i d) ≡ Some (get_or ys i e)
 stands_at xs [] ys i d e inside same = absurd (omega arith)
@@ -85,7 +87,7 @@ pub same_length : {X : Type 0} (xs : List X) (places : List ℕ) (ys : List X) �
     → length places ≡ length ys
 same_length xs places ys same = grind (arith, common_steps)
 
--- ---- some at a time
+-- ---- a part of the list at a time
 
 -- the versions before the rest have been checked, and those that pass are kept
 pub record IsCheckedUpTo {X B : Type 0} (p : X → Bool) (f : B → X) (xs rest : List X) (kept : List B) : Type 0 where
@@ -93,12 +95,12 @@ pub record IsCheckedUpTo {X B : Type 0} (p : X → Bool) (f : B → X) (xs rest 
   pub whole : xs ≡ front ++ rest
   pub keeps : map f kept ≡ filter p front
 
--- a list is its front and what is after it
+-- a list is its first n elements, and then the others
 pub cut_at : {X : Type 0} (rest some others : List X) (n : ℕ) → some ≡ take n rest → others ≡ drop n rest → rest ≡ some ++ others
 cut_at rest some others n front back = grind (arith, common_steps)
 
 module _ {X B : Type 0} (p : X → Bool) (f : B → X) (xs : List X) where
-  -- some more are checked
+  -- one more part of the list is checked
   pub checked_more : (rest some others : List X) (kept more : List B) → rest ≡ some ++ others → map f more ≡ map f kept ++ filter p some
       → IsCheckedUpTo p f xs rest kept → IsCheckedUpTo p f xs others more
   checked_more rest some others kept more cut e before = record {
@@ -107,12 +109,12 @@ module _ {X B : Type 0} (p : X → Bool) (f : B → X) (xs : List X) where
     keeps = e ∙ ap (λ l. l ++ filter p some) before.keeps ∙ sym (filter-append p before.front some);
   }
 
--- where a place is in front, something matches
+-- if there is an index, there is an item that passes
 pub some_kept : {X : Type 0} (xs : List X) (places : List ℕ) (ys : List X) (i : ℕ) → i < length places
     → map (slice_get xs) places ≡ map Some ys → 0 < length ys
 some_kept xs places ys i inside same = grind (arith, common_steps)
 
--- a place in front is one of the list
+-- a collected index is within the list
 pub in_bounds : {X : Type 0} (p : X → Bool) (xs : List X) (places : List ℕ) (i d place : ℕ) → i < length places
     → map (slice_get xs) places ≡ map Some (filter p xs) → place ≡ get_or places i d → place < length xs
 in_bounds {X = X} p xs places i d place inside same is =
@@ -122,7 +124,7 @@ in_bounds {X = X} p xs places i d place inside same is =
     at [] some e = absurd (omega arith)
     at (y ∷ ys) some e = slice_get_within xs _ _ (stands_at xs places (y ∷ ys) i d y inside e)
 
--- the version at a place in front is the next of those that pass
+-- the version at the next index is the next one that passes
 pub keeps_next : {X B : Type 0} (f : B → X) (xs : List X) (places : List ℕ) (ys : List X) (old kept : List B) (i d : ℕ) (b : B)
     → i < length places → map (slice_get xs) places ≡ map Some ys → slice_get xs (get_or places i d) ≡ Some (f b)
     → map f kept ≡ map f old ++ take i ys → map f (kept ++ b ∷ []) ≡ map f old ++ take (i + 1) ys
@@ -131,7 +133,7 @@ keeps_next f xs places ys old kept i d b inside same is before =
     ∙ ap (λ l. map f old ++ l) (ap (λ x. take i ys ++ x ∷ []) (some_is (sym is ∙ stands_at xs places ys i d (f b) inside same))
     ∙ sym (take_more ys i (f b) (rw (← same_length xs places ys same) inside)))
 
--- the answer on a version is whether it is a member
+-- the result for a version is whether it is in the set
 pub checked_at : (set : SetValue) (versions : List Version) (answers : List Bool) (i : ℕ) (d : Bool)
     → answers ≡ map (λ v. contains_kept set (version_value v).plain) versions
     → AllByRecursion (λ v. Fits (version_value v).plain) versions

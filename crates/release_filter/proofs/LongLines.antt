@@ -1,5 +1,5 @@
 -- serves: release_filter::laws::pieces_do_not_matter, composed
--- What is so of a line by its first bytes, if its text is too long for a version.
+-- If the text of a line is too long for a version, the first bytes of the line determine its verdict.
 use Rattle.std.proofs.Common.{◌≡◌, ◌∙◌, ◌++◌, ◌∷◌, ◌≤◌, ◌<◌, ◌+◌, ◌-◌, [], ℕ, Bool, true, false, cond, refl, sym, ap}
 use Rattle.std.proofs.Common.{length, length-append, length-take, take, min, arith}
 use Rattle.std.proofs.lemmas.Grind.{common_steps}
@@ -24,7 +24,7 @@ held_front n a b within =
 pub take_all : (n : ℕ) (xs : Text) → length xs ≤ n → take n xs ≡ xs
 take_all n xs few = grind (arith, common_steps)
 
--- ---- without what ends a line
+-- ---- without the bytes that end a line
 
 strip_length : (b : ℕ) (xs : Text) → length xs ≤ length (strip_last b xs) + 1
 strip_length b xs = by_end _
@@ -49,7 +49,7 @@ text_front LineFeed n line within =
     strip_front 13 n (strip_last 10 line) (omega (arith, strip_length 10 line)) ∙ strip_front 10 n line (omega arith)
 text_front ZeroByte n line within = strip_front 0 n line (omega arith)
 
--- ---- after a mark
+-- ---- after a byte order mark
 
 pub marked_length : (front : Bool) (text : Text) → length text ≤ length (after_mark front text) + 3
 marked_length false text = omega arith
@@ -73,7 +73,7 @@ marked_append true (x ∷ y ∷ z ∷ a) b long = by_mark _
     by_mark true = refl
     by_mark false = refl
 
--- ---- what a line is whose text is too long
+-- ---- the verdict on a line whose text is too long
 
 not_empty : (text : Text) → longest_text < length text → is_empty text ≡ true → ⊥
 not_empty [] long e = omega arith
@@ -96,7 +96,7 @@ module _ (rule : LineRule) where
     is.2 ∙ same,
   )
 
-  -- so many bytes at its front show what a line is
+  -- lines that begin with the same `longest_front` bytes have the same verdicts
   pub same_front : (front : Bool) (a b c : Text) (v : Verdict) → longest_front ≤ length a → IsVerdictOn rule (after_mark front (a ++ b)) v
       → IsVerdictOn rule (after_mark front (a ++ c)) v
   same_front front a b c v long is =

@@ -1,5 +1,5 @@
 -- serves: release_filter::filter::filter_text, kept
--- What matches a range, and what is said of a text by it.
+-- The versions in the set of a range text, and small lemmas.
 use Rattle.std.proofs.Common.{◌≡◌, ◌<◌, ◌^◌, ◌==◌, ◌∷◌, arith, length, ℕ, List, [], Some}
 use Rattle.std.proofs.Common.{◌&&◌, ◌∙◌, ap, sym, Bool, true, false, refl, rules}
 use Rattle.semver_texts.specs.Versions.{PlainVersion}
@@ -16,7 +16,6 @@ use Rattle.version_sets.specs.VersionSets.{SetValue}
 pub not_both : {b : Bool} → b ≡ true → b ≡ false → ⊥
 not_both met never = absurd (search rules)
 
--- what some value is
 pub some_is : {X : Type 0} {x y : X} → Some x ≡ Some y → x ≡ y
 some_is e = cc
 
@@ -24,7 +23,7 @@ pub no_length : (xs : List ℕ) → (length xs == 0) ≡ true → xs ≡ []
 no_length [] e = refl
 no_length (x ∷ xs) e = absurd (search rules)
 
--- ---- versions whose numbers fit
+-- ---- versions whose numbers fit 64 bits
 
 pub fitting : (v : PlainVersion) → numbers_fit v ≡ true → Fits v
 fitting v fits = grind (arith, rules)
@@ -32,7 +31,7 @@ fitting v fits = grind (arith, rules)
 pub all_fit : (v : PlainVersion) → v.major < 2 ^ 64 → v.minor < 2 ^ 64 → v.patch < 2 ^ 64 → numbers_fit v ≡ true
 all_fit v major minor patch = grind (arith, rules)
 
--- a member of the set of a text is a version that the text means
+-- a version is in the set of a range text if and only if the text keeps it
 pub member_as_meant : (mode : Compat) (tree : SetTree) (set : SetValue) (v : Version)
     → (Fits (version_value v).plain → contains_kept set (version_value v).plain ≡ is_kept mode tree (version_value v))
     → is_member set v ≡ is_kept mode tree (version_value v)

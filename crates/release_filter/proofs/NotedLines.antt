@@ -1,5 +1,5 @@
 -- serves: release_filter::lines::Lines::push
--- The first invalid line, which is kept.
+-- The first invalid line, which is stored with the counts.
 use Rattle.std.proofs.Common.{◌≡◌, Global, Option, Some, None, false, is_some, take, Vec, ℕ}
 use Rattle.std.specs.Option.{option_map}
 use Rattle.semver_texts.specs.Texts.{Text}

@@ -1,5 +1,6 @@
 -- serves: release_filter::laws::one_finish
--- What matches a test of a list and of a permutation of it is one list, if it keeps its order.
+-- A list and a permutation of it are equal after both are filtered by a test, if the permutation
+-- keeps the order of the elements that pass.
 use Rattle.std.proofs.Common.{◌≡◌, ◌∙◌, ◌∷◌, [], List, ℕ, ◌==◌, ◌<◌, ◌≤◌, Bool, true, cond, refl, sym, ap, ap₂, arith}
 use Rattle.std.proofs.Common.{IsPermutation, filter, get_or, length, suc}
 use Rattle.std.proofs.lemmas.Bool.Decides.{nat_tests}
@@ -11,11 +12,11 @@ use Rattle.std.proofs.lemmas.List.Sums.{sum_by-cons}
 use Rattle.std.specs.List.{All, AllPairs, sum_by}
 
 module _ {X : Type 0} (index : X → ℕ) where
-  -- the indices of a list are 0, 1, 2 and so on
+  -- the elements have the indices 0, 1, 2 and so on
   abbrev pub AreIndexed : List X → Type 0
   AreIndexed xs = (k : ℕ) (d : X) → k < length xs → index (get_or xs k d) ≡ k
 
-  -- it is the element of this list at its index
+  -- x is the element of the list at the index of x
   abbrev IsAt : List X → X → Type 0
   IsAt xs x = (d : X) → get_or xs (index x) d ≡ x
 
@@ -34,7 +35,7 @@ module _ {X : Type 0} (index : X → ℕ) where
   rises_tail : (x : X) (xs : List X) → Rises (x ∷ xs) → Rises xs
   rises_tail x xs up i j d before inside = up (suc i) (suc j) d (omega arith) (omega arith)
 
-  -- none of those with a higher index has this one
+  -- no element has the index k if all have higher ones
   none_above : (k : ℕ) (xs : List X) → All (λ x. k < index x) xs → sum_by (has_index k) xs ≡ 0
   none_above k [] above = refl
   none_above k (x ∷ xs) above =
@@ -64,7 +65,8 @@ module _ {X : Type 0} (index : X → ℕ) where
         let first = ap f first_same in
         omega arith
 
-  -- lists of which the indices rise, and which have each element equally often
+  -- two lists are equal if the indices of each never decrease, and both have the same elements of `all`
+  -- equally often
   one_list : (all xs ys : List X) → Rises xs → Rises ys → All (IsAt all) xs → All (IsAt all) ys
       → ((f : X → ℕ) → sum_by f xs ≡ sum_by f ys) → xs ≡ ys
   one_list all [] [] up up' at at' same = refl

@@ -1,5 +1,5 @@
 -- serves: release_filter::laws::one_outcome, taking
--- That lines, pieces and the end of a text have one outcome.
+-- Lines, pieces and the end of a text have only one outcome each.
 use Rattle.std.proofs.Common.{◌≡◌, ◌∙◌, ◌++◌, ◌∷◌, ◌&&◌, ◌||◌, [], List, ℕ, Bool, true, false, refl, sym, ap, ap₂, subst}
 use Rattle.std.proofs.Common.{Result, Ok, Err, IfOk, IfErr, take}
 use Rattle.std.specs.Cmp.{IsTotalOrder}
@@ -24,7 +24,8 @@ use Rattle.release_filter.proofs.Verdicts.{OneVersion, one_verdict, one_verdicts
 bad_first : (front : Text) (v : Verdict) (vs : List Verdict) → v ≡ invalid front → has_invalid (v ∷ vs) ≡ false → ⊥
 bad_first front v vs is valid = cc (ap (λ (w : Verdict). has_invalid (w ∷ vs)) is)
 
--- two verdicts of as many first lines, each up to the first invalid one
+-- two lists of verdicts on prefixes of the same lines are equal, if each ends with the first invalid
+-- line
 pub one_first : OneVersion → (rule : LineRule) (xs others ys rest : List Text) → xs ++ others ≡ ys ++ rest
     → (before after : List Verdict) (front end : Text) → AreVerdictsOn rule xs (before ++ invalid front ∷ [])
     → AreVerdictsOn rule ys (after ++ invalid end ∷ []) → has_invalid before ≡ false → has_invalid after ≡ false
@@ -85,7 +86,7 @@ module _ (same : OneVersion) (total : IsTotalOrder precedence) (f : FoldValue) w
       one_fold lines lines g h a.verdicts b.verdicts old new other a.folds b.folds
       (one_verdicts same f.rule lines a.verdicts b.verdicts a.folds.each b.folds.each)
 
-  -- two calls stop at one invalid line
+  -- if two calls stop at an invalid line, its number, the counts and the output are the same
   pub one_stop : (lines : List Text) (c d : CountsValue) (old new other : Text) (n m : ℕ) → Stops (NoVersion n) f lines c old new
       → Stops (NoVersion m) f lines d old other → (n ≡ m) × (c ≡ d) × (new ≡ other)
   one_stop lines c d old new other n m a b =
@@ -97,7 +98,7 @@ module _ (same : OneVersion) (total : IsTotalOrder precedence) (f : FoldValue) w
       let counts = a.counts_left ∙ ap (λ (v : FoldValue). v.counts) one.0 ∙ sym b.counts_left in
       (a.why.5 ∙ ap (λ (v : CountsValue). v.lines) counts ∙ sym b.why.5, counts, one.1)
 
-  -- and none takes all
+  -- if one call takes all lines, no other stops at an invalid line
   pub no_stop : (lines : List Text) (g : FoldValue) (c : CountsValue) (old new before other : Text) (n : ℕ) → TakesLines f lines g old new
       → Stops (NoVersion n) f lines c before other → ⊥
   no_stop lines g c old new before other n a b =
@@ -108,7 +109,7 @@ module _ (same : OneVersion) (total : IsTotalOrder precedence) (f : FoldValue) w
 -- ---- pieces, and the end of a text
 
 module _ (same : OneVersion) (total : IsTotalOrder precedence) (s : LinesValue) where
-  -- how a piece is cut
+  -- a piece is cut in only one way
   same_cut : (xs ys : List Text) (a b piece : Text) → AreCut (end_byte s.fold.rule.ending) (s.begun ++ piece) xs a
       → AreCut (end_byte s.fold.rule.ending) (s.begun ++ piece) ys b → (xs ≡ ys) × (a ≡ b)
   same_cut xs ys a b piece p q = one_cut (end_byte s.fold.rule.ending) (s.begun ++ piece) xs ys a b p q
@@ -170,7 +171,7 @@ module _ (same : OneVersion) (total : IsTotalOrder precedence) (s : LinesValue) 
         a.appended ∙ ap (λ l. old ++ l) wrote ∙ sym b.appended,
       )
 
--- ---- of two calls
+-- ---- the results of two calls
 
 pub both_ok : {T U E F : Type 0} (r : Result T E) (q : Result U F) (A B C : Type 0) → (A → B → C) → IfOk r (λ _. A)
     → IfOk q (λ _. B) → IfOk r (λ _. IfOk q (λ _. C))

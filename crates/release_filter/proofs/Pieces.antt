@@ -1,5 +1,5 @@
 -- serves: release_filter::laws::pieces_do_not_matter, composed
--- What a piece of a text does, and what pieces do one after another.
+-- The effects of a piece of a text, and of pieces one after another.
 use Rattle.std.proofs.Common.{◌≡◌, ◌≢◌, ◌∙◌, ◌++◌, ◌∷◌, ◌⊎◌, ◌==◌, ◌&&◌, [], List, ℕ, Bool, true, false, refl, sym, ap, ap₂, subst, inl}
 use Rattle.std.proofs.Common.{inr, arith}
 use Rattle.std.proofs.Common.{append_assoc, append-nil, length, length-take, map, take}
@@ -65,7 +65,7 @@ module _ (s : LinesValue) (piece : Text) (few : HeldFew s.fold) (none : NoEnd (e
     stops = stops_first s.fold [] c old new few same is;
   }
 
--- the last part of a piece is all of it, if no line ends in it
+-- if no line ends in a piece, its last part is all of it
 pub none_cut : (end : ℕ) (piece first whole begun : Text) → IsCut end piece first whole begun → first ≡ [] → piece ≡ begun
 none_cut end piece first whole begun cut none = by_first cut.ends_first
   where
@@ -194,7 +194,7 @@ module _ (s : LinesValue) (end held old new : Text) (is : held ≡ take longest_
       → Stops e s.fold (some_line (after_mark s.at_front (s.begun ++ end))) c old new
   stopped_line e c stops = stops_shown e s.fold _ _ c old new shows stops
 
--- a value with private fields is seen as this
+-- the state of a value with private fields may be replaced by an equal one
 pub seen_ended : (value s t : LinesValue) (end old new : Text) → value ≡ s → EndsLine value end t old new → EndsLine s end t old new
 seen_ended value s t end old new is ends = subst (λ (v : LinesValue). EndsLine v end t old new) is ends
 
@@ -204,7 +204,7 @@ pub seen_stopped : (e : LinesError) (value s : LinesValue) (end : Text) (c : Cou
 seen_stopped e value s end c old new is stops =
     subst (λ (v : LinesValue). Stops e v.fold (some_line (after_mark v.at_front (v.begun ++ end))) c old new) is stops
 
--- and of a file
+-- the end of a file ends the line that has begun
 pub ended_file : (s m : LinesValue) (closes : Bool) (old new : Text) → NoEnd (end_in s) s.begun
     → EndsLine s (closing closes (after_mark s.at_front s.begun) (end_in s ∷ [])) m old new
     → Ends closes s (record m { at_front = true }) old new
@@ -281,7 +281,8 @@ each_marked : (ending : LineEnd) (lines : List Text) → AllByRecursion (IsWhole
 each_marked ending [] each = tt
 each_marked ending (x ∷ xs) each = (whole_marked ending true x each.0, each.1)
 
--- the lines of a text are those that its pieces end, and the last one
+-- the lines of a text without its byte order mark are the whole lines at its beginning, and then the
+-- lines of the rest
 lines_whole : (ending : LineEnd) (closes : Bool) (lines : List Text) (rest : Text) → AllByRecursion (IsWholeLine (end_byte ending)) lines
     → lines_in closes (end_byte ending) (without_mark (concat lines ++ rest))
     ≡ marked_off true lines ++ lines_in closes (end_byte ending) (after_mark (is_empty lines) rest)
@@ -334,7 +335,7 @@ module _ (total : IsTotalOrder precedence) where
         valid = all.valid;
       }
 
--- ---- what is held of the line that has begun
+-- ---- the held bytes of the line that has begun
 
 pub held_begun : {E : Type 0} (end : ℕ) (begun bytes left : Text) (r : Result (Unit {0}) E) → IsBegun end begun → NoEnd end bytes
     → IfOk r (λ _. left ≡ take longest_front (begun ++ bytes)) → IfErr r (λ _. left ≡ begun) → IsBegun end left
@@ -345,7 +346,7 @@ held_begun end begun bytes left (Ok x) is none held same = record {
 }
 held_begun end begun bytes left (Err e) is none held same = subst (IsBegun end) (sym same) is
 
--- ---- of one call
+-- ---- the result of one call
 
 pub on_ok : {T E : Type 0} (r : Result T E) (A B : Type 0) → (A → B) → IfOk r (λ _. A) → IfOk r (λ _. B)
 on_ok (Ok x) A B f a = f a

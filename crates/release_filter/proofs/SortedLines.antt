@@ -1,5 +1,6 @@
 -- serves: release_filter::laws::one_finish
--- That what `sort_unstable_by` did with held lines is their stable sort.
+-- The result of `sort_unstable_by` for held lines is their stable sort, since their indices are
+-- compared, too.
 use Rattle.std.proofs.Common.{◌≡◌, ◌∙◌, ◌≤◌, ◌<◌, ◌∷◌, [], List, ℕ, Bool, true, false, refl, sym, ap, ap₂, subst, arith}
 use Rattle.std.proofs.Common.{Bor, IsPermutation, Greater, filter, get_or, length}
 use Rattle.std.proofs.lemmas.Bool.Decides.{nat_tests}
@@ -22,27 +23,27 @@ use Rattle.release_filter.specs.declared.selection.IndexedLine.{IndexedLine}
 use Rattle.release_filter.specs.Steps.Sorting.{seen_lines}
 use Rattle.release_filter.proofs.OneOrder.{AreIndexed, same_order}
 
--- the version of a line but for the build
+-- the version of a line without build metadata
 abbrev plain_of : IndexedLine → PlainVersion
 plain_of l = read_plain l.line.now.version
 
 abbrev pub index_of : IndexedLine → ℕ
 index_of l = l.index
 
--- by precedence, then by the index
+-- the order by precedence, and then by the index
 abbrev by_version : IndexedLine → IndexedLine → Ordering
 by_version = then_cmp (on plain_of precedence) (on index_of nat_cmp)
 
 abbrev pub is_below : IndexedLine → IndexedLine → Bool
 is_below l m = is_lt (by_version l m)
 
--- what is asked of the sort's closure
+-- the closure of the sort compares by `is_below`, as the sort requires
 pub compares : {F : Type 0} {g : _} {f : F}
     → ((a : Bor IndexedLine × (Bor IndexedLine × Unit {0})) (r : Ordering) (f' : F) → Called g f a r f'
     → (r ≡ by_version a.0.now a.1.0.now) × (f' ≡ f)) → ComparesAs g is_below f
 compares {g = g} {f = f} h = grind (arith, always_returns_same)
 
--- a line whose version equals this one by precedence
+-- whether the version of a line has the precedence of v
 abbrev is_equal : PlainVersion → IndexedLine → Bool
 is_equal v l = is_eq (precedence (plain_of l) v)
 
@@ -61,7 +62,8 @@ module _ (total : IsTotalOrder precedence) where
   pub ranks : IsStrictWeakOrder is_below
   ranks = ranks_by by_version_total (λ (l : IndexedLine). l)
 
-  -- a line that another isn't below is no greater, and if its version is equal it is before it
+  -- if y isn't below x, x isn't above y by precedence; and if both have the precedence of v, the index
+  -- of x isn't higher
   isnt_above : (x y : IndexedLine) → is_below y x ≡ false → precedence (plain_of x) (plain_of y) ≡ Greater → ⊥
   isnt_above x y low above =
       let less = total.antisymm (plain_of y) (plain_of x) ∙ ap ordering_reverse above in

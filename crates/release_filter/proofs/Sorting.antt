@@ -1,5 +1,5 @@
 -- serves: release_filter::laws::pieces_do_not_matter, composed
--- That lines have one stable sort by precedence, and what is written of held lines.
+-- Lines have only one stable sort by precedence, and held lines are written in only one way.
 use Rattle.std.proofs.Common.{◌≡◌, ◌≢◌, ◌∙◌, ◌++◌, ◌∷◌, ◌≤◌, [], List, suc, Bool, true, false, cond, refl, sym, ap, ap₂, arith, length}
 use Rattle.std.proofs.Common.{append-nil, filter, Less, Equal, Greater}
 use Rattle.std.proofs.lemmas.List.Sorted.{IsPermutation-refl}
@@ -16,7 +16,7 @@ use Rattle.release_filter.specs.declared.selection.Selection.{Selection}
 use Rattle.release_filter.specs.declared.selection.Selection.TheVariants.{Each, Highest, Lowest, Sorted, Reversed}
 use Rattle.release_filter.proofs.Holding.{one_best, total_of}
 
--- those of some lines whose version is equal to this one
+-- the lines whose versions have the precedence of v
 abbrev equals : PlainVersion → List SelectedValue → List SelectedValue
 equals v lines = filter (λ k. is_eq (precedence k.version v)) lines
 
@@ -41,7 +41,7 @@ module _ (total : IsTotalOrder precedence) where
   equals_first : (x : SelectedValue) (xs : List SelectedValue) → equals x.version (x ∷ xs) ≡ x ∷ equals x.version xs
   equals_first x xs = ap (λ b. cond b (x ∷ equals x.version xs) (equals x.version xs)) (is_itself x)
 
-  -- of lines that rise from one that is above this version none is equal to it
+  -- if lines are sorted, and v is below the first one, none has the precedence of v
   first_unequal : (v : PlainVersion) (x : SelectedValue) (xs : List SelectedValue) → precedence v x.version ≡ Less → equals v
       (x ∷ xs) ≡ equals v xs
   first_unequal v x xs less =
@@ -64,7 +64,7 @@ module _ (total : IsTotalOrder precedence) where
       first_unequal v x (y ∷ ys) less
       ∙ none_equal v y ys (above_next v x y less (up 0 1 x (omega arith) (omega arith))) (rises_tail x (y ∷ ys) up)
 
-  -- one more at the front of both
+  -- two lists are equal if they are so with an element added before both, or before neither
   tails : (x : SelectedValue) (xs ys : List SelectedValue) (b : Bool) → cond b (x ∷ xs) xs ≡ cond b (x ∷ ys) ys → xs ≡ ys
   tails x xs ys true e = cc
   tails x xs ys false e = e
@@ -87,7 +87,7 @@ module _ (total : IsTotalOrder precedence) where
         tails x _ _ _
         (same v ∙ ap (λ (k : SelectedValue). equals v (k ∷ ys)) (sym first_same))
 
-  -- lines that rise, and of which as many and the same are equal to each version, are the same
+  -- sorted lists of lines are equal if, for each version, they have the same lines with its precedence
   pub one_rising : (xs ys : List SelectedValue) → Rises xs → Rises ys → ((v : PlainVersion) → equals v xs ≡ equals v ys) → xs ≡ ys
   one_rising [] [] up up' same = refl
   one_rising [] (y ∷ ys) up up' same = absurd (let some = same y.version ∙ equals_first y ys in cc)
@@ -103,7 +103,7 @@ module _ (total : IsTotalOrder precedence) where
   one_answer h a b (xs, sort, is) (ys, sort', so) =
       is ∙ ap (λ l. text_of (in_order h.selection l)) (one_sort h.lines xs ys sort sort') ∙ sym so
 
-  -- ---- few lines are sorted as they are
+  -- ---- a list of at most one line is sorted
 
   few_sorted : (xs : List SelectedValue) → length xs ≤ 1 → IsStableSort xs xs
   few_sorted xs few = record {
@@ -120,7 +120,7 @@ module _ (total : IsTotalOrder precedence) where
   best_few order xs (b ∷ []) is = omega arith
   best_few order xs (b ∷ c ∷ more) is = absurd is
 
-  -- ---- what is written
+  -- ---- the bytes that are written
 
   pub written : (w : Selection) (h g : HeldValue) (xs : List SelectedValue) (added rest : Text) → h.lines ≡ [] → HoldsBy w h xs g added
       → (sorted : List SelectedValue) → IsStableSort g.lines sorted → rest ≡ text_of (in_order w sorted) → Writes w xs (added ++ rest)

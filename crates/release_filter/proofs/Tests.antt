@@ -1,5 +1,5 @@
 -- serves: release_filter::filter::filter_text, kept
--- Tests of all or some of a list, and what tests keep of one.
+-- Lemmas about tests of the elements of a list, and about filtering a list by a test.
 use Rattle.std.proofs.Common.{rules, arith, ◌≡◌, Bool, List, [], ◌∷◌}
 use Rattle.std.proofs.Common.{◌++◌, refl, map, filter}
 use Rattle.std.specs.List.{AllByRecursion, list_any}
@@ -9,7 +9,7 @@ pub list_any-map : {X Y : Type 0} (p : Y → Bool) (f : X → Y) (xs : List X) �
 list_any-map p f [] = refl
 list_any-map p f (x ∷ xs) = cc (list_any-map p f xs)
 
--- tests that agree keep the same of a list
+-- two tests that agree keep the same elements of a list
 pub filter-same : {X : Type 0} (p q : X → Bool) → ((x : X) → p x ≡ q x) → (xs : List X) → filter p xs ≡ filter q xs
 filter-same p q same [] = refl
 filter-same p q same (x ∷ xs) = search rules

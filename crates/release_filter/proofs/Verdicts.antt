@@ -1,5 +1,5 @@
 -- serves: release_filter::laws::one_outcome, taking
--- What a line is, prefix by prefix.
+-- The verdict on a line, prefix by prefix.
 use Rattle.std.proofs.Common.{◌≡◌, ◌∙◌, ◌++◌, ◌∷◌, ◌≤◌, ◌-◌, ◌&&◌, [], List, Bool, true, refl, ap, ap₂, sym, subst, inl, inr}
 use Rattle.std.proofs.Common.{String, Global, string_bytes, length, get_or, take, drop, arith}
 use Rattle.std.proofs.lemmas.Grind.{common_steps}
@@ -43,7 +43,7 @@ module _ (rule : LineRule) (prefix : Text) (prefixes : List Text) (text line : T
   abbrev grammar : Grammar
   grammar = versions_grammar rule.filter
 
-  -- after another one the next prefix is asked
+  -- if the line has no version after the first prefix, the other prefixes decide
   pub judges_next : (r : Judged) → ((p : Text) (v : VersionValue) → ¬ (HasOne grammar prefix text p v))
       → Judges rule (HasVersion grammar prefixes text) text line r → Judges rule (HasVersion grammar (prefix ∷ prefixes) text) text line r
   judges_next (NotAVersion said) none j = (no_version, j.1)
@@ -54,7 +54,7 @@ module _ (rule : LineRule) (prefix : Text) (prefixes : List Text) (text line : T
   judges_next Outside none j = (j.0, j.1, inr (λ w a. none prefix w (refl, a), j.2), j.3)
   judges_next (Kept o given) none j = (j.0, j.1, inr (λ w a. none prefix w (refl, a), j.2), j.3, j.4, j.5)
 
--- without a prefix it is as with the empty one
+-- if there is only one prefix, it decides
 pub judges_alone : (rule : LineRule) (prefix text line : Text) (r : Judged) → Judges rule (HasOne
     (versions_grammar rule.filter) prefix text) text line r
     → Judges rule (HasVersion (versions_grammar rule.filter) (prefix ∷ []) text) text line r
@@ -78,7 +78,7 @@ pub some_texts : (prefixes : List (String Global)) → 1 ≤ length prefixes →
 some_texts [] some = absurd (omega arith)
 some_texts (prefix ∷ prefixes) some = refl
 
--- ---- what a line is
+-- ---- the verdict on a line
 
 module _ (rule : LineRule) (line : Text) where
   no_version : HasNoVersion rule line → (text : Text) → text ≡ line_text rule.ending line → IsVerdictOn rule line (without_version text)
@@ -100,7 +100,7 @@ module _ (rule : LineRule) (line : Text) where
       by_said (Kept o given) short j =
           (j.0, j.1, (short, j.2), j.3, ap (λ (v : VersionValue). v.plain) (sym j.4), j.5)
 
--- ---- a line is one thing
+-- ---- a line has only one verdict
 
 one_had : OneVersion → (grammar : Grammar) (prefixes : List Text) (text p q : Text) (v w : VersionValue)
     → HasVersion grammar prefixes text p v → HasVersion grammar prefixes text q w → (p ≡ q) × (v ≡ w)
@@ -159,7 +159,7 @@ module _ (rule : LineRule) where
   verdicts_append (x ∷ xs) ys [] ws p q = absurd p
   verdicts_append (x ∷ xs) ys (v ∷ vs) ws p q = (p.0, verdicts_append xs ys vs ws p.1 q)
 
-  -- those of some lines are those of a first part and of the rest
+  -- the verdicts on two lists of lines together are those on the first list, and then on the second
   pub verdicts_split : (xs ys : List Text) (ws : List Verdict) → AreVerdictsOn rule (xs ++ ys) ws
       → (us vs : List Verdict) × (ws ≡ us ++ vs) × AreVerdictsOn rule xs us × AreVerdictsOn rule ys vs
   verdicts_split [] ys ws p = ([], ws, refl, tt, p)

@@ -1,4 +1,5 @@
--- The places of those that are in the set are before the others, and then the versions there are kept.
+-- In the first loop, `places` begins with the indices of those of the versions so far that are in the
+-- set. In the second loop, the versions at these indices are kept one after another.
 use Rattle.std.proofs.Common.{◌≡◌, ◌++◌, map, take}
 use Rattle.std.specs.Prelude.{filter}
 use Rattle.release_filter.specs.Steps.Members.{is_member}

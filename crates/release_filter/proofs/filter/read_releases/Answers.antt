@@ -10,7 +10,7 @@ use Rattle.version_sets.specs.VersionSets.{SetValue, contains, Fits}
 use Rattle.version_sets.specs.declared.rules.PreReleases.TheVariants.{Excluded}
 use Rattle.release_filter.proofs.filter.read_releases.Goals as goal
 
--- the result in a mode
+-- the result of reading a range text in a dialect
 record Answers (t : Text) (r : Result SetValue RangeError) (compat : Compat) : Type 0 where
   pub refusals : RefusesExactly compat t r
   pub meaning : IfOk r (λ set. (tree : SetTree) (v : VersionValue) → Spells tree t → Fits v.plain

@@ -1,4 +1,4 @@
--- No byte from here on is the one that ends lines.
+-- No byte from the offset `size` on is the one that ends lines.
 use Rattle.std.proofs.Common.{◌≢◌, ◌≤◌, All, drop, length}
 use Rattle.release_filter.proofs.line_texts.ended_size.Given as goal
 

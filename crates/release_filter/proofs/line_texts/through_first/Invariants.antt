@@ -1,4 +1,4 @@
--- No byte so far is the one that ends lines.
+-- No byte before the offset `at` is the one that ends lines.
 use Rattle.std.proofs.Common.{◌≢◌, All, take}
 use Rattle.release_filter.proofs.line_texts.through_first.Given as goal
 

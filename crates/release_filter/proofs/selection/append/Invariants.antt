@@ -1,4 +1,4 @@
--- So many lines were appended.
+-- The first `indexed-index` lines were appended.
 use Rattle.release_filter.proofs.HeldLines.{AppendsSome}
 use Rattle.release_filter.proofs.selection.append.Given as goal
 

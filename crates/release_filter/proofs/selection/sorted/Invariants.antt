@@ -1,4 +1,4 @@
--- So many of the held lines are among those that are sorted, each with its index.
+-- The lines to sort so far are the first `line-index` held lines, each with its index.
 use Rattle.std.proofs.Common.{◌≡◌, map, take}
 use Rattle.release_filter.specs.Steps.Sorting.{seen_lines}
 use Rattle.release_filter.specs.Steps.Taking.{selected_value}
