@@ -1,5 +1,5 @@
 -- serves: semver_ranges::laws::returned_sets_are_printable
--- What a tree that fits is rewritten to is printable.
+-- A tree that spells a text and fits is rewritten to a printable set.
 use Rattle.std.proofs.Common.{arith}
 use Rattle.std.proofs.Common.{◌≡◌, ℕ, Bool, true, false, not, List, [], ◌∷◌, ◌++◌, map, refl}
 use Rattle.std.proofs.Common.{IsTrue, All}
@@ -28,7 +28,7 @@ use Rattle.semver_ranges.proofs.PrintedLaws.{are_printable}
 use Rattle.semver_ranges.proofs.SetMeanings.{stated_shape}
 use Rattle.semver_texts.proofs.Lists.{by_test}
 
--- a part is kept as an identifier that is kept
+-- the identifier that a part is kept as passes `is_kept`
 part_kept : (part : Text) → is_part part ≡ true → is_kept (kept part) ≡ true
 part_kept part e = grind arith
 
@@ -44,7 +44,7 @@ pre_parts_kept (PartialTree.three a b c pre build) h = parts_kept pre h.0
 pre_kept : (p : PartialTree) → HasParts p → list_all is_kept (pre_release p) ≡ true
 pre_kept p h = grind (arith, pre_parts_kept p h)
 
--- stated numbers that fit, filled with zeros
+-- if the stated numbers fit, so do the numbers of the zero-filled version
 pub filled_fits : {s : List ℕ} → Shape s → (pre : List IdentifierValue) → list_all fits_u64 s ≡ true
     → list_all fits_u64 (numbers (filled s pre)) ≡ true
 filled_fits Shape.none pre e = refl
@@ -53,7 +53,7 @@ filled_fits (Shape.two x y) pre e = grind arith
 filled_fits (Shape.three x y w) pre e = e
 
 module _ (bound_pre : List IdentifierValue) (keeps : list_all is_kept bound_pre ≡ true) (mode : Compat) where
-  -- the comparators of a cell
+  -- the comparators of a cell, and of a term, are printable, and there is at least one
   cell_printable : (c : Cell) (s : List ℕ) (z : PlainVersion) → is_printable_version z ≡ true → bound_fits (cell_raised c s) ≡ true
       → are_printable (written_cell bound_pre c s z) ≡ true
   cell_printable from_zero s z e h = refl
@@ -74,12 +74,12 @@ module _ (bound_pre : List IdentifierValue) (keeps : list_all is_kept bound_pre 
       cell_printable c (stated s.partial) (zero_filled s.partial)
       (and_from _ _ (filled_fits (stated_shape s.partial) (pre_release s.partial) fit.0) (pre_kept s.partial h)) fit.1
 
--- a table whose comparators are printable where a simple fits
+-- a table that gives each term at least one comparator, and printable ones if the term fits
 pub record Prints (fit : Simple → Bool) (written : Simple → List PlainComparator) : Type 0 where
   pub each : (s : Simple) → HasParts s.partial → fit s ≡ true → are_printable (written s) ≡ true
   pub some : (s : Simple) → is_empty (written s) ≡ false
 
--- the port's is one, where a raised bound has a pre-release that is kept
+-- the table of `RewritingTable` is one if the identifiers of `bound_pre` pass `is_kept`
 pub port_prints : (bound_pre : List IdentifierValue) → list_all is_kept bound_pre ≡ true → (mode : Compat)
     → Prints (simple_fits mode) (written_simple bound_pre mode)
 port_prints bound_pre keeps mode = record {
@@ -87,7 +87,7 @@ port_prints bound_pre keeps mode = record {
   some = λ s. cell_some bound_pre keeps mode _ (stated s.partial) (zero_filled s.partial);
 }
 
--- simples whose partials have parts
+-- the parts of each term are one or more letters, digits or hyphens
 HaveParts : List Simple → Type 0
 HaveParts [] = Unit {0}
 HaveParts (s ∷ ss) = HasParts s.partial × HaveParts ss
@@ -117,7 +117,7 @@ module _ (d : Grammar) {fit : Simple → Bool} {written : Simple → List PlainC
   simples_parts first (next ∷ others) t (front, gap, back, (head, tail, f, p, eq), g, more, eq') =
       (word_has_parts (after_form first.form) first.partial tail p, simples_parts next others back more)
 
-  -- the comparators of a range: some, and each printable
+  -- there is at least one comparator, and each is printable
   abbrev ArePrintable : List PlainComparator → Type 0
   ArePrintable cs = IsTrue (not (is_empty cs)) × IsTrue (are_printable cs)
 
@@ -157,7 +157,6 @@ module _ (d : Grammar) {fit : Simple → Bool} {written : Simple → List PlainC
       (set_by written mode (next ∷ others)).ranges
       (padded_printable r head h parts.0) (ranges_printable (next ∷ others) tail more parts.1)
 
-  -- what a tree that spells a text and fits is rewritten to is printable
   pub set_printable : (tree : SetTree) (t : Text) → SpellsRangeIn d tree t → fits_by fit tree ≡ true
       → IsPrintableSet (set_by written mode tree)
   set_printable tree t h e = (some tree h, ranges_printable tree t h e) where

@@ -1,5 +1,6 @@
 -- serves: semver_ranges::laws::meanings_agree, exact
--- A version agrees past zeros exactly if it agrees up to the place that a caret raises.
+-- Numbers agree with the stated ones as `^` requires if and only if they agree up to the position
+-- that `^` raises.
 use Rattle.std.proofs.Common.{arith}
 use Rattle.std.proofs.Common.{◌≡◌, ℕ, nat_eq, List, [], ◌∷◌, take, refl}
 use Rattle.std.specs.List.{starts_with}

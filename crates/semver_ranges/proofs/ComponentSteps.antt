@@ -1,5 +1,5 @@
 -- serves: semver_ranges::grammar::read_components
--- Components, as they are read byte by byte.
+-- The component at the beginning of a text, as the code reads it byte by byte.
 use Rattle.std.proofs.Common.{add-one}
 use Rattle.std.proofs.Common.{◌≡◌, ℕ, ◌+◌, ◌-◌, ◌*◌, ◌<◌, ◌≤◌, true, false, ◌==◌, [], ◌∷◌, length, get_or, take, drop}
 use Rattle.std.proofs.Common.{Option, Some, refl, ap, ◌∙◌, arith}
@@ -15,12 +15,12 @@ use Rattle.semver_texts.specs.Texts.{Text}
 use Rattle.semver_ranges.specs.Steps.Reading.{front, back, component}
 use Rattle.semver_ranges.specs.Steps.PartialViews.{IsValue}
 
--- a first byte and what follows it
+-- a text that isn't empty is its first byte and the rest
 pub first_apart : (t : Text) → 1 ≤ length t → t ≡ get_or t 0 0 ∷ take (length t - 1) (drop 1 t)
 first_apart [] some = absurd (omega (arith, some))
 first_apart (x ∷ xs) some = grind (arith, take-length xs)
 
--- a wildcard, and a zero
+-- a text that begins with a wildcard, and one that begins with `0`
 pub wildcard_front : (t : Text) → 1 ≤ length t → is_wildcard (get_or t 0 0 ∷ []) ≡ true → (x : Text)
     × (component t ≡ Some (x, take (length t - 1) (drop 1 t))) × (is_wildcard x ≡ true)
 wildcard_front t some e = (get_or t 0 0 ∷ [], ap component (first_apart t some) ∙ grind arith, e)
@@ -30,7 +30,7 @@ pub zero_front : (t : Text) → 1 ≤ length t → get_or t 0 0 ≡ 48
     × (fits_u64 (digits_value 10 x) ≡ true) × (0 ≡ digits_value 10 x)
 zero_front t some e = (48 ∷ [], ap component (first_apart t some) ∙ rw e, refl, refl, refl)
 
--- digits
+-- a text that begins with another digit
 digit_bounds : (b : ℕ) → is_ascii_digit b ≡ true → (48 ≤ b) × (b ≤ 57)
 digit_bounds b e = grind arith
 
@@ -56,7 +56,7 @@ digits_front t rest n value some e other first v is =
       (no_wildcard b (front is_ascii_digit u) e, rw same at v),
     )
 
--- one digit more
+-- the value after one more digit
 pub value_more : (c : ℕ) (t : Text) (i : ℕ) (value : Option ℕ) → i < length t → is_ascii_digit (get_or t i 0) ≡ true
     → IsValue (digits_value 10 (c ∷ take i t) * 10 + (get_or t i 0 - 48)) value
     → IsValue (digits_value 10 (c ∷ take (i + 1) t)) value

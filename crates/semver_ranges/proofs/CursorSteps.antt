@@ -1,5 +1,6 @@
 -- serves: semver_ranges::grammar::read_components
--- The reader's steps, as the cursor takes them.
+-- Results of `after_one`, `after_two`, `after_three` and `simple`, from the steps in which the code
+-- reads a term.
 use Rattle.std.proofs.Common.{arith}
 use Rattle.std.proofs.Common.{◌≡◌, false, List, [], ◌∷◌, Some, None, refl}
 use Rattle.semver_texts.specs.declared.grammar.Grammar.{Grammar}
@@ -10,7 +11,7 @@ use Rattle.semver_texts.specs.Texts.{begins_with}
 use Rattle.semver_ranges.specs.Steps.Reading.{after_three, after_two, after_one}
 use Rattle.semver_ranges.specs.Steps.CursorViews.{marked_parts}
 
--- a pre-release and a build, each where its mark is there
+-- the pre-release and the build metadata after three components, each read if its mark is there
 module _ (a b c : Text) where
   build_found : (pre build : List Text) (u v : Text) → marked_parts 43 u ≡ Some (build, v)
       → after_pre a b c pre u ≡ Some (three a b c pre build, v)
@@ -35,7 +36,7 @@ module _ (a b c : Text) where
   qualifier_found pre build [] u v e f = grind arith
   qualifier_found pre build (m ∷ t) u v e f = grind (arith, build_found pre build u v f)
 
--- what follows a component that no dot follows
+-- a partial version has no further component if no dot follows
 pub minor_end : (a b t : Text) → begins_with 46 t ≡ false → after_two a b t ≡ Some (two a b, t)
 minor_end a b [] e = refl
 minor_end a b (m ∷ t) e = rw e
@@ -44,7 +45,7 @@ pub major_end : (a t : Text) → begins_with 46 t ≡ false → after_one a t �
 major_end a [] e = refl
 major_end a (m ∷ t) e = rw e
 
--- a simple of its operator and its partial
+-- a term, from its operator and its partial version
 pub simple_found : (d : Grammar) (t u v w : Text) (form : Form) (p : PartialTree) → (form, u) ≡ operator d t
     → partial d (after_form form) u ≡ Some (p, v)
     → w ≡ after_blanks d v

@@ -1,5 +1,6 @@
 -- serves: semver_ranges::range_set::RangeSet::parse
--- The events of a range set: they fit as it does, and tell its ranges.
+-- The events of a range set fit if and only if the set does, and have the comparators of its
+-- ranges.
 use Rattle.std.proofs.Common.{◌≡◌, Bool, ◌&&◌, List, [], ◌∷◌, refl, sym, arith}
 use Rattle.std.specs.List.{list_all, flat_map}
 use Rattle.std.proofs.lemmas.List.Folds.{list_all-map}
@@ -16,7 +17,7 @@ use Rattle.semver_ranges.proofs.Tables.{IsTable, nothing_is}
 use Rattle.semver_texts.proofs.Lists.{by_test}
 
 module _ {fit : Simple → Bool} {written : Simple → List PlainComparator} (table : IsTable fit written) where
-  -- a range fits as the simples that it is yielded as, and has their comparators
+  -- these terms fit if and only if the range does, and have its comparators
   abbrev IsMadeOf : RangeTree → List Simple → Type 0
   IsMadeOf r ss = (list_all fit ss ≡ list_all (term_fits_by fit) (terms r)) × (flat_map written ss ≡ range_by written r)
 
@@ -29,7 +30,7 @@ module _ {fit : Simple → Bool} {written : Simple → List PlainComparator} (ta
       → range_of_simples written mode (yielded Stated r) ≡ record { comparators = range_by written r; compat = mode }
   range_made mode r = rw (made_of r).1
 
-  -- it fits so too where its left side begins otherwise
+  -- how the left side is written doesn't change whether the terms fit
   begun_fits : (lower : LowerBounds) (r : RangeTree) → list_all fit (yielded lower r) ≡ list_all fit (yielded Stated r)
   begun_fits lower empty = refl
   begun_fits lower (hyphen l r) = by_test (states_nothing r)
@@ -37,13 +38,12 @@ module _ {fit : Simple → Bool} {written : Simple → List PlainComparator} (ta
       (λ n. by_test (states_nothing l) (λ y. rw (n, y) refl) (λ m. rw (n, m, table.begun lower l) refl))
   begun_fits lower (simples first others) = refl
 
--- simples before events
 front_fits : (fit : Simple → Bool) (ss : List Simple) (es : List Event)
     → list_all (event_fits fit) (in_front ss es) ≡ (list_all fit ss && list_all (event_fits fit) es)
 front_fits fit [] es = refl
 front_fits fit (s ∷ ss) es = grind (arith, front_fits fit ss es)
 
--- a set fits as its events
+-- the events of a set fit if and only if the set does
 pub set_fits : {fit : Simple → Bool} {written : Simple → List PlainComparator} (table : IsTable fit written) (lower : LowerBounds)
     (tree : SetTree) → list_all (event_fits fit) (events_of lower tree) ≡ fits_by fit tree
 set_fits table lower [] = refl

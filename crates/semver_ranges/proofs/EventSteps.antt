@@ -1,5 +1,6 @@
 -- serves: semver_ranges::events::Events::new, all
--- The events of a text, one after the other.
+-- Equations for the events that are left of a text (`events_left`), one for each step of the
+-- cursor.
 use Rattle.std.proofs.Common.{◌≡◌, ◌<◌, Bool, true, false, List, [], ◌∷◌, Option, Some, None, length, refl, sym, ap, ◌∙◌, arith}
 use Rattle.semver_texts.specs.declared.grammar.Grammar.{Grammar}
 use Rattle.semver_ranges.specs.declared.partial.LowerBounds.{LowerBounds}
@@ -14,7 +15,6 @@ use Rattle.semver_ranges.specs.Steps.RangeEvents.{set_events, events, at_bars, o
 use Rattle.semver_ranges.proofs.ReadingSound.{read_sound}
 use Rattle.semver_ranges.proofs.ReadingSteps.{simples_end, simples_step, read_step}
 
--- simples before what is left
 pub put_some : (ss : List Simple) (es : List Event) → put_simples ss (Some es) ≡ Some (in_front ss es)
 put_some [] es = refl
 put_some (s ∷ ss) es = rw (put_some ss es)
@@ -24,7 +24,7 @@ put_none [] = refl
 put_none (s ∷ ss) = rw (put_none ss)
 
 module _ (d : Grammar) (lower : LowerBounds) where
-  -- a range that is read, and what is left after it
+  -- the events of a range, and then those that are left after it
   onto_events : (r : RangeTree) (t : Text) (o : Option SetTree) → read d t ≡ o
       → set_events lower (onto r o) ≡ put_simples (yielded lower r) (put next_range (set_events lower o))
   onto_events r t None e = sym (put_none (yielded lower r))
@@ -39,11 +39,11 @@ module _ (d : Grammar) (lower : LowerBounds) where
     at None = sym (put_none (yielded lower r))
     at (Some t) = onto_events r t (read d t) refl
 
-  -- at the begin of a text
+  -- at the beginning of a text
   pub begin_left : (t u : Text) → u ≡ after_blanks d t → events d lower t ≡ events_left d lower true u
   begin_left t u e = ap (set_events lower) (read_step d t) ∙ rw e
 
-  -- where a range ends: two bars, or an empty range where it only begins
+  -- at the end of a range; if the range has only begun, it is empty, and gives a wildcard
   pub end_left : (t : Text) → ends_range t ≡ true → events_left d lower false t ≡ others_left d lower t
   end_left t e = rw (simples_end d t e)
 
@@ -55,7 +55,7 @@ module _ (d : Grammar) (lower : LowerBounds) where
   pub empty_left : (t : Text) → ends_range t ≡ true → events_left d lower true t ≡ put (one_simple wildcard) (events_left d lower false t)
   empty_left t e = rw (end_left t e, e) (range_events empty t)
 
-  -- where it goes on: a simple
+  -- if the range doesn't end, the next event is a term
   before_left : (s : Simple) (o : Option (List Simple × Text))
       → simples_left d lower (put_before s o) ≡ put (one_simple s) (simples_left d lower o)
   before_left s None = refl
@@ -72,7 +72,7 @@ module _ (d : Grammar) (lower : LowerBounds) where
   simple_left true t u s on e other = rw (on, e, other refl) (others_events s (all_simples d u))
   simple_left false t u s on e other = rw (simples_step d t on, e) (before_left s (all_simples d u))
 
-  -- or a hyphen range
+  -- or the sides of a hyphen range
   pub hyphen_left : (t u w v : Text) (s : Simple) (x : RangeTree) → ends_range t ≡ false → simple d t ≡ Some (s, u) → u ≡ 45 ∷ w
       → with_right s (right_side d (45 ∷ w)) ≡ Some (x, v)
       → events_left d lower true t ≡ put_simples (yielded lower x) (others_left d lower v)

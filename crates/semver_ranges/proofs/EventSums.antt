@@ -1,5 +1,5 @@
 -- serves: semver_ranges::range_set::RangeSet::parse
--- What the loops over the events of a text keep, and what they answer of its tree.
+-- The invariants of the loops over the events of a text, and their results in terms of its tree.
 use Rattle.std.proofs.Common.{◌≡◌, Bool, true, false, ◌&&◌, List, [], ◌∷◌, ◌++◌, Option, Some, None, refl, sym, ap, ◌∙◌, arith}
 use Rattle.std.proofs.Common.{append-nil, append_assoc, Result, Ok, Err}
 use Rattle.std.proofs.Math.Bool.{and-true}
@@ -26,12 +26,13 @@ use Rattle.semver_ranges.proofs.ReadingSound.{read_sound}
 use Rattle.semver_ranges.proofs.Tables.{IsTable}
 use Rattle.semver_ranges.proofs.EventLists.{set_fits}
 
--- whether events fit, with what went before
+-- whether the events that are left fit, and those before them did; `None` if the text isn't in the
+-- grammar
 abbrev pub fitted : (Simple → Bool) → Bool → Option (List Event) → Option Bool
 fitted fits fit None = None
 fitted fits fit (Some es) = Some (fit && list_all (event_fits fits) es)
 
--- one simple more, and the next range
+-- after one more term, and after two bars
 fit_simple : (fits : Simple → Bool) (fit : Bool) (s : Simple) (o : Option (List Event))
     → fitted fits fit (put (one_simple s) o) ≡ fitted fits (fit && fits s) o
 fit_simple fits fit s None = refl
@@ -72,7 +73,7 @@ module _ (written : Simple → List PlainComparator) (mode : Compat) (lower : Lo
   set_made r [] = front_made (yielded lower r) [] []
   set_made r (next ∷ others) = front_made (yielded lower r) [] _ ∙ ap (λ l. made_by r ∷ l) (set_made next others)
 
-  -- what is answered by the events of a text is answered by its tree
+  -- a result that is possible for the events of a text is possible for its tree
   module _ {fit : Simple → Bool} {listed : Simple → List PlainComparator} (table : IsTable fit listed) where
     tree_fits : (tree : SetTree) (es : List Event) (b : Bool) → Some (events_of lower tree) ≡ Some es → list_all (event_fits fit) es ≡ b
         → fits_by fit tree ≡ b

@@ -1,5 +1,5 @@
 -- serves: tool_ranges::offset::is_range
--- What is found first is the first of the events that are left.
+-- The events that were left begin with the event that was read.
 use Rattle.std.proofs.Common.{◌≡◌, ◌≤◌, Bool, true, false, arith, List, [], ◌∷◌, Option, Some, None, refl}
 use Rattle.semver_texts.specs.declared.grammar.Grammar.{Grammar}
 use Rattle.semver_ranges.specs.declared.events.Events.{Events}
@@ -9,7 +9,8 @@ use Rattle.semver_ranges.specs.RangeTree.{Simple}
 use Rattle.semver_ranges.specs.Steps.RangeEvents.{Event, one_simple, next_range, put, put_simples}
 use Rattle.semver_ranges.specs.Steps.CursorViews.{IsSimpleOf, AreSides, IsEventOf, HasAfter, HasLeft, IsFirst, flag}
 
--- the sides of a hyphen range
+-- the events of a hyphen range begin with its first side, and the other side, if there is one, is
+-- left
 pub sides_first : (xs : List Simple) (lower : read.Simple) (upper : Option read.Simple) (o : Option (List Event)) → AreSides xs lower upper
     → (x : Event) × (left : Option (List Event)) × IsEventOf x (event.Simple lower) × HasAfter upper o left
     × (put_simples xs o ≡ put x left)
@@ -22,7 +23,7 @@ flag_small true = omega arith
 flag_small false = omega arith
 
 module _ (d : Grammar) where
-  -- a simple that comes first, and what is left after it
+  -- a term that is the first event, and the events that are left after it
   pub record FirstSimple (o : Option (List Event)) (simple : read.Simple) (cursor : Events) : Type 0 where
     pub s : Simple
     pub left : Option (List Event)
@@ -36,7 +37,7 @@ module _ (d : Grammar) where
   first_simple o simple cursor (one_simple s, left, is, has, e) = record { s = s; left = left; is = is; has = has; whole = e }
   first_simple o simple cursor (next_range, left, is, has, e) = absurd is
 
-  -- the same where it is known what is left
+  -- a term that is the first of the events `es`, and the events after it
   pub record NextSimple (es : List Event) (simple : read.Simple) (cursor : Events) : Type 0 where
     pub s : Simple
     pub after : List Event
@@ -51,7 +52,7 @@ module _ (d : Grammar) where
   next_simple es simple cursor (one_simple s, Some after, is, has, e) = record { s = s; after = after; is = is; has = has; whole = cc }
   next_simple es simple cursor (next_range, left, is, has, e) = absurd is
 
-  -- two bars that come first
+  -- two bars that are the first of the events `es`, and the events after them
   pub next_bars : (es : List Event) (cursor : Events) → IsFirst d (Some es) event.NextRange cursor
       → (after : List Event) × HasLeft d cursor (Some after) × (es ≡ next_range ∷ after)
   next_bars es cursor (one_simple s, left, is, has, e) = absurd is

@@ -1,5 +1,6 @@
 -- serves: range_terms::terms::Terms::try_parse, rewritable
--- Words that are too long to npm: what their bytes say of their numbers and identifiers, and that none is within the smallest limit.
+-- Words that are too long for npm: the code decides this from their bytes, and no word of up to
+-- `max_build_length` bytes is too long.
 use Rattle.std.proofs.Common.{◌≡◌, ℕ, ◌+◌, ◌-◌, ◌≤◌, Bool, true, false, ◌&&◌, ◌||◌, not, List, [], ◌∷◌, ◌++◌, codes, length, take}
 use Rattle.std.proofs.Common.{refl, sym, ap, ◌∙◌}
 use Rattle.std.proofs.Common.{◌<◌, Some, None, arith, length-append, subst, append-nil}
@@ -29,7 +30,7 @@ use Rattle.semver_ranges.proofs.ReadingPieces.{is_component_byte}
 use Rattle.semver_ranges.proofs.WrittenPieces.{first_read}
 use Rattle.semver_ranges.specs.Steps.PartialViews.{AreWritten}
 
--- ---- a partial's text: its numbers, its pre-release, its build
+-- ---- the text of a partial version: numbers, pre-release and build metadata
 
 qualified : (p : PartialTree) → qualifier p ≡ marked (codes "-") (pre_parts p) ++ marked (codes "+") (build_parts p)
 qualified (one a) = refl
@@ -43,7 +44,7 @@ spelled_parts : (p : PartialTree) (t : Text) → SpellsPartial p t
     → t ≡ numbers_of p ++ (marked (codes "-") (pre_parts p) ++ marked (codes "+") (build_parts p))
 spelled_parts p t h = h.2 ∙ ap (λ q. numbers_of p ++ q) (qualified p)
 
--- components have no dot, and so come back where the text is cut at its dots
+-- components contain no dot, so cutting their text at its dots returns them
 no_dot_in_digits : (t : Text) → all_ascii_digits t ≡ true → AllByRecursion (λ b. is_dot b ≡ false) t
 no_dot_in_digits [] e = tt
 no_dot_in_digits (b ∷ t) e = (grind (arith, nat_tests), no_dot_in_digits t (grind arith))
@@ -68,9 +69,10 @@ numbers_cut (one a) e = cut_components a [] e
 numbers_cut (two a b) e = cut_components a (b ∷ []) e
 numbers_cut (three a b c pre build) e = cut_components a (b ∷ c ∷ []) e
 
--- ---- how long they are
+-- ---- lengths
 
--- the bytes that were read of a word
+-- the lengths of a text and of its version without build metadata, from the bytes that were read;
+-- and the prefix with the numbers
 pub record Sizes (p : PartialTree) (c : Components) (t : Text) : Type 0 where
   pub numbers : length t ≡ length (numbers_of p) + marked_length c.pre.now + marked_length c.build.now
   pub version : length (numbers_of p ++ marked (codes "-") (pre_parts p)) ≡ length (numbers_of p) + marked_length c.pre.now
@@ -90,7 +92,7 @@ sizes p c t h w =
       front = rw whole (take_front (numbers_of p) (marked (codes "-") (pre_parts p) ++ marked (codes "+") (build_parts p)));
     }
 
--- ---- up to `max_build_length` bytes, which is the smallest limit
+-- ---- texts of up to `max_build_length` bytes, the smallest limit
 
 within : (n m : ℕ) → n ≤ m → nat_le n m ≡ true
 within n m h = grind (arith, nat_tests)
@@ -126,7 +128,8 @@ components_short (one a) h = joined_short is_short_number max_build_length short
 components_short (two a b) h = joined_short is_short_number max_build_length short_number a (b ∷ []) h
 components_short (three a b c pre build) h = joined_short is_short_number max_build_length short_number a (b ∷ c ∷ []) h
 
--- what is told of the parts and the version
+-- the results of the code's checks on a word: whether its parts are short, and the length of its
+-- version; below, that a word within the smallest limit is short
 pub parts_told : (p : PartialTree) (c : Components) (t front : Text) (n : ℕ) → SpellsPartial p t → AreWritten p c
     → n ≡ length t - marked_length c.build.now - marked_length c.pre.now → front ≡ take n t
     → are_short_parts front c.pre.now c.build.now ≡ has_short_parts p
@@ -164,7 +167,7 @@ short_word role p t n h less small =
       or_true true = refl
       or_true false = refl
 
--- ---- a word before its rest, as it was read
+-- ---- the word at the beginning of a text
 
 pub before_rest : (d : Grammar) (text after rest : Text) (p : PartialTree) → after ≡ after_v d text
     → with_first (component after) ≡ Some (p, rest) → IsBefore d p text rest
@@ -172,7 +175,8 @@ before_rest d text after rest p e found =
     let at : PartialAt after (Some (p, rest)) = subst (λ o. PartialAt after o) found (first_sound after _ (component_sound after)) in
     record { back = at.0; spelled = at.1; after_is = sym e ∙ at.2 }
 
--- to npm: the front of the text is its word
+-- in npm's grammar, the bytes before the rest are a word: without their `v`, they are the text of
+-- the partial version
 record Front (text rest back : Text) : Type 0 where
   longer : length back + length rest ≤ length text
   partial : after_v Npm (take (length text - length rest) text) ≡ back
@@ -207,7 +211,7 @@ module _ (p : PartialTree) (text rest : Text) (w : IsBefore Npm p text rest) whe
   pub front_spells : SpellsPartial p (after_v Npm (take (length text - length rest) text))
   front_spells = subst (SpellsPartial p) (sym found.partial) w.spelled
 
--- what is read of a partial's text
+-- the text of a partial version is read as that partial version
 pub reads_itself : (p : PartialTree) (t : Text) → SpellsPartial p t → with_first (component t) ≡ Some (p, [])
 reads_itself p t h = rw append-nil at (first_read p t [] h refl)
 
@@ -219,7 +223,7 @@ reads_some p t h e = let same = sym (reads_itself p t h) ∙ e in none_of same w
   none_of : {X : Type 0} {x : X} → Some x ≡ None → ⊥
   none_of e = cc
 
--- a partial that is read, and one that isn't
+-- a partial version that is accepted as a word, and one that isn't
 module _ (d : Grammar) (role : Role) (text after rest : Text) (p : PartialTree) (e : after ≡ after_v d text)
     (found : with_first (component after) ≡ Some (p, rest)) where
   word_found : partial d role text ≡ whole_word d role (length text) (Some (p, rest))

@@ -1,5 +1,6 @@
 -- serves: semver_ranges::laws::meanings_agree, exact
--- What comparators mean, but for the pre-releases of raised bounds.
+-- A version satisfies the comparators of a text if and only if it satisfies the text, except for
+-- pre-releases of raised bounds.
 use Rattle.std.proofs.Common.{◌≡◌, true, false, [], refl, sym, ap, ◌∙◌, IsTrue, Option, Some, None}
 use Rattle.std.proofs.Math.Bool.{or-false}
 use Rattle.std.proofs.lemmas.Bool.{or_left}
@@ -16,18 +17,18 @@ use Rattle.semver_ranges.proofs.Rows.{row}
 use Rattle.semver_ranges.proofs.SetMeanings.{stated_shape, set_meets}
 use Rattle.semver_ranges.proofs.Tests.{list_all-weaker, list_any-weaker, list_all-same, list_any-same}
 
--- a version meets the comparators of a set exactly if some range has each term met, or is a pre-release of its bound
+-- a version satisfies the comparators if and only if there is a range such that, for each of its
+-- terms, it satisfies the term or is a pre-release of the term's raised bound
 pub some_agrees : (mode : Compat) (tree : SetTree) (v : PlainVersion) → meets_set v (rewritten mode tree) ≡ meets_tree_or_bounds mode tree v
 some_agrees mode tree v = set_meets [] mode v (λ term. meets_term_or_bound mode term v)
     (λ s. row v mode s.form (stated_shape s.partial) (pre_release s.partial)) (sym (or-false _)) tree
 
--- what meets the text's own meaning meets it but for raised bounds
 own_meaning_weaker : (mode : Compat) (tree : SetTree) (v : PlainVersion) → meets_tree mode tree v ≡ true
     → meets_tree_or_bounds mode tree v ≡ true
 own_meaning_weaker mode tree v = list_any-weaker _ _
     (λ r. list_all-weaker _ _ (λ term. or_left _ _) (terms r)) tree
 
--- a release is a pre-release of nothing
+-- a release isn't a pre-release of a bound
 no_pre_release : (v : PlainVersion) (bound : Option PlainVersion) → is_empty v.pre ≡ true → is_pre_release_of v bound ≡ false
 no_pre_release v None e = refl
 no_pre_release v (Some bound) e = rw e

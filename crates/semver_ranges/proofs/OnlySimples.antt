@@ -1,5 +1,5 @@
 -- serves: semver_ranges::range_set::RangeSet::parse
--- A text that is one simple.
+-- A text that consists of one term: it spells a set of one range with this term.
 use Rattle.std.proofs.Common.{◌≡◌, true, List, [], ◌∷◌, length, Some, refl, arith, append-nil}
 use Rattle.semver_texts.specs.declared.grammar.Grammar.TheVariants.{Crate}
 use Rattle.semver_ranges.specs.declared.range.Compat.{Compat}
@@ -22,7 +22,7 @@ only_simple t u s e end =
     tree_read Crate (simples s [] ∷ []) t
     ([], here.0, here.1, refl, here.2, here.3.0, rw (nothing_left u end, append-nil) at here.4)
 
--- its set
+-- such a set fits if the term does, and has its comparators
 pub one_fits : (mode : Compat) (s : Simple) → simple_fits mode s ≡ true → fits mode (simples s [] ∷ []) ≡ true
 one_fits mode s e = rw e
 

@@ -1,5 +1,5 @@
 -- serves: semver_ranges::grammar::read_components
--- Parts and dots at the front of a text, byte by byte.
+-- The parts and dots at the beginning of a text, as the code reads them byte by byte.
 use Rattle.std.proofs.Common.{◌≡◌, ℕ, Bool, true, Some, None, [], ◌∷◌, take, drop, refl}
 use Rattle.std.proofs.Common.{arith, one-add}
 use Rattle.std.specs.List.{list_all, prefix_len, slice_split}
@@ -11,7 +11,7 @@ use Rattle.semver_texts.proofs.PartRuns.{runs_ahead}
 use Rattle.semver_ranges.specs.Steps.Reading.{front, back}
 use Rattle.semver_ranges.specs.Steps.CursorViews.{marked_parts}
 
--- the front is what is before the first byte that doesn't pass
+-- `front` is the text before the first byte that fails p, and `back` is the text from that byte on
 front_taken : (p : ℕ → Bool) (t : Text) → (front p t ≡ take (prefix_len p t) t) × (back p t ≡ drop (prefix_len p t) t)
 front_taken p [] = (refl, refl)
 front_taken p (b ∷ t) = let rest = front_taken p t in

@@ -1,5 +1,5 @@
 -- serves: semver_ranges::laws::printed_sets_read_back
--- Printed sets read back, and the result is printable.
+-- The text of a printable set is spelled by a tree that is rewritten to that set.
 use Rattle.std.proofs.Common.{◌≡◌, ℕ, zero, suc, ◌<◌, Bool, true, false, not, List, [], ◌∷◌, ◌++◌}
 use Rattle.std.proofs.Common.{map, codes, refl, sym, None, All, append_assoc, append-nil, decimal, get_or, arith}
 use Rattle.std.proofs.lemmas.Bool.{and_from, ltb-true}
@@ -30,7 +30,7 @@ use Rattle.semver_ranges.specs.PrintedRanges.{op_text, comparator_text, range_te
 use Rattle.semver_ranges.specs.PrintedRanges.{IsPrintableRange, IsPrintableSet}
 use Rattle.semver_texts.specs.PrintedText.{identifier_text, plain_text}
 
--- the digits of std are the decimals of this crate
+-- std's lemmas about decimals apply to `all_ascii_digits` and `digits_value`
 own : IsNumeralModel (λ ds. all_ascii_digits ds ≡ true) (digits_value 10)
 own = numerals_by_value _ tells_all_ascii_digits
 
@@ -50,7 +50,6 @@ decimal_number zero e = rw (decimal_digit 0 (omega arith))
 decimal_number (suc n) e =
     no_zero_first (decimal (suc n)) (decimal_digits (suc n) e) (first_decimal (suc n) (omega arith) (ltb-true _ _ e))
 
--- digits are no wildcard
 pub digits_no_wildcard : (t : Text) → all_ascii_digits t ≡ true → is_wildcard t ≡ false
 digits_no_wildcard [] e = refl
 digits_no_wildcard (b ∷ []) e = grind (arith, nat_tests)
@@ -59,7 +58,6 @@ digits_no_wildcard (b ∷ c ∷ t) e = refl
 no_wildcard : (n : ℕ) → fits_u64 n ≡ true → is_wildcard (decimal n) ≡ false
 no_wildcard n e = digits_no_wildcard (decimal n) (decimal_digits n e)
 
--- digits are a part
 digit_part_bytes : (t : Text) → all_ascii_digits t ≡ true → list_all is_part_byte t ≡ true
 digit_part_bytes = list_all-weaker is_ascii_digit is_part_byte (λ b digit. rw digit)
 
@@ -67,7 +65,7 @@ number_part : (t : Text) → is_number t ≡ true → is_part t ≡ true
 number_part [] e = cc
 number_part (b ∷ t) e = digit_part_bytes (b ∷ t) (grind arith)
 
--- an identifier's text is a part that is kept as the identifier
+-- the text of an identifier that passes `is_kept` is a part, and is kept as that identifier
 identifier_part : (i : IdentifierValue) → is_kept i ≡ true → is_part (identifier_text i) ≡ true
 identifier_part (numeric n) e = rw e (number_part (decimal n) (decimal_number n e))
 identifier_part (alphanumeric t) e = grind arith
@@ -84,11 +82,11 @@ identifiers_kept : (is : List IdentifierValue) → list_all is_kept is ≡ true 
 identifiers_kept [] e = refl
 identifiers_kept (i ∷ is) e = grind (arith, identifier_kept i, identifiers_kept is)
 
--- a version as a partial of three numbers
+-- the partial version with the numbers and the pre-release of a version
 abbrev version_tree : PlainVersion → PartialTree
 version_tree v = three (decimal v.major) (decimal v.minor) (decimal v.patch) (map identifier_text v.pre) []
 
--- a comparator as a simple
+-- the term with the operator and the version of a comparator
 abbrev form_of : Op → Form
 form_of Lt = less
 form_of Lte = at_most
@@ -103,11 +101,11 @@ form_spells : (op : Op) → SpellsForm Crate (form_of op) (op_text op)
 form_spells Lt = ([], refl, refl)
 form_spells _ = ([], refl, refl)
 
--- comparators as simples
+-- whether the versions of all comparators are printable
 abbrev pub are_printable : List PlainComparator → Bool
 are_printable cs = list_all (λ c. is_printable_version c.version) cs
 
--- a range of comparators as a range of simples
+-- the syntax tree of a range of comparators; below, that of a set
 abbrev range_of : List PlainComparator → RangeTree
 range_of [] = empty
 range_of (c ∷ cs) = simples (simple_of c) (map simple_of cs)
@@ -139,7 +137,8 @@ simples_spell c (next ∷ cs) e =
     (comparator_text c, codes " ", _, comparator_spells c (grind arith), (refl, refl), simples_spell next cs (grind arith), refl)
 
 module _ (bound_pre : List IdentifierValue) (mode : Compat) where
-  -- none of these has a raised bound, so they are the same however one is written
+  -- a term with three numbers and an operator of comparators has no raised bound, so its comparator
+  -- doesn't depend on `bound_pre`
   of_three : (op : Op) (v : PlainVersion) → written_cell bound_pre (cell mode (form_of op) (numbers v)) (numbers v) v ≡ comparator op v ∷ []
   of_three Lt v = refl
   of_three _ v = refl
@@ -164,7 +163,7 @@ module _ (bound_pre : List IdentifierValue) (mode : Compat) where
   comparators_fit [] e = refl
   comparators_fit (c ∷ cs) e = grind (arith, comparator_fits c, comparators_fit cs)
 
-  -- what a tree of a range says, and one of a set, the first range after some blanks
+  -- a tree spells the text, is rewritten to the given comparators or ranges, and fits
   record Again (spells : Type 0) (again : Type 0) (fitting : Bool) : Type 0 where
     spelled : spells
     same : again
@@ -199,7 +198,8 @@ module _ (bound_pre : List IdentifierValue) (mode : Compat) where
         fit = and_from _ _ here.fit more.fit;
       }
 
--- the text of a printable set is spelled by a tree that fits, and is rewritten to the set, however raised bounds are written
+-- the text of a printable set is spelled by a tree that fits, and is rewritten to that set with any
+-- pre-release for raised bounds
 pub printed_again : (bound_pre : List IdentifierValue) (s : PlainSet) → IsPrintableSet s
     → (tree : SetTree) × Spells tree (set_text s) × (fits s.compat tree ≡ true) × (written_set bound_pre s.compat tree ≡ s)
 printed_again bound_pre s h = go s.ranges h.0 h.1 where

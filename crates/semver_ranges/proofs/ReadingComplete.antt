@@ -1,5 +1,5 @@
 -- serves: semver_ranges::laws::one_tree
--- The reader finds the tree that a text spells.
+-- The reader finds the tree that spells a text.
 use Rattle.std.proofs.Common.{◌≡◌, ℕ, Bool, true, false, ◌||◌, ◌==◌, List, [], ◌∷◌, ◌++◌, refl, ap, ◌∙◌, inl, inr, Some}
 use Rattle.std.proofs.Common.{append_assoc, append-nil, arith}
 use Rattle.std.proofs.lemmas.Bool.{or_left, or_right, and_parts, eqb-true, not_from_false}
@@ -16,7 +16,7 @@ use Rattle.semver_ranges.proofs.ReadingPieces.{starts, starts-append, is_word_by
 use Rattle.semver_ranges.proofs.ReadingSteps.{simples_end, simples_step, read_step}
 use Rattle.semver_ranges.proofs.WrittenPieces.{apart, is_written, no_blank_byte, stops, partial_read, blanks_after, no_blank, simple_read}
 
--- a simple begins with a byte of a word or a sign: no blank, no bar and no hyphen
+-- the first byte of a term: one that begins a word, or one of `=<>~^`
 abbrev pub is_simple_byte : ℕ → Bool
 is_simple_byte b = is_word_byte b || ((b == 61) || ((b == 60) || ((b == 62) || ((b == 126) || (b == 94)))))
 
@@ -24,7 +24,7 @@ pub word_simple : (t : Text) → starts is_word_byte t ≡ true → starts is_si
 word_simple [] e = cc
 word_simple (b ∷ t) e = or_left _ _ e
 
--- what it isn't
+-- a term doesn't begin with a bar or a hyphen, and a range doesn't end at a hyphen
 simple_written : (b : ℕ) → is_simple_byte b ≡ true → is_written b ≡ true
 simple_written b e = grind (arith, nat_tests)
 
@@ -62,12 +62,12 @@ module _ (d : Grammar) where
   simple_stops [] e = cc
   simple_stops (b ∷ t) e = not_from_false _ (no_blank_byte d b (simple_written b e))
 
-  -- where a range ends
+  -- a range doesn't end at a blank
   pub end_stops : (t : Text) → ends_range t ≡ true → stops (is_blank d) t ≡ true
   end_stops [] e = refl
   end_stops (b ∷ t) e = rw (eqb-true b 124 e) (not_from_false _ (no_blank_byte d 124 refl))
 
-  -- a word ends before blanks and the end of its range, and before a gap
+  -- a word ends before any blanks at the end of its range, and before one or more blanks
   pub blanks_end : (blanks t : Text) → AreBlanks d blanks → ends_range t ≡ true → ends_word d (blanks ++ t) ≡ true
   blanks_end [] [] h e = refl
   blanks_end [] (b ∷ t) h e = or_right _ _ e
@@ -77,7 +77,7 @@ module _ (d : Grammar) where
   gap_ends [] t (some, h) = cc
   gap_ends (b ∷ gap) t (some, h) = grind arith
 
-  -- simples: the first, and the others after it
+  -- the reader finds a first term, and then the others
   record Simples (first : Simple) (others : List Simple) (t u : Text) : Type 0 where
     rest : Text
     head : simple d t ≡ Some (first, rest)
@@ -118,7 +118,7 @@ module _ (d : Grammar) where
         e,
       )
 
-  -- a range, between blanks
+  -- a range with blanks after it; below, with blanks on both sides
   range_here_read : (r : RangeTree) (inner blanks u : Text) → SpellsRange d r inner → AreBlanks d blanks → ends_range u ≡ true
       → range_here d (after_blanks d (inner ++ (blanks ++ u))) ≡ Some (r, u)
   range_here_read empty inner blanks u h b e = rw (h, blanks_after d blanks u b (end_stops u e), e)
@@ -150,13 +150,13 @@ module _ (d : Grammar) where
   range_read r w u (before, inner, blanks, h, spelled, b, text) e =
       rw text (simp append_assoc (rw (after_more before (inner ++ (blanks ++ u)) h) (range_here_read r inner blanks u spelled b e)))
 
-  -- the reader finds the tree of a text
+  -- the reader finds each tree that spells a text
   pub tree_read : (tree : SetTree) (t : Text) → SpellsRangeIn d tree t → read d t ≡ Some tree
   tree_read [] t h = absurd h
   tree_read (r ∷ []) t h = read_step d t ∙ ap (after_range (read d)) (rw append-nil at (range_read r t [] h refl))
   tree_read (r ∷ next ∷ others) t (head, tail, h, more, text) =
       read_step d t ∙ rw (text, append_assoc, range_read r head (124 ∷ 124 ∷ tail) h refl, tree_read (next ∷ others) tail more)
 
-  -- two trees that spell one text are equal
+  -- two trees that spell the same text are equal
   pub same_tree : (tree tree' : SetTree) (t : Text) → SpellsRangeIn d tree t → SpellsRangeIn d tree' t → tree ≡ tree'
   same_tree tree tree' t h h' = cc (tree_read tree t h, tree_read tree' t h')

@@ -1,5 +1,6 @@
 -- serves: semver_ranges::events::Events::new, short
--- What the reader finds at the front of a text is there: components, parts, partials, operators and simples.
+-- If the reader finds a component, parts, a partial version, an operator or a term at the beginning
+-- of a text, the text begins with it.
 use Rattle.std.proofs.Common.{◌≡◌, ℕ, Bool, true, false, ◌&&◌, ◌||◌, ◌==◌, ◌⊎◌, List, [], ◌∷◌, ◌++◌, codes, refl, sym, ap, ◌∙◌, inl}
 use Rattle.std.proofs.Common.{arith, inr, Option, Some, None, append_assoc, ◌-◌, length, length-append, subst}
 use Rattle.std.proofs.lemmas.Bool.{and_parts, or_left, eqb-true}
@@ -23,7 +24,7 @@ use Rattle.semver_ranges.specs.Steps.Reading.{with_build, after_pre, with_pre, a
 use Rattle.semver_ranges.specs.Steps.Reading.{after_one, with_first, whole_word, partial, after_less, after_greater, after_tilde, operator}
 use Rattle.semver_ranges.specs.Steps.Reading.{with_form, simple, after_v, takes}
 
--- the longest front whose bytes pass
+-- a text is its `front` and its `back`, and each byte of the `front` passes
 pub front-back : (p : ℕ → Bool) (t : Text) → t ≡ front p t ++ back p t
 front-back p [] = refl
 front-back p (b ∷ t) = grind (arith, front-back p t)
@@ -32,7 +33,7 @@ pub front_all : (p : ℕ → Bool) (t : Text) → list_all p (front p t) ≡ tru
 front_all p [] = refl
 front_all p (b ∷ t) = grind (arith, front_all p t)
 
--- a component
+-- a component that is found is at the beginning of the text
 abbrev pub ComponentAt : Text → Option (Text × Text) → Type 0
 ComponentAt t None = Unit {0}
 ComponentAt t (Some found) = (is_component found.0 ≡ true) × (t ≡ found.0 ++ found.1)
@@ -46,7 +47,8 @@ component_sound [] = tt
 component_sound (b ∷ t) = let back = front-back is_ascii_digit t in
     grind (arith, nat_tests, digits (front is_ascii_digit t) (front_all is_ascii_digit t))
 
--- parts after their mark
+-- parts that are found are at the beginning of the text, joined by dots, whatever mark is before
+-- them
 abbrev PartsAt : Text → Option (List Text × Text) → Type 0
 PartsAt t None = Unit {0}
 PartsAt t (Some found) = (list_all is_part found.0 ≡ true) × ((mark : ℕ) → mark ∷ t ≡ marked (mark ∷ []) found.0 ++ found.1)
@@ -59,12 +61,12 @@ parts_sound t = by_test (list_all is_part (slice_split is_dot (front is_dotted_b
     (λ e. rw e (e, λ mark. rw (marked_parts mark (front is_dotted_byte t)) (ap (λ x. mark ∷ x) (front-back is_dotted_byte t))))
     (λ e. rw e tt)
 
--- a partial
+-- a partial version that is found is spelled at the beginning of the text
 abbrev pub PartialAt : Text → Option (PartialTree × Text) → Type 0
 PartialAt t None = Unit {0}
 PartialAt t (Some found) = (w : Text) × SpellsPartial found.0 w × (t ≡ w ++ found.1)
 
--- after components that are joined by dots
+-- `PartialAt` for a text of which the components `cs` have been read, and t is left
 abbrev After : List Text → Text → Option (PartialTree × Text) → Type 0
 After cs t o = list_all is_component cs ≡ true → PartialAt (join_with_byte 46 cs ++ t) o
 
@@ -98,7 +100,7 @@ third_sound a b t None q h = tt
 third_sound a b t (Some found) (third, text) h =
     rw text (simp append_assoc (simp append_assoc at (after_three_sound a b found.0 found.1 (grind arith))))
 
--- one or two components, and what follows them
+-- partial versions with one or two components, and then with any number
 two_sound : (a b u : Text) → After (a ∷ b ∷ []) u (Some (two a b, u))
 two_sound a b u h = (_, (h, tt, refl), simp append_assoc)
 
@@ -124,7 +126,7 @@ pub first_sound : (t : Text) (o : Option (Text × Text)) → ComponentAt t o →
 first_sound t None q = tt
 first_sound t (Some found) (first, text) = rw text (after_one_sound found.0 found.1 (grind arith))
 
--- a partial begins with a byte of a component
+-- a digit or a wildcard; below, that every partial version begins with such a byte
 abbrev pub is_component_byte : ℕ → Bool
 is_component_byte b = is_ascii_digit b || is_wildcard (b ∷ [])
 
@@ -146,7 +148,7 @@ partial_starts (one a) t (h, k, e) = rw e (component_starts a [] (grind arith))
 partial_starts (two a b) t (h, k, e) = rw (e, append_assoc) (component_starts a _ (grind arith))
 partial_starts (three a b c pre build) t (h, k, e) = rw (e, append_assoc) (component_starts a _ (grind arith))
 
--- a word: a partial after what may be before it
+-- a word: the `v` that npm's grammar allows, or nothing, and a partial version
 pub record Word (d : Grammar) (role : Role) (p : PartialTree) (t : Text) : Type 0 where
   pub front : Text
   pub back : Text
@@ -155,7 +157,7 @@ pub record Word (d : Grammar) (role : Role) (p : PartialTree) (t : Text) : Type 
   pub after : (u : Text) → after_v d (t ++ u) ≡ back ++ u
   pub text : t ≡ front ++ back
 
--- a partial doesn't begin with a `v`
+-- a partial version doesn't begin with a `v`
 pub no_v : (t : Text) → starts is_component_byte t ≡ true → after_v Npm t ≡ t
 no_v [] e = refl
 no_v (b ∷ t) e = grind (arith, nat_tests)
@@ -175,7 +177,7 @@ word_parts Npm role p t (front, back, mark, spelled, taken, text) = record {
   text = text;
 }
 
--- a word begins with a byte of a component or with a `v`
+-- a digit, a wildcard or a `v`; below, that every word begins with such a byte
 abbrev pub is_word_byte : ℕ → Bool
 is_word_byte b = is_component_byte b || (b == 118)
 
@@ -191,13 +193,13 @@ word_starts Npm role p t (front, back, mark, spelled, taken, text) = rw text (el
   | inr e ↦ rw e
 ])
 
--- a partial that is a whole word
+-- a partial version that is found is spelled by a word at the beginning of the text, and the word
+-- ends there
 abbrev pub WordAt : Grammar → Role → Text → Option (PartialTree × Text) → Type 0
 WordAt d role t None = Unit {0}
 WordAt d role t (Some found) =
     (w : Text) × SpellsWord d role found.0 w × (t ≡ w ++ found.1) × (ends_word d found.1 ≡ true)
 
--- how long what is before a rest is
 pub length_before : (t w u : Text) → t ≡ w ++ u → length t - length u ≡ length w
 length_before t w u e = omega (arith, simp length-append at (ap length e))
 
@@ -231,7 +233,7 @@ module _ (d : Grammar) where
   pub partial_sound : (role : Role) (t : Text) → WordAt d role t (partial d role t)
   partial_sound role t = let u = after_v d t in word_sound role t _ (first_sound u _ (component_sound u))
 
-  -- an operator: its sign, and the blanks after it
+  -- an operator that is found is spelled at the beginning of the text, with the blanks after it
   abbrev pub FormAt : Text → Form × Text → Type 0
   FormAt t found = (w : Text) × SpellsForm d found.0 w × (t ≡ w ++ found.1)
 
@@ -274,7 +276,7 @@ module _ (d : Grammar) where
       (λ e. rw (eqb-true b 94 e) (signed (codes "^") t))
       (λ n5. rw (n1, n2, n3, n4, n5) ([], refl, refl))))))
 
-  -- a gap parts what is before it from what follows: it has a blank, or the range ends there
+  -- the blanks after a term: at least one, unless the range ends after them
   abbrev pub IsGap : Text → Text → Type 0
   IsGap gap t = AreBlanks d gap × ((is_empty gap ≡ false) ⊎ (ends_range t ≡ true))
 
@@ -282,7 +284,7 @@ module _ (d : Grammar) where
   gap_parts [] e = (refl, inr refl)
   gap_parts (b ∷ t) e = grind (arith, front_all (is_blank d) t)
 
-  -- a simple, and the gap after it
+  -- a term that is found is spelled at the beginning of the text, with a gap after it
   abbrev pub SimpleAt : Text → Option (Simple × Text) → Type 0
   SimpleAt t None = Unit {0}
   SimpleAt t (Some found) = (w : Text) × (gap : Text) × SpellsSimple d found.0 w × IsGap gap found.1 × (t ≡ w ++ (gap ++ found.1))

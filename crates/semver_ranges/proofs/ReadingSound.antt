@@ -1,5 +1,5 @@
 -- serves: semver_ranges::events::Events::new, all
--- What the reader finds spells the text.
+-- The tree that the reader finds spells the text.
 use Rattle.std.proofs.Common.{◌≡◌, ℕ, zero, suc, true, false, ◌&&◌, ◌==◌, List, [], ◌∷◌, ◌++◌, codes, length, refl, ◌∙◌}
 use Rattle.std.proofs.Common.{Option, Some, None, append_assoc, append-nil, subst}
 use Rattle.std.proofs.lemmas.Bool.{and_parts, and_from, eqb-true}
@@ -18,7 +18,7 @@ use Rattle.semver_ranges.specs.Steps.Reading.{some_ranges, read}
 use Rattle.semver_ranges.proofs.ReadingPieces.{front-back, front_all, WordAt, partial_sound, IsGap, SimpleAt, simple_sound}
 use Rattle.semver_texts.proofs.Lists.{by_test}
 
--- a bare simple is a partial
+-- the text of a term without an operator is a word
 form_bare : (f : Form) → is_bare f ≡ true → f ≡ bare
 form_bare bare e = refl
 form_bare _ e = cc
@@ -29,12 +29,12 @@ bare_partial d s w e (sign, text, form, spelled, whole) =
     let nothing : sign ≡ [] = subst (λ f. SpellsForm d f sign) (form_bare s.form e) form in
     rw (whole, nothing) (subst (λ f. SpellsWord d (after_form f) s.partial text) (form_bare s.form e) spelled)
 
--- a hyphen ends no range
+-- a range doesn't end at a hyphen
 no_end : (t : Text) → begins_with 45 t ≡ true → ends_range t ≡ false
 no_end [] e = cc
 no_end (b ∷ t) e = grind (arith, nat_tests)
 
--- what is after two bars
+-- if a rest is found, the text is two bars and that rest
 abbrev BarsAt : Text → Option Text → Type 0
 BarsAt t None = Unit {0}
 BarsAt t (Some u) = t ≡ codes "||" ++ u
@@ -45,13 +45,14 @@ bars_sound (b ∷ []) = tt
 bars_sound (b ∷ c ∷ t) = grind (arith, nat_tests)
 
 module _ (d : Grammar) where
-  -- a first simple and the others that are found after it and its gap
+  -- if terms are found, the text begins with the spelling of s and these terms, with blanks after
+  -- it
   abbrev SimplesAt : Simple → Text → Option (List Simple × Text) → Type 0
   SimplesAt s t None = Unit {0}
   SimplesAt s t (Some found) =
       (inner : Text) × (after : Text) × SpellsSimples d s found.0 inner × AreBlanks d after × (t ≡ inner ++ (after ++ found.1))
 
-  -- a gap that parts two simples
+  -- the gap between two terms has at least one blank
   some_blanks : (gap t : Text) → IsGap d gap t → ends_range t ≡ false → AreSomeBlanks d gap
   some_blanks gap t h e = grind arith
 
@@ -75,13 +76,13 @@ module _ (d : Grammar) where
       (λ e. rw e (w, gap, spelled, parts.0, refl))
       (λ e. rw e (next_sound s w gap t _ _ (simples_sound n) spelled (some_blanks gap t parts e) (simple_sound d t)))
 
-  -- a range after the blanks at the front of a text, and the blanks after it
+  -- a range that is found is spelled at the beginning of the text, with blanks after it
   abbrev RangeAt : Text → Option (RangeTree × Text) → Type 0
   RangeAt t None = Unit {0}
   RangeAt t (Some found) = (inner : Text) × (after : Text) × SpellsRange d found.0 inner × AreBlanks d after
       × (t ≡ inner ++ (after ++ found.1))
 
-  -- the right side of a hyphen range, from the hyphen on
+  -- a right side that is found is spelled after a hyphen and blanks at the beginning of the text
   abbrev RightAt : Text → Option (PartialTree × Text) → Type 0
   RightAt t None = Unit {0}
   RightAt t (Some found) =
@@ -140,7 +141,7 @@ module _ (d : Grammar) where
       (λ e. rw e ([], [], refl, refl, refl))
       (λ e. rw e (first_sound t _ (simple_sound d t)))
 
-  -- a range between blanks
+  -- a range that is found is spelled at the beginning of the text, with blanks on both sides
   abbrev PaddedAt : Text → Option (RangeTree × Text) → Type 0
   PaddedAt t None = Unit {0}
   PaddedAt t (Some found) = (w : Text) × SpellsPadded d found.0 w × (t ≡ w ++ found.1)
@@ -153,7 +154,7 @@ module _ (d : Grammar) where
     front-back (is_blank d) t ∙ rw text (simp append_assoc),
   )
 
-  -- ranges up to the end
+  -- a tree that is found spells the text
   abbrev SetAt : Text → Option SetTree → Type 0
   SetAt t None = Unit {0}
   SetAt t (Some tree) = SpellsRangeIn d tree t
@@ -180,6 +181,5 @@ module _ (d : Grammar) where
   ranges_sound zero t = tt
   ranges_sound (suc n) t = after_range_sound t _ _ (ranges_sound n) (padded_sound t _ (range_here_sound (after_blanks d t)))
 
-  -- the tree that is read spells the text
   pub read_sound : (t : Text) (tree : SetTree) → read d t ≡ Some tree → SpellsRangeIn d tree t
   read_sound t tree e = rw e at (ranges_sound (suc (length t)) t)

@@ -1,5 +1,6 @@
 -- serves: semver_ranges::events::Events::new, short
--- How the reader's counted loops go on, without the count; and that what is left of a text is shorter.
+-- The reader's recursive functions as equations without the limit on their depth, and the length of
+-- the rest that each leaves.
 use Rattle.std.proofs.Common.{◌≡◌, ℕ, zero, suc, ◌<◌, ◌≤◌, Bool, true, false, List, [], ◌∷◌, length, refl}
 use Rattle.std.proofs.Common.{ap, Option, Some, None, arith, length-append}
 use Rattle.semver_texts.specs.declared.grammar.Grammar.{Grammar}
@@ -15,7 +16,7 @@ use Rattle.semver_ranges.specs.Steps.Reading.{with_others, after_first, range, a
 use Rattle.semver_ranges.specs.Steps.Reading.{some_ranges, read}
 use Rattle.semver_texts.proofs.Lists.{by_test}
 
--- what is left after an answer is at most so long
+-- if something is found, the rest after it has at most n bytes
 abbrev Leaves : {X : Type 0} → ℕ → Option (X × Text) → Type 0
 Leaves n None = Unit {0}
 Leaves n (Some found) = length found.1 ≤ n
@@ -32,13 +33,13 @@ no_simple Crate = refl
 no_simple Cargo = refl
 no_simple Npm = refl
 
--- what follows two bars is shorter
 pub shorter_bars : (t u : Text) → after_bars t ≡ Some u → length u < length t
 shorter_bars [] u e = cc
 shorter_bars (b ∷ []) u e = cc
 shorter_bars (b ∷ c ∷ t) u e = grind arith
 
--- simples leave no more than their text, and stop at the end of a range
+-- the rest u has at most n bytes, and a range ends at its beginning; below, for the rest after
+-- something that is found
 record Stopped (n : ℕ) (u : Text) : Type 0 where
   short : length u ≤ n
   ends : ends_range u ≡ true
@@ -82,7 +83,7 @@ module _ (d : Grammar) where
       (λ e. rw e (record { short = h; ends = e }))
       (λ e. rw e (after_simple_stops n _ (some_simples_stop k n) _ (simple_leaves n t (omega arith))))
 
-  -- so does a range
+  -- the rest after the right side of a hyphen range, and after a range
   range_end_stops : (n : ℕ) (o : Option (PartialTree × Text)) → Leaves n o → Stops n (range_end d o)
   range_end_stops n None h = tt
   range_end_stops n (Some found) h = let k = back_shorter (is_blank d) found.1 in grind arith
@@ -130,13 +131,14 @@ module _ (d : Grammar) where
       leaves None h = tt
       leaves (Some found) h = h.short
 
-  -- two readers of the rest that agree on shorter texts agree after a simple
+  -- if two readers of the other terms agree on texts shorter than t, they agree after the first
+  -- term of t
   agree_simples : (f g : Text → Option (List Simple × Text)) (t : Text) → ((u : Text) → length u < length t → f u ≡ g u)
       → (o : Option (Simple × Text)) → simple d t ≡ o → after_simple f o ≡ after_simple g o
   agree_simples f g t h None e = refl
   agree_simples f g t h (Some (s, u)) e = ap (put_before s) (h u (shorter_simple t u s e))
 
-  -- simples, without the count
+  -- the limit on the depth doesn't matter if it is above the length of the text
   enough_simples : (n m : ℕ) (t : Text) → length t < n → length t < m → some_simples d n t ≡ some_simples d m t
   enough_simples zero m t h k = absurd (omega arith)
   enough_simples (suc n) zero t h k = absurd (omega arith)
@@ -149,7 +151,8 @@ module _ (d : Grammar) where
   pub simples_step : (t : Text) → ends_range t ≡ false → all_simples d t ≡ after_simple (all_simples d) (simple d t)
   simples_step t e = rw e (agree_simples _ (all_simples d) t (λ u l. enough_simples (length t) (suc (length u)) u l (omega arith)) _ refl)
 
-  -- two readers of the rest that agree on shorter texts agree after a range
+  -- if two readers of the other ranges agree on texts of fewer than n bytes, they agree after a
+  -- range that leaves at most n
   agree_after : (f g : Text → Option SetTree) (n : ℕ) → ((t : Text) → length t < n → f t ≡ g t) → (o : Option (RangeTree × Text))
       → Leaves n o → after_range f o ≡ after_range g o
   agree_after f g n h None l = refl

@@ -1,5 +1,6 @@
 -- serves: semver_ranges::range_set::RangeSet::parse, refusals
--- What an answer by the reader says in the words of trees and texts.
+-- The clauses of `RangeSet::parse` and `RangeSet::parse_exact`, from `IsAnswer`, which states their
+-- results in terms of the reader.
 use Rattle.std.proofs.Common.{List, ◌≡◌, ◌⊎◌, true, [], refl, sym, ap, ◌∙◌, subst, inl, inr, IsTrue, Result, Ok, Err, Some, None}
 use Rattle.std.proofs.lemmas.Bool.{both_ways}
 use Rattle.std.specs.Prelude.{IfOk}
@@ -29,7 +30,7 @@ use Rattle.semver_ranges.proofs.PrintedLaws.{printed_again}
 use Rattle.semver_ranges.proofs.AnsweredLaws.{written_printable}
 use Rattle.semver_ranges.proofs.ExactLaws.{some_means}
 
--- what is read is the one tree
+-- the tree that the reader finds is the only one that spells the text
 read_one : (t : Text) (tree tree' : SetTree) → read Crate t ≡ Some tree → Spells tree' t → tree ≡ tree'
 read_one t tree tree' e h = cc (tree_read Crate tree' t h)
 
@@ -39,11 +40,11 @@ none_read t tree e h = cc (tree_read Crate tree t h)
 unfit : (t : Text) (mode : Compat) (tree : SetTree) → read Crate t ≡ Some tree → fits mode tree ≡ true → IsTooLarge mode t → ⊥
 unfit t mode tree e f (tree', s, large) = cc (read_one t tree tree' e s)
 
--- what each answer says of its set, where it has one
+-- `Says` is true of the set of each possible result that has one
 abbrev EachSet : List IdentifierValue → Text → Compat → (RangeSet → Type 0) → Type 0
 EachSet bound_pre t mode Says = (r : Result RangeSet RangeError) → IsAnswer bound_pre t mode r → IfOk r Says
 
--- what an answer says, however raised bounds are written
+-- the clauses with any pre-release for raised bounds
 module _ (bound_pre : List IdentifierValue) (t : Text) (mode : Compat) where
   pub as_rewritten : EachSet bound_pre t mode (λ set. (tree : SetTree) → Spells tree t → set_of set ≡ written_set bound_pre mode tree)
   as_rewritten (Ok set) h = λ tree s. rw (← read_one t h.0 tree h.1 s) h.3
@@ -78,7 +79,7 @@ module _ (bound_pre : List IdentifierValue) (t : Text) (mode : Compat) where
         out_of_memory = λ e. (h.0, spelled, h.2);
       }
 
-  -- the tree of a printable set
+  -- some tree spells the text of a printable set, fits, and is rewritten to that set
   again : (s : PlainSet) → IsPrintableSet s → s.compat ≡ mode → t ≡ set_text s
       → (tree : SetTree) × Spells tree t × (fits mode tree ≡ true) × (written_set bound_pre mode tree ≡ s)
   again s p m e = rw (e, ← m) (printed_again bound_pre s p)
@@ -114,7 +115,7 @@ module _ (t : Text) (mode : Compat) where
       ∙ own_meaning_meets mode tree v own
   implied (Err e) h = tt
 
-  -- with exact bounds
+  -- the clauses for exact bounds
   pub exact_meaning : EachSet lowest_pre_release t mode
       (λ set. (tree : SetTree) (v : PlainVersion) → Spells tree t → meets_set v (set_of set) ≡ meets_tree mode tree v)
   exact_meaning (Ok set) h = λ tree v s. ap (meets_set v) (as_rewritten _ t mode (Ok set) h tree s)

@@ -1,5 +1,6 @@
 -- serves: semver_ranges::laws::meanings_agree, exact
--- Each row of the table means what its form means, but for pre-releases of its raised bound; with an exact bound, without exception.
+-- A version satisfies the comparators of a cell if and only if it satisfies the term, except that a
+-- pre-release of the raised bound also satisfies them. With an exact bound there is no exception.
 use Rattle.std.proofs.lemmas.Bool.Decides.{nat_tests}
 use Rattle.std.proofs.Common.{◌≡◌, ℕ, zero, suc, Bool, true, false, not, ◌&&◌, ◌||◌, ◌==◌, nat_eq, if◌then◌else◌, List, [], ◌∷◌}
 use Rattle.std.proofs.Common.{refl, ◌∙◌, inl, inr, arith, Option, Some, None}
@@ -24,12 +25,13 @@ use Rattle.semver_ranges.specs.ExactBounds.{lowest_pre_release}
 use Rattle.semver_ranges.specs.Meeting.{meets_comparator, has_pre_release, is_pre_release_of}
 use Rattle.semver_ranges.proofs.CaretPlaces.{same_agreement}
 
--- the order of two versions, from the orders of their parts
+-- the order of two versions, from the orders of their three numbers and of their pre-releases
 abbrev pub compared : Ordering → Ordering → Ordering → Ordering → Ordering
 compared o o' o'' o4 = ordering_then o (ordering_then o' (ordering_then o'' o4))
 
--- numbers of a version against numbers that stay: lower, the same, higher
--- (the order of what begins with them, by that of what follows; whether they are the same, asked from either side)
+-- how numbers compare with other numbers: below, equal or above. The first index gives the order of
+-- lists that begin with them, from the order of the rests. The others say whether they are equal,
+-- tested from either side
 pub data Step : (Ordering → Ordering) → Bool → Bool → Type 0 where
   lower : Step (λ o. Less) false false
   level : Step (λ o. o) true true
@@ -55,19 +57,19 @@ pub numbers_step : (v w : PlainVersion)
     (pointwise nat_eq (numbers w) (numbers v)) (pointwise nat_eq (numbers v) (numbers w))
 numbers_step v w = and_step (step v.major w.major) (and_step (step v.minor w.minor) (and_step (step v.patch w.patch) level))
 
--- a pre-release against that of a bound: the same, below it, above it
--- (the order against it, whether it is below)
+-- how a pre-release compares with that of a bound: equal, below or above. The indices are the
+-- order, and whether it is below
 pub data Tail : Ordering → Bool → Type 0 where
   same : Tail Equal false
   pre : Tail Less true
   past : Tail Greater false
 
--- against none: below it is any pre-release
+-- if the bound has no pre-release, every pre-release is below
 tail : (q : List IdentifierValue) → Tail (pre_cmp q []) (not (is_empty q))
 tail [] = same
 tail (x ∷ xs) = pre
 
--- against the lowest one: nothing is below it
+-- if the bound has the lowest pre-release, none is below
 pub floor : (q : List IdentifierValue) → Tail (pre_cmp q lowest_pre_release) false
 floor [] = past
 floor (numeric zero ∷ []) = same
@@ -80,19 +82,21 @@ lower_tail same = refl
 lower_tail pre = refl
 lower_tail past = refl
 
--- the stated lists are of none to three numbers
+-- a list of at most three numbers
 pub data Shape : List ℕ → Type 0 where
   none : Shape []
   one : (x : ℕ) → Shape (x ∷ [])
   two : (x y : ℕ) → Shape (x ∷ y ∷ [])
   three : (x y w : ℕ) → Shape (x ∷ y ∷ w ∷ [])
 
--- whether a version with the numbers of the bound is below it, where i says so of its pre-release
+-- whether a version has the numbers of a bound, and a pre-release below that of the bound; i says
+-- whether the pre-release is below
 abbrev excepted : Bool → PlainVersion → Option PlainVersion → Bool
 excepted i v None = false
 excepted i v (Some bound) = pointwise nat_eq (numbers v) (numbers bound) && i
 
--- against a bound without pre-release: the pre-releases of the bound; against an exact one: nothing
+-- for a bound without a pre-release, the pre-releases of the bound are excepted; for an exact
+-- bound, no version is
 excepted_plainly : (v : PlainVersion) (bound : Option PlainVersion) → excepted (has_pre_release v) v bound ≡ is_pre_release_of v bound
 excepted_plainly v None = refl
 excepted_plainly v (Some bound) = and_comm _ (has_pre_release v)
@@ -101,14 +105,16 @@ excepted_never : (v : PlainVersion) (bound : Option PlainVersion) → excepted f
 excepted_never v None = refl
 excepted_never v (Some bound) = and-false _
 
--- what a row says: the comparators of its cell are met exactly if its meaning is, or the version is excepted
+-- a version satisfies the comparators of a cell if and only if it satisfies the term or is excepted
 abbrev RowAgrees : List IdentifierValue → Bool → Compat → Form → List ℕ → List IdentifierValue → PlainVersion → Type 0
 RowAgrees f i mode form s p v = list_all (meets_comparator v) (written_cell f (cell mode form s) s (filled s p))
     ≡ (meets_stated mode form s (filled s p) v || excepted i v (cell_raised (cell mode form s) s))
 
--- the rows of a version against numbers and p, where i says whether its pre-release is below that of the bound
+-- f is the pre-release of a raised bound, p is that of the partial version, and i says whether the
+-- pre-release of v is below f
 module _ (v : PlainVersion) (f p : List IdentifierValue) {i : Bool} (t : is_lt (pre_cmp v.pre f) ≡ i) where
-  -- `>=z <up(k)` is not below z with agreement on k numbers, but for what is excepted
+  -- a version satisfies `>=z <up(k)` if and only if it isn't below z and agrees on k numbers, or it
+  -- is excepted
   abbrev Within : ℕ → List ℕ → Type 0
   Within k s = let z = filled s p in
       (is_ge (precedence v z) && (is_lt (precedence v (up_with f k s)) && true))
@@ -155,14 +161,15 @@ module _ (v : PlainVersion) (f p : List IdentifierValue) {i : Bool} (t : is_lt (
   any_row mode form (two x y) = row_two mode form x y
   any_row mode form (three x y w) = row_three mode form x y w
 
--- the comparators of a cell are met exactly if its meaning is, or the version is a pre-release of its bound
+-- a version satisfies the comparators of a cell if and only if it satisfies the term or is a
+-- pre-release of its raised bound
 pub row : (v : PlainVersion) (mode : Compat) (form : Form) {s : List ℕ} → Shape s → (p : List IdentifierValue)
     → list_all (meets_comparator v) (cell_comparators (cell mode form s) s (filled s p))
     ≡ (meets_stated mode form s (filled s p) v || is_pre_release_of v (cell_raised (cell mode form s) s))
 row v mode form {s = s} shape p =
     rw (← excepted_plainly v (cell_raised (cell mode form s) s)) (any_row v [] p (lower_tail (tail v.pre)) mode form shape)
 
--- with exact bounds they are met exactly if its meaning is
+-- a version satisfies the comparators with an exact bound if and only if it satisfies the term
 pub exact_row : (v : PlainVersion) (mode : Compat) (form : Form) {s : List ℕ} → Shape s → (p : List IdentifierValue)
     → list_all (meets_comparator v) (written_cell lowest_pre_release (cell mode form s) s (filled s p))
     ≡ meets_stated mode form s (filled s p) v

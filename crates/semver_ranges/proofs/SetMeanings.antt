@@ -1,5 +1,6 @@
 -- serves: semver_ranges::laws::meanings_agree, exact
--- From simples to ranges and sets: however raised bounds are written, and whatever is asked of a comparator and of a term.
+-- If a test of the comparators of each term is equal to a test of the term, this extends to ranges
+-- and sets, for any table of comparators.
 use Rattle.std.proofs.Common.{arith}
 use Rattle.std.proofs.Common.{◌≡◌, Bool, List, [], ◌∷◌, map, refl}
 use Rattle.std.proofs.lemmas.List.Folds.{list_all-append}
@@ -20,7 +21,7 @@ use Rattle.semver_ranges.proofs.Rows.{Shape}
 use Rattle.semver_ranges.proofs.Tables.{IsTable, nothing_is, port_table}
 use Rattle.semver_ranges.proofs.Tests.{list_any-mapped}
 
--- a partial states none to three numbers
+-- a partial version states at most three numbers
 pub stated_shape : (p : PartialTree) → Shape (stated p)
 stated_shape (one a) = grind (arith, Shape.none, Shape.one)
 stated_shape (two a b) = grind (arith, Shape.none, Shape.one, Shape.two)
@@ -50,7 +51,7 @@ module _ {fit : Simple → Bool} {written : Simple → List PlainComparator} (ta
           simples_hold (left_side left ∷ right_side right ∷ []),
         )
 
--- a version meets a set exactly if some range has each term met
+-- a version satisfies the set of a tree if and only if it satisfies all terms of some range
 pub set_meets_by : {fit : Simple → Bool} {written : Simple → List PlainComparator} (table : IsTable fit written) (mode : Compat)
     (v : PlainVersion) (meets : Term → Bool)
     → ((s : Simple) → list_all (meets_comparator v) (written s) ≡ meets (of_simple s))

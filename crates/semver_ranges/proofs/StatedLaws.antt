@@ -1,5 +1,6 @@
 -- serves: semver_ranges::laws::stated_pre_releases_mean_the_text, exact
--- With exact bounds, comparators tell the rule that npm and Cargo's semver have for pre-releases.
+-- By the default rule for pre-releases, a text and its comparators with exact bounds are satisfied
+-- by the same versions.
 use Rattle.std.proofs.Common.{arith}
 use Rattle.std.proofs.lemmas.Bool.Decides.{nat_tests}
 use Rattle.std.proofs.Common.{◌≡◌, ℕ, Bool, true, false, not, ◌&&◌, ◌||◌, ◌==◌, nat_eq, if◌then◌else◌, List, [], length, map}
@@ -28,7 +29,6 @@ use Rattle.semver_ranges.proofs.Tables.{port_table}
 use Rattle.semver_ranges.proofs.SetMeanings.{stated_shape, range_holds}
 use Rattle.semver_ranges.proofs.Tests.{list_any-weaker, list_any-same, list_any-mapped, some_of_all}
 
--- two tests and what follows, in the other order
 reorder : (x y w : Bool) → ((x && not y) && w) ≡ ((x && w) && not y)
 reorder x y w = grind arith
 
@@ -38,14 +38,15 @@ with_z (against op) = true
 with_z (between k) = true
 with_z _ = false
 
--- where three numbers are stated, each does
+-- each cell for three stated numbers does
 three_with_z : (mode : Compat) (form : Form) (s : List ℕ) → with_z (three_stated mode form s) ≡ true
 three_with_z Cargo bare s = refl
 three_with_z Npm bare s = refl
 three_with_z _ _ s = refl
 
 module _ (v : PlainVersion) where
-  -- whether a comparator is met, and tells of no pre-release at the numbers of the version
+  -- whether the version satisfies a comparator, and the comparator doesn't have the version's three
+  -- numbers and a pre-release
   abbrev silent : PlainComparator → Bool
   silent c = meets_comparator v c && not (has_pre_release_at v c)
 
@@ -53,7 +54,8 @@ module _ (v : PlainVersion) where
       silent c ≡ meets_comparator v c
   silent_bound k s = grind (arith, nat_tests, lower_tail (floor v.pre))
 
-  -- of a cell's comparators only z tells of one
+  -- if a version satisfies the comparators of a cell, only the comparator with z can have its three
+  -- numbers and a pre-release
   silent_cell : (c : Cell) (s : List ℕ) (z : PlainVersion)
       → list_all silent (written_cell lowest_pre_release c s z)
       ≡ (list_all (meets_comparator v) (written_cell lowest_pre_release c s z)
@@ -64,7 +66,8 @@ module _ (v : PlainVersion) where
   silent_cell (below k) s z = rw silent_bound (sym (and-true _))
   silent_cell (between k) s z = rw (silent_bound k s) (search reorder)
 
-  -- z tells of one exactly if the partial states it
+  -- a cell compares with a z that has the version's numbers and a pre-release if and only if the
+  -- partial version states both
   told : (mode : Compat) (form : Form) {s : List ℕ} → Shape s → (parts : List IdentifierValue)
       → let pre : List IdentifierValue = (if length s == 3 then parts else []) in
       (with_z (cell mode form s) && (not (is_empty pre) && pointwise nat_eq (numbers v) (numbers (filled s pre))))
@@ -98,17 +101,18 @@ module _ (v : PlainVersion) where
           range_holds (port_table lowest_pre_release mode) silent (λ term. meets term && not (states term)) silent_simple refl r,
         ) (sym (some_of_all meets states (is_empty v.pre) (terms r)))
 
--- with exact bounds, a version meets comparators as stated exactly if it meets the text as stated
+-- by the default rule, a version satisfies the comparators with exact bounds if and only if it
+-- satisfies the text
 pub some_stated : (mode : Compat) (tree : SetTree) (v : PlainVersion)
     → meets_set_as_stated v (rewritten_exactly mode tree) ≡ meets_tree_as_stated mode tree v
 some_stated mode tree v = list_any-mapped _ _ _ (range_stated v mode) tree
 
--- what meets a text as stated meets its own meaning
+-- a version that satisfies a text by the default rule also satisfies it without that rule
 pub as_stated_means : (mode : Compat) (tree : SetTree) (v : PlainVersion) → IsTrue (meets_tree_as_stated mode tree v)
     → IsTrue (meets_tree mode tree v)
 as_stated_means mode tree v = list_any-weaker _ _ (λ r met. (and_parts _ _ met).0) tree
 
--- a release that meets a text's own meaning meets it as stated
+-- a release satisfies a text by the default rule if and only if it does without that rule
 pub stated_releases : (mode : Compat) (tree : SetTree) (v : PlainVersion) → v.pre ≡ []
     → meets_tree_as_stated mode tree v ≡ meets_tree mode tree v
 stated_releases mode tree v e = list_any-same _ _ (λ r. rw e (and-true _)) tree

@@ -1,5 +1,5 @@
 -- serves: semver_ranges::partial::Partial::new
--- What a partial states, by its components.
+-- The numbers and the pre-release that a partial version states, from its components.
 use Rattle.std.proofs.Common.{arith}
 use Rattle.std.proofs.Common.{◌≡◌, ℕ, Bool, true, false, ◌&&◌, ◌==◌, List, [], ◌∷◌, length, map, refl, sym, ap, ◌∙◌, Option}
 use Rattle.std.specs.Option.{is_some, unwrap_or}
@@ -24,14 +24,15 @@ use Rattle.semver_ranges.proofs.Tables.{begun_stated}
 use Rattle.semver_texts.specs.Texts.{cut_at_dots}
 use Rattle.semver_texts.proofs.Lists.{by_test}
 
--- numbers and a pre-release are what a tree states, where its numbers fit
+-- the stated numbers fit if and only if `fit` is true, and then `numbers` are these numbers, and v
+-- is the zero-filled version
 abbrev States : Bool → List ℕ → PlainVersion → List ℕ → PlainVersion → Type 0
 States fit numbers v stated filled = (list_all fits_u64 stated ≡ fit) × (fit ≡ true → (numbers ≡ stated) × (v ≡ filled))
 
 abbrev version : ℕ → ℕ → ℕ → List IdentifierValue → PlainVersion
 version x y z pre = record { major = x; minor = y; patch = z; pre = pre }
 
--- a tree whose second, third or no component is the first wildcard
+-- a partial version that states one, two or three numbers
 pub states_one : (t : PartialTree) (x : Option ℕ) (patch : Component) (pre : Text) → AreComponentsOf t (Number x) Wildcard patch pre
     → States (is_some x) (unwrap_or x 0 ∷ []) (version (unwrap_or x 0) 0 0 []) (stated t) (zero_filled t)
 states_one (one a) x patch pre is = grind arith
@@ -52,12 +53,13 @@ states_three (one a) x y z pre is = cc is.1
 states_three (two a b) x y z pre is = cc is.2
 states_three (three a b c parts build) x y z pre is = rw (is.0.0, is.1.0, is.2.0, is.3) (grind arith)
 
--- a pre-release that isn't there keeps nothing
+-- an empty pre-release has no identifiers
 pub none_kept : (pre : Text) → (length pre == 0) ≡ true → map kept (cut_at_dots pre) ≡ []
 none_kept [] e = refl
 none_kept (b ∷ pre) e = absurd (omega (arith, eqb-true (length (b ∷ pre)) 0 e))
 
--- with the lowest pre-release, where three numbers are stated and none
+-- `begun_as Lowest` gives the zero-filled version the pre-release `0` if three numbers and no
+-- pre-release are stated; otherwise the zero-filled version is unchanged
 lowest_filled : (t : PartialTree) → (length (stated t) == 3) ≡ true → map kept (pre_parts t) ≡ []
     → zero_filled (begun_as Lowest t) ≡ exact_bound (zero_filled t)
 lowest_filled (one a) all none = grind arith
@@ -79,7 +81,7 @@ kept_some (b ∷ pre) some e =
     omega (arith, length-slice_split is_dot (b ∷ pre), length-map (cut_at_dots (b ∷ pre)) kept, ap length e)
 
 module _ (t : PartialTree) (p : Partial) (is : IsPartialOf t p) where
-  -- the pre-release that it states
+  -- if three numbers are stated, the pre-release of p is that of t
   kept_here : p.fits ≡ true → (length (stated t) == 3) ≡ true → map kept (cut_at_dots p.pre.now) ≡ map kept (pre_parts t)
   kept_here y all = rw all at (ap (λ v. v.pre) (is.1 y).1)
 
@@ -109,7 +111,7 @@ module _ (t : PartialTree) (p : Partial) (is : IsPartialOf t p) where
     is.3,
   )
 
--- whether it states nothing, by its kind
+-- a partial version states no number if and only if its kind says so
 by_kind : (kind : PartialKind) (a b c : ℕ) → is_empty (stated_at kind a b c) ≡ states_none kind
 by_kind XRangeOnly a b c = refl
 by_kind _ a b c = refl

@@ -1,5 +1,6 @@
 -- serves: semver_ranges::range_set::RangeSet::parse
--- The comparators of a simple that was read, by the columns of the table.
+-- The desugared term of a term that was read has the comparators that the table gives, for each
+-- column of the table.
 use Rattle.std.proofs.Common.{arith}
 use Rattle.std.proofs.Common.{◌≡◌, true, false, ◌&&◌, List, [], refl, sym, ap, ◌∙◌}
 use Rattle.std.proofs.lemmas.Bool.{and_parts, and_left}
@@ -21,7 +22,8 @@ use Rattle.semver_ranges.specs.RewritingTable.{simple_fits}
 use Rattle.semver_ranges.specs.Steps.DesugaredViews.{cell_of, with_version, comparators_of, bounds_fit, IsPlaced, IsRow}
 use Rattle.semver_texts.proofs.Lists.{by_test}
 
--- the column where nothing is stated raises no bound, and compares with 0.0.0
+-- if no number is stated, `with_version` doesn't change the raised bound or the comparators of the
+-- cell
 nothing_raised : (form : Form)
     → cell_raised (with_version (nothing_stated form)) [] ≡ cell_raised (nothing_stated form) []
 nothing_raised bare = refl
@@ -33,18 +35,19 @@ nothing_written : (bound_pre : List IdentifierValue) (form : Form)
 nothing_written bound_pre bare = refl
 nothing_written bound_pre _ = refl
 
--- what states no number fits
+-- a partial version that states no number fits
 none_fits : (p : Partial) → (p.fits ≡ false → states_none p.kind ≡ false) → p.kind ≡ XRangeOnly → p.fits ≡ true
 none_fits p some kind = grind arith
 
--- the comparators are those of the cell
+-- the comparators of a desugared term are those of its cell
 cell_comparators : (raised : RaisedBounds) (b : Desugared) (p : Partial)
     → comparators_of raised b p ≡ written_cell (pre_of raised) (cell_of b) (stated_of p) (version_of p)
 cell_comparators raised (Against op) p = refl
 cell_comparators raised (Below place) p = refl
 cell_comparators raised (Between place) p = refl
 
--- cells that agree wherever the numbers fit
+-- `IsRow` holds if the cell of the desugared term and that of the table have the same raised bound
+-- and comparators whenever the numbers fit
 row_of : (mode : Compat) (s : Simple) (simple : read.Simple) (b : Desugared) → IsPlaced b simple.partial → IsSimpleOf s simple
     → (simple.partial.fits ≡ true
     → cell_raised (cell_of b) (stated s.partial) ≡ cell_raised (cell mode s.form (stated s.partial)) (stated s.partial))
@@ -64,7 +67,7 @@ row_of mode s simple b placed is raised comparators = (
     fits : p.fits ≡ true → bounds_fit b p ≡ simple_fits mode s
     fits f = rw ((is.1.1 f).0, sym is.1.0) (ap (λ bound. list_all fits_u64 (stated s.partial) && bound_fits bound) (raised f))
 
--- the column where nothing is stated
+-- the column for terms that state no number
 pub row_of_nothing : (mode : Compat) (s : Simple) (simple : read.Simple) (b : Desugared) → simple.partial.kind ≡ XRangeOnly
     → cell_of b ≡ with_version (nothing_stated (form_of simple.form)) → IsPlaced b simple.partial
     → IsSimpleOf s simple → IsRow mode s simple.partial b

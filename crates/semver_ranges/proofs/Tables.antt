@@ -1,5 +1,5 @@
 -- serves: semver_ranges::laws::stated_pre_releases_mean_the_text, exact
--- What every table of simples says of a side that states nothing.
+-- What the proofs require of a table that gives the comparators of each term.
 use Rattle.std.proofs.Common.{◌≡◌, ℕ, true, List, [], ◌∷◌, Bool, refl}
 use Rattle.semver_ranges.specs.declared.range.Compat.{Compat}
 use Rattle.semver_ranges.specs.declared.partial.LowerBounds.{LowerBounds}
@@ -14,7 +14,9 @@ use Rattle.semver_ranges.specs.Steps.PartialViews.{begun_as}
 use Rattle.semver_ranges.specs.Steps.RangeEvents.{wildcard}
 use Rattle.semver_ranges.specs.RewritingTable.{PlainComparator, comparator, simple_fits, written_simple}
 
--- such a side is `>=0.0.0`, and fits; and so is the wildcard of an empty range
+-- a side of a hyphen range that states no number gives `>=0.0.0`, and so does the wildcard for an
+-- empty range. Such a right side fits, and so does the wildcard. Whether a left side fits doesn't
+-- depend on how `begun_as` writes it
 pub record IsTable (fit : Simple → Bool) (written : Simple → List PlainComparator) : Type 0 where
   pub left : (p : PartialTree) → stated p ≡ [] → written (left_side p) ≡ comparator Gte zero_version ∷ []
   pub right : (p : PartialTree) → stated p ≡ [] → written (right_side p) ≡ comparator Gte zero_version ∷ []
@@ -27,13 +29,13 @@ pub nothing_is : (s : List ℕ) → is_empty s ≡ true → s ≡ []
 nothing_is [] e = refl
 nothing_is (n ∷ s) e = cc
 
--- a bound that begins with a partial states its numbers
+-- `begun_as` doesn't change the stated numbers
 pub begun_stated : (lower : LowerBounds) (p : PartialTree) → stated (begun_as lower p) ≡ stated p
 begun_stated Stated p = refl
 begun_stated Lowest (three a b c [] build) = refl
 begun_stated Lowest p = refl
 
--- the port's is one, however raised bounds are written
+-- the table of `RewritingTable` is one, with any pre-release for raised bounds
 pub port_table : (bound_pre : List IdentifierValue) (mode : Compat) → IsTable (simple_fits mode) (written_simple bound_pre mode)
 port_table bound_pre mode = record {
   left = λ p e. rw e;

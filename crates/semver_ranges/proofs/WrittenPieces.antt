@@ -1,5 +1,6 @@
 -- serves: semver_ranges::laws::one_tree
--- Each written piece, before a text that ends it, is read back: components, parts, partials, operators and simples.
+-- If a text begins with a component, parts, a partial version, an operator or a term, and the rest
+-- of the text ends it, the reader finds it.
 use Rattle.std.proofs.Common.{◌≡◌, ℕ, Bool, true, false, not, ◌||◌, ◌==◌, List, [], ◌∷◌, ◌++◌, codes, refl, ap, ◌∙◌, inl, inr}
 use Rattle.std.proofs.Common.{Some, append_assoc, append-nil, arith, ◌-◌, length, subst, sym}
 use Rattle.std.proofs.lemmas.Bool.Decides.{nat_tests}
@@ -24,7 +25,7 @@ use Rattle.semver_texts.proofs.PartRuns.{split_parts}
 use Rattle.semver_ranges.proofs.Tests.{list_all-weaker}
 use Rattle.semver_ranges.proofs.ReadingPieces.{starts, starts-append, is_word_byte, word_starts, word_parts, length_before}
 
--- a text at which a run of such bytes stops
+-- whether a text is empty or begins with a byte that fails p
 abbrev pub stops : (ℕ → Bool) → Text → Bool
 stops p [] = true
 stops p (b ∷ t) = not (p b)
@@ -39,11 +40,12 @@ back-append p [] [] e s = refl
 back-append p [] (b ∷ r) e s = grind arith
 back-append p (x ∷ a) r e s = grind (arith, back-append p a r)
 
--- a byte of a class isn't a byte outside of it
+-- two bytes differ if only one of them passes p
 pub apart : (p : ℕ → Bool) (b c : ℕ) → p b ≡ true → p c ≡ false → (b == c) ≡ false
 apart p b c within without = grind (arith, nat_tests)
 
--- where no byte of a partial follows, no run of such bytes goes on
+-- a letter, a digit, `-`, `.` or `+`: a partial version ends before any other byte, and at the end
+-- of the text
 abbrev pub is_partial_byte : ℕ → Bool
 is_partial_byte b = is_dotted_byte b || (b == 43)
 
@@ -58,7 +60,7 @@ no_dotted : (t : Text) → ends_partial t ≡ true → stops is_dotted_byte t �
 no_dotted [] e = refl
 no_dotted (b ∷ t) e = grind arith
 
--- the bytes that a range is written with but its blanks, which are none of them
+-- the bytes of a range other than blanks; below, that none of them is a blank
 abbrev pub is_written : ℕ → Bool
 is_written b = is_partial_byte b || ((b == 42) || (is_in_range 60 62 b || ((b == 94) || ((b == 124) || (b == 126)))))
 
@@ -67,12 +69,11 @@ no_blank_byte Crate b e = grind (arith, nat_tests)
 no_blank_byte Cargo b e = grind (arith, nat_tests)
 no_blank_byte Npm b e = grind (arith, nat_tests)
 
--- where a word ends, a partial does
 pub word_ends_partial : (d : Grammar) (t : Text) → ends_word d t ≡ true → ends_partial t ≡ true
 word_ends_partial d [] e = refl
 word_ends_partial d (b ∷ t) e = let h = no_blank_byte d b in grind (arith, nat_tests)
 
--- a component, before what isn't a digit
+-- a component is read if no digit follows it
 digit_bytes : (t : Text) → all_ascii_digits t ≡ true → list_all is_ascii_digit t ≡ true
 digit_bytes [] e = refl
 digit_bytes (b ∷ t) e = grind (arith, digit_bytes t)
@@ -100,7 +101,7 @@ parts_read x xs u e s =
     let joined = in_joined x xs e in
     rw (front-append is_dotted_byte _ u joined s, back-append is_dotted_byte _ u joined s, split_parts x xs e, e)
 
--- a partial: its build, its pre-release, its components
+-- a partial version is read: its build metadata, its pre-release, and then its components
 module _ (a b c : Text) where
   after_pre_read : (pre build : List Text) (u : Text) → list_all is_part build ≡ true → ends_partial u ≡ true
       → after_pre a b c pre (marked (codes "+") build ++ u) ≡ Some (three a b c pre build, u)
@@ -135,7 +136,7 @@ stops_at_qualifier [] [] u e = no_digit u e
 stops_at_qualifier [] (x ∷ xs) u e = refl
 stops_at_qualifier (y ∷ ys) build u e = refl
 
--- a partial, before what no byte of one begins
+-- a partial version is read if the rest ends it; below, a word
 pub first_read : (p : PartialTree) (w u : Text) → SpellsPartial p w → ends_partial u ≡ true → with_first (component (w ++ u)) ≡ Some (p, u)
 first_read (one a) w u (h, k, text) e =
     rw (text, append-nil, component_read a u (grind arith) (no_digit u e)) (after_one_read a u e)
@@ -157,12 +158,13 @@ partial_read d role p w u h e =
     subst (λ n. takes d role p n ≡ true) (sym (length_before (w ++ u) w u refl)) word.taken in
     rw (word.after u, first_read p word.back u word.spelled (word_ends_partial d u e), taken, e)
 
--- an operator, before a word
+-- an operator is read if a word follows it
 module _ (d : Grammar) where
   pub blanks_after : (blanks t : Text) → AreBlanks d blanks → stops (is_blank d) t ≡ true → after_blanks d (blanks ++ t) ≡ t
   blanks_after = back-append _
 
-  -- blanks before a word begin with no such byte
+  -- if a byte is neither a blank nor the first byte of a word, no text of blanks and a word begins
+  -- with it
   pub no_sign : (sign : ℕ) → is_blank d sign ≡ false → is_word_byte sign ≡ false → (blanks t : Text) → AreBlanks d blanks
       → starts is_word_byte t ≡ true → stops (λ b. b == sign) (blanks ++ t) ≡ true
   no_sign sign blank other [] [] h k = cc
@@ -206,7 +208,7 @@ module _ (d : Grammar) where
   ]
   operator_read _ sign t (blanks, h, text) e = rw (text, blanks_after blanks t h (no_blank t e))
 
-  -- a simple, and the blanks after it
+  -- a term is read, together with the blanks after it
   pub simple_read : (s : Simple) (w gap u : Text) → SpellsSimple d s w → AreBlanks d gap → ends_word d (gap ++ u) ≡ true
       → stops (is_blank d) u ≡ true → simple d (w ++ (gap ++ u)) ≡ Some (s, u)
   simple_read s w gap u (sign, text, form, spelled, whole) blanks ends first =

@@ -5,7 +5,7 @@ use Rattle.semver_ranges.proofs.LongWords.{reads_same, reads_some}
 use Rattle.semver_ranges.proofs.npm_lengths.is_short_word.Goals as goal
 use Rattle.semver_ranges.proofs.npm_lengths.is_short_word.Goals.{In-Some}
 
--- the components that were read are those of its partial
+-- the components that were read are those of the partial version that spells the text
 written : (c : In-Some) (p : PartialTree) → SpellsPartial p c.after_v-partial.result.now → AreWritten p c.in-Some.written
 written c p h =
     let found = c.in-Some.ensures in
