@@ -1,5 +1,6 @@
 -- serves: version_sets::version_set::VersionSet::contains_ref
--- What a borrowed version tells of the version that was read.
+-- How the lookup of a borrowed version relates to that of its version, and a binary search among
+-- the boundaries of pre-releases.
 use Rattle.std.proofs.Common.{◌≡◌, ◌↔◌, ℕ, ◌+◌, ◌<◌, ◌≤◌, Bool, true, false, not, List, [], ◌∷◌, length, get_or, refl, sym, ap, ◌∙◌, map}
 use Rattle.std.proofs.Common.{true≢false}
 use Rattle.std.proofs.Common.{arith, is_ge}
@@ -22,7 +23,7 @@ use Rattle.version_sets.specs.Boundaries.{is_inside, IsIncreasing}
 use Rattle.version_sets.specs.VersionSets.{SetValue, contains, contains_kept}
 use Rattle.version_sets.proofs.SearchLaws.{is_passed, passed_before, reversed_ge}
 
--- a release is its numbers
+-- a release consists of its three numbers
 pub release_is : (v : PlainVersion) (answer : Bool) → answer ≡ false → answer ≡ not (is_empty v.pre) → (major minor patch : ℕ)
     → major ≡ v.major → minor ≡ v.minor → patch ≡ v.patch
     → ◌≡◌ {A = PlainVersion} (record { major = major; minor = minor; patch = patch; pre = [] }) v
@@ -37,7 +38,7 @@ release_is v answer says told major minor patch at_major at_minor at_patch = λ 
     none [] e = refl
     none (id ∷ pre) e = absurd (true≢false (sym e))
 
--- a pre-release is in the set where its boundaries say so
+-- the boundaries of the pre-releases decide whether a pre-release is in the set
 pub pre_release_has : (v : PlainVersion) (set : SetValue) (answer : Bool) → answer ≡ true → answer ≡ not (is_empty v.pre)
     → is_inside precedence set.pre_releases v ≡ contains set v
 pre_release_has v set answer says told = at (is_empty v.pre) (sym says ∙ told)
@@ -48,7 +49,7 @@ pre_release_has v set answer says told = at (is_empty v.pre) (sym says ∙ told)
     at true e = absurd (true≢false e)
     at false e = refl
 
--- each text that has a borrowed version spells its version
+-- a result that is right for a borrowed version is right for the version that its text spells
 pub of_texts : (set : SetValue) (o : VersionRefValue)
     → ((v : VersionValue) (text : Text) → IsVersionRefIn Crate text o → SpellsIn Crate v text → v ≡ version_of o)
     → ((text : Text) → IsVersionRefIn Crate text o ↔ IsVersionRefOf text o) → (answer : Bool)
@@ -67,7 +68,8 @@ of_texts set o same same_ref answer told text v borrowed spells =
 abbrev pub is_reached : PlainVersion → ReadVersion → Bool
 is_reached v = is_passed precedence precedence_total read_plain v
 
--- the boundaries before a place are at or below the version, those from another on are above it
+-- the boundaries before the index `low` are at or below the version, and those from the index
+-- `high` on are above it
 abbrev pub IsNarrowed : PlainVersion → List ReadVersion → ℕ → ℕ → Type 0
 IsNarrowed v boundaries low high =
     AllWithin (λ s. is_reached v s ≡ true) boundaries 0 low × AllWithin (λ s. is_reached v s ≡ false) boundaries high (length boundaries)

@@ -1,5 +1,5 @@
 -- serves: version_sets::ranges::Conjunction::new, all
--- What is at or above a version, what is above it, and what has its numbers.
+-- Which versions are at or above a version, which are above it, and which have its numbers.
 use Rattle.std.proofs.Common.{rules, arith, ◌≡◌, zero, suc, Bool, true, false, ◌&&◌, ◌||◌, not, List, [], ◌∷◌, ◌++◌, refl, sym}
 use Rattle.std.proofs.Common.{ap, ap₂, ◌∙◌}
 use Rattle.std.proofs.Common.{append-nil, nat_cmp, Ordering, Less, Equal, Greater, is_eq, is_ge, is_gt, ℕ, nat_eq}
@@ -17,7 +17,7 @@ use Rattle.version_sets.specs.Steps.Spans.{reached}
 use Rattle.version_sets.specs.Steps.SpanViews.{is_past, successor}
 use Rattle.version_sets.specs.Releases.{release_value}
 
--- ---- precedence goes by the numbers, and then by the pre-releases
+-- ---- precedence compares the numbers, and then the pre-releases
 
 regroup : (a b c d : Ordering)
     → ordering_then a (ordering_then b (ordering_then c d)) ≡ ordering_then (ordering_then a (ordering_then b c)) d
@@ -26,12 +26,13 @@ regroup a b c d = grind arith
 pub by_numbers : (v w : PlainVersion) → precedence v w ≡ ordering_then (numbers_cmp v w) (pre_cmp v.pre w.pre)
 by_numbers v w = regroup (nat_cmp v.major w.major) (nat_cmp v.minor w.minor) (nat_cmp v.patch w.patch) (pre_cmp v.pre w.pre)
 
--- a test of the pre-releases that answers as another does, after any numbers
+-- two tests that agree on less, on greater, and on r and s, agree on r and s after any comparison
+-- of the numbers
 pub then_alike : (f g : Ordering → Bool) (o r s : Ordering) → f Less ≡ g Less → f Greater ≡ g Greater → f r ≡ g s
     → f (ordering_then o r) ≡ g (ordering_then o s)
 then_alike f g o r s e h k = grind arith
 
--- the number 0 is the lowest list of identifiers
+-- the number 0 is the lowest list of one or more identifiers
 pub zero_lowest : (x : IdentifierValue) (xs : List IdentifierValue) → is_ge (slice_cmp identifier_cmp (x ∷ xs) (numeric 0 ∷ [])) ≡ true
 zero_lowest (numeric zero) [] = refl
 zero_lowest (numeric zero) (x ∷ xs) = refl
@@ -39,7 +40,7 @@ zero_lowest (numeric (suc n)) xs =
     ap (λ o. is_ge (ordering_then o (slice_cmp identifier_cmp xs []))) (sym (nat_cmp_is (suc n) 0 Greater (omega arith)))
 zero_lowest (alphanumeric t) xs = refl
 
--- nothing is between a list and that with the number 0 after it
+-- no list is between a list of identifiers and that list with the number 0 after it
 nothing_between : (xs ws : List IdentifierValue)
     → is_ge (slice_cmp identifier_cmp xs (ws ++ numeric 0 ∷ [])) ≡ is_gt (slice_cmp identifier_cmp xs ws)
 nothing_between [] [] = refl
@@ -47,14 +48,15 @@ nothing_between [] (w ∷ ws) = refl
 nothing_between (x ∷ xs) [] = zero_lowest x xs
 nothing_between (x ∷ xs) (w ∷ ws) = then_alike is_ge is_gt (identifier_cmp x w) _ _ refl refl (nothing_between xs ws)
 
--- ---- releases and pre-releases against a version with a pre-release, and against one without
+-- ---- releases and pre-releases, compared with a version that has a pre-release, and with one that has none
 
--- the same, where the other test sees the numbers alone
+-- a test f of the numbers equals a test g of the versions if both agree on less and greater, and f
+-- on equal numbers agrees with g on the pre-releases
 numbers_decide : (f g : Ordering → Bool) (o r : Ordering)
     → f Less ≡ g Less → f Greater ≡ g Greater → f Equal ≡ g r → f o ≡ g (ordering_then o r)
 numbers_decide f g o r e h k = grind arith
 
--- the tests of precedence by what they answer where the numbers are equal
+-- such a test of the numbers of two versions equals the test of their precedence
 pub against : (f g : Ordering → Bool) (v w : PlainVersion) → f Less ≡ g Less → f Greater ≡ g Greater → f Equal ≡ g (pre_cmp v.pre w.pre)
     → f (numbers_cmp v w) ≡ g (precedence v w)
 against f g v w l m e = numbers_decide f g (numbers_cmp v w) _ l m e ∙ sym (ap g (by_numbers v w))
@@ -75,14 +77,16 @@ right_after [] ws e f = absurd (search rules)
 right_after (x ∷ xs) [] e f = absurd (search rules)
 right_after (x ∷ xs) (w ∷ ws) e f = nothing_between (x ∷ xs) (w ∷ ws)
 
--- what is at or above it, with one more identifier, the number 0, is above it
+-- a pre-release is above w if and only if it is at or above w with the number 0 after its
+-- identifiers
 pub right_above : (w v : PlainVersion) → is_empty w.pre ≡ false → is_empty v.pre ≡ false
     → is_ge (precedence v (record w { pre = w.pre ++ numeric 0 ∷ [] })) ≡ is_gt (precedence v w)
 right_above w v f e =
     ap is_ge (by_numbers v (record w { pre = w.pre ++ numeric 0 ∷ [] }))
     ∙ then_alike is_ge is_gt (numbers_cmp v w) _ _ refl refl (right_after v.pre w.pre e f) ∙ sym (ap is_gt (by_numbers v w))
 
--- where the pre-releases at or above a version begin, or those above it
+-- the pre-releases at or above w, or only those above w if `above` is true, are those at or above w
+-- with this successor as its pre-release
 pub past : (above : Bool) (w v : PlainVersion) → is_empty w.pre ≡ false → is_empty v.pre ≡ false
     → is_ge (precedence v (record w { pre = successor w.pre (above || is_empty w.pre) })) ≡ is_past above (precedence v w)
 past true w v f e = right_above w v f e
@@ -94,7 +98,7 @@ before_release [] ws e f = absurd (search rules)
 before_release (x ∷ xs) [] e f = refl
 before_release (x ∷ xs) (w ∷ ws) e f = absurd (search rules)
 
--- ---- what is from a place on
+-- ---- versions at or above a bound
 
 abbrev pub from : Option PlainVersion → PlainVersion → Bool
 from b v = reached precedence b v
@@ -106,7 +110,7 @@ pub from-lowest : (n : Option Release) (v : PlainVersion) → is_empty v.pre ≡
 from-lowest None v e = refl
 from-lowest (Some r) v e = sym (against is_ge is_ge v (lowest_place r) refl refl (from_lowest v.pre e))
 
--- ---- the numbers of a version and no others
+-- ---- versions with the numbers of a version
 
 is_eq_then : (r s : Ordering) → is_eq (ordering_then r s) ≡ (is_eq r && is_eq s)
 is_eq_then r s = grind arith
@@ -124,7 +128,8 @@ same_numbers v w =
     (is_eq_then (nat_cmp v.minor w.minor) (nat_cmp v.patch w.patch)
     ∙ ap₂ (λ a b. a && b) (same_number v.minor w.minor) (same_number v.patch w.patch ∙ sym (and_true (nat_eq v.patch w.patch))))
 
--- from the lowest pre-release of some numbers on, and below what is above these
+-- a pre-release has the numbers of w if and only if it is at or above their lowest pre-release, and
+-- its numbers aren't above them
 pub stated_numbers : (m : Release) (w low : PlainVersion) → release_value m ≡ record w { pre = [] } → low ≡ lowest_place m
     → is_empty w.pre ≡ false
     → (v : PlainVersion) (above : Bool) → is_empty v.pre ≡ false → above ≡ is_gt (numbers_cmp v (release_value m))

@@ -1,5 +1,6 @@
 -- serves: version_sets::laws::one_set
--- Lists of boundaries: what is below the first is not in the set, and lists that boundary alike are one.
+-- Lists of boundaries: an element below the first is outside, and two lists with the same elements
+-- inside are equal.
 use Rattle.std.proofs.Common.{arith, ◌≡◌, Bool, true, false, not, List, [], ◌∷◌, refl, sym, ap, ap₂, ◌∙◌, subst, true≢false}
 use Rattle.std.specs.List.{AllByRecursion}
 use Rattle.std.specs.Cmp.{IsTotalOrder, tied_itself}
@@ -12,24 +13,25 @@ use Rattle.version_sets.specs.Boundaries.{is_inside, IsBelowFirst, IsIncreasing}
 not_once : (a b : Bool) → not a ≡ not b → a ≡ b
 not_once a b e = grind arith
 
--- the three answers, each with its equation
+-- the three results of a comparison, each with its equation
 pub by_order : (r : Ordering) {G : Type 0} → (r ≡ Less → G) → (r ≡ Equal → G) → (r ≡ Greater → G) → G
 by_order Less f g h = f refl
 by_order Equal f g h = g refl
 by_order Greater f g h = h refl
 
--- below, or at or above
+-- two cases of a comparison: below, and at or above
 pub by_place : (r : Ordering) {G : Type 0} → (r ≡ Less → G) → (is_ge r ≡ true → G) → G
 by_place Less f g = f refl
 by_place Equal f g = g refl
 by_place Greater f g = g refl
 
 module _ {T : Type 0} (cmp : T → T → Ordering) where
-  -- what is below the first boundary is not in the set
+  -- an element below the first boundary is outside
   pub is_inside-below : (v : T) (ys : List T) → IsBelowFirst cmp v ys → is_inside cmp ys v ≡ false
   is_inside-below v ys e = grind arith
 
-  -- at and above the first boundary, the others turn
+  -- an element at or above the first boundary is inside if and only if it is outside the other
+  -- boundaries
   pub is_inside-at : (v b : T) (ys : List T) → is_ge (cmp v b) ≡ true → is_inside cmp (b ∷ ys) v ≡ not (is_inside cmp ys v)
   is_inside-at v b ys e = grind arith
 
@@ -41,11 +43,12 @@ module _ {T : Type 0} (cmp : T → T → Ordering) where
     below-first v b [] h k = k
     below-first v b (c ∷ ys) h k = o.trans v b c h k
 
-    -- the first boundary is in the set
+    -- the first boundary is inside
     pub is_inside-first : (b : T) (ys : List T) → IsBelowFirst cmp b ys → is_inside cmp (b ∷ ys) b ≡ true
     is_inside-first b ys h = is_inside-at b b ys (ap is_ge (tied_itself o b)) ∙ ap not (is_inside-below b ys h)
 
-    -- what lists with one first element boundary alike, they boundary alike after it
+    -- two lists that have the same first boundary and agree on v also agree on v without that
+    -- boundary
     alike_after : (v b : T) (xs ys : List T) → IsBelowFirst cmp b xs → IsBelowFirst cmp b ys
         → is_inside cmp (b ∷ xs) v ≡ is_inside cmp (b ∷ ys) v → is_inside cmp xs v ≡ is_inside cmp ys v
     alike_after v b xs ys s t h =
@@ -53,7 +56,7 @@ module _ {T : Type 0} (cmp : T → T → Ordering) where
         (λ g. not_once _ _ (sym (is_inside-at v b xs g) ∙ h ∙ is_inside-at v b ys g))
 
     module _ (same : IsAntisymmetric cmp) (P : T → Type 0) where
-      -- increasing lists of elements with P, that boundary each element with P alike, are one list
+      -- increasing lists of elements with P are equal if the same elements with P are inside both
       pub one_list : (xs ys : List T) → IsIncreasing cmp xs → IsIncreasing cmp ys → AllByRecursion P xs → AllByRecursion P ys
           → ((v : T) → P v → is_inside cmp xs v ≡ is_inside cmp ys v) → xs ≡ ys
       one_list [] [] s t p q h = refl

@@ -1,5 +1,6 @@
 -- serves: version_sets::set_ranges::VersionSet::release_ranges
--- What of identifiers and versions is the same however their digits are read, and how these are kept.
+-- Properties of identifiers and versions that don't depend on how identifiers of digits are read,
+-- and how such identifiers are kept.
 use Rattle.std.proofs.Common.{◌≡◌, ℕ, ◌^◌, ◌<◌, ◌≤◌, Bool, true, false, ◌&&◌, not, List, [], ◌∷◌, map, arith, refl, sym, ap, ◌∙◌}
 use Rattle.std.specs.Prelude.{◌==◌, nat_lt, if◌then◌else◌}
 use Rattle.std.specs.List.{list_all}
@@ -49,7 +50,8 @@ pub by_zero : (d : Digits) (ids : List IdentifierValue) (zero : Bool)
 by_zero Kept ids zero = refl
 by_zero AnySize ids zero = map_zero ids zero
 
--- a text that is read as a number is no other number than one of 2^64 or more
+-- an identifier that is kept as a text is never read as the number 0, since it is read as a number
+-- only from 2^64 on
 large_first : (t : Text) → is_lowest_pre (any_size (alphanumeric t) ∷ []) ≡ false
 large_first t =
     by_test (is_large t)
@@ -71,9 +73,7 @@ lowest_by AnySize ((alphanumeric t) ∷ next ∷ ids) = other (any_size (alphanu
     other (numeric n) y more = refl
     other (alphanumeric t) y more = refl
 
--- ---- their texts
-
--- ---- as they are kept
+-- ---- identifiers as they are kept
 
 small_kept : (n : ℕ) → n < 2 ^ 64 → as_kept (numeric n) ≡ numeric n
 small_kept n small = rw (below n small) refl
@@ -97,7 +97,7 @@ kept_text AnySize t =
     above : (n : ℕ) → 2 ^ 64 ≤ n → nat_lt n (2 ^ 64) ≡ false
     above n large = grind (arith, nat_tests)
 
--- what fits is kept as it is
+-- an identifier that passes `is_kept` is kept unchanged, and so is a printable version
 fits_kept : (id : IdentifierValue) → is_kept id ≡ true → as_kept id ≡ id
 fits_kept (numeric n) e = rw e refl
 fits_kept (alphanumeric t) e = refl
@@ -114,7 +114,7 @@ plain_fits v e = λ i. record {
   pre = all_fit v.pre (and_parts (list_all fits_u64 (numbers v)) _ e).1 i;
 }
 
--- ---- beside a release
+-- ---- comparisons of a release
 
 released_pre : (d : Digits) (pre ids : List IdentifierValue) → is_empty pre ≡ true → pre_cmp pre (identifiers_by d ids) ≡ pre_cmp pre ids
 released_pre d [] [] e = ap (pre_cmp []) (by_none d)
@@ -124,7 +124,7 @@ released_pre d (x ∷ xs) ids e = cc
 pub released : (d : Digits) (v w : PlainVersion) → is_empty v.pre ≡ true → precedence v (plain_by d w) ≡ precedence v w
 released d v w e = rw (released_pre d v.pre w.pre e) refl
 
--- ---- where they can be read back
+-- ---- identifiers that can be read back
 
 prints_id : (d : Digits) (id : IdentifierValue) → is_kept id ≡ true → is_kept_by d (identifier_by d id) ≡ true
 prints_id Kept id e = e
@@ -147,7 +147,7 @@ prints_plain d v e =
     let both = and_parts (list_all fits_u64 (numbers v)) _ e in
     rw both.0 (prints_ids d v.pre both.1)
 
--- ---- ranges of what fits are kept as they are
+-- ---- ranges of printable versions are kept unchanged
 
 comparator_fits : (op : Op) (v : PlainVersion) → is_printable_version v ≡ true → comparator_kept (comparator op v) ≡ comparator op v
 comparator_fits op v e = ap (comparator op) (plain_fits v e)
@@ -179,7 +179,7 @@ module _ (kind : Kind) (end_prints : (a b : PlainVersion) → is_printable_versi
       let more = and_parts (is_printable_version to) _ both.1 in
       λ i. interval_fits from (Some to) both.0 more.0 i ∷ intervals_fit vs more.1 i
 
--- each is kept for itself
+-- identifiers are read and kept one by one
 pub kept_each : {X : Type 0} (value : X → IdentifierValue) (d : Digits) (xs : List X)
     → map as_kept (identifiers_by d (map value xs)) ≡ map (λ x. as_kept (identifier_by d (value x))) xs
 kept_each value d [] = ap (map as_kept) (by_none d)

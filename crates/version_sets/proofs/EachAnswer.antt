@@ -1,5 +1,5 @@
 -- serves: version_sets::version_set::VersionSet::contains_each, each
--- Answers that are written one after the other, and what two boundaries leave in.
+-- Results that are written one after the other, and the versions in a set with two boundaries.
 use Rattle.std.proofs.Common.{◌≡◌, ℕ, ◌<◌, ◌≤◌, ◌==◌, Bool, true, not, ◌&&◌, List, [], ◌∷◌, map, take, set, length}
 use Rattle.std.proofs.Common.{get_or}
 use Rattle.std.proofs.Common.{refl, ap, ap₂, ◌∙◌, arith, Ordering, is_lt, Some}
@@ -18,13 +18,13 @@ use Rattle.semver_texts.specs.declared.grammar.Digits.TheVariants.{Kept, AnySize
 use Rattle.version_sets.specs.VersionSets.{SetValue, contains_kept}
 use Rattle.version_sets.specs.Steps.Between.{is_release_between}
 
--- of the first n items the answers are written, and P holds of them
+-- the results for the first n elements are written, and P holds for these elements
 pub record AreTold {X : Type 0} (f : X → Bool) (P : X → Type 0) (xs : List X) (answers : List Bool) (n : ℕ) : Type 0 where
   pub long : length answers ≡ length xs
   pub told : take n answers ≡ map f (take n xs)
   pub hold : AllByRecursion P (take n xs)
 
--- ---- at most two boundaries
+-- ---- two boundaries
 
 between_both : (r s : Ordering) → (not (is_lt r) && is_lt s) ≡ (is_ge r && not (is_ge s && true))
 between_both r s = grind arith
@@ -48,7 +48,7 @@ pub two_boundaries : (from to : Release) (digits : Digits) (v : PlainVersion)
     → is_release_between from (Some to) v ≡ contains_kept (set_of_releases digits (release_value from ∷ release_value to ∷ [])) v
 two_boundaries from to digits v = two_at from to v.major v.minor v.patch digits v.pre
 
--- the set that has these two boundaries alone has what lies between them
+-- a set that has only these two boundaries contains the releases between them
 pub between_two : (digits : Digits) (rs items : List Release) (ps : List ReadVersion) (n : ℕ) (set : SetValue) (vs : List Version)
     (d e : Release) → 2 ≤ length rs → length rs < 3 → rs ≡ items → true ≡ (n == 0) → n ≡ length ps → set_of digits items ps ≡ set
     → map (λ v. is_release_between (get_or rs 0 d) (Some (get_or rs 1 e)) (version_place v)) vs

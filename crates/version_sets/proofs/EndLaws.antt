@@ -1,5 +1,6 @@
 -- serves: version_sets::ranges::Ranges::push_stated, meaning
--- Where the releases and the pre-releases above a cut begin.
+-- The versions at which spans of pre-releases begin and end: which versions are at or above them,
+-- and that they can be read back.
 use Rattle.std.proofs.Common.{◌≡◌, Bool, true, false, not, ◌&&◌, ◌||◌, List, [], ◌∷◌, map, refl, sym, ap, ◌∙◌, arith, Ordering, Less, Equal, Greater}
 use Rattle.std.proofs.Common.{is_ge, is_gt}
 use Rattle.std.proofs.lemmas.Bool.{and_from, and_parts}
@@ -27,7 +28,7 @@ use Rattle.version_sets.proofs.BoundLaws.{past, stated_numbers}
 use Rattle.version_sets.proofs.DigitLaws.{by_empty, by_zero, prints_plain}
 use Rattle.version_sets.proofs.PrintedBoundaries.{zero_prints}
 
--- the three numbers
+-- `numbers_cmp` compares all three numbers, as `first_numbers 3` does
 then_equal : (o : Ordering) → ordering_then o Equal ≡ o
 then_equal Less = refl
 then_equal Equal = refl
@@ -36,7 +37,7 @@ then_equal Greater = refl
 pub by_first : (v w : PlainVersion) → numbers_cmp v w ≡ first_numbers 3 v w
 by_first v w = ap (λ o. ordering_then (nat_cmp v.major w.major) (ordering_then (nat_cmp v.minor w.minor) o)) (sym (then_equal (nat_cmp v.patch w.patch)))
 
--- parts are kept so that they can be read back
+-- the identifiers that parts are kept as pass `is_kept`
 part_kept : (part : Text) → is_part part ≡ true → is_kept (kept part) ≡ true
 part_kept part e = grind arith
 
@@ -44,12 +45,13 @@ pub parts_kept : (parts : List Text) → list_all is_part parts ≡ true → lis
 parts_kept [] e = refl
 parts_kept (part ∷ parts) e = grind (arith, part_kept part, parts_kept parts)
 
--- of the pre-releases, those with some numbers
+-- a pre-release has the numbers of r if and only if it is at or above their lowest pre-release, and
+-- its numbers aren't above them
 pub among_numbers : (r : Release) (low v : PlainVersion) (above : Bool) → low ≡ lowest_place r → is_empty v.pre ≡ false
     → above ≡ is_gt (numbers_cmp v (release_value r)) → (is_ge (precedence v low) && not above) ≡ has_numbers v r
 among_numbers r low v above is e over = stated_numbers r (lowest_place r) low refl is refl v above e over
 
--- ---- ends beside a version with a pre-release
+-- ---- ends at or right after a version with a pre-release
 module _ (l : PreReleaseEnd) (d : Digits) (digits : l.digits ≡ d) (some : is_empty (map kept (cut_at_dots l.pre.now)) ≡ false) where
   abbrev beside_end : PlainVersion
   beside_end = record (release_value l.numbers) { pre = map kept (cut_at_dots l.pre.now) }
@@ -76,7 +78,7 @@ module _ (l : PreReleaseEnd) (d : Digits) (digits : l.digits ≡ d) (some : is_e
       ∙ ap (λ b. record (plain_by d beside_end) { pre = successor (plain_by d beside_end).pre b }) after)
       ∙ past true (plain_by d beside_end) v (by_empty d (map kept (cut_at_dots l.pre.now)) ∙ some) e
 
--- boundaries that can be read back in one way
+-- boundaries that can all be read back in one way are printable
 pub either_prints : (d : Digits) (vs : List PlainVersion) → list_all (prints_by d) vs ≡ true → list_all is_printable_boundary vs ≡ true
 either_prints d [] e = refl
 either_prints d (v ∷ vs) e = let both = and_parts (prints_by d v) (list_all (prints_by d) vs) e in

@@ -1,5 +1,6 @@
 -- serves: version_sets::lowest::VersionSet::lowest, lowest
--- The first boundary of a kind is in the set, and none of its kind that is in the set is below it.
+-- The first boundary of a kind is the lowest version of that kind in a set. The lowest version in a
+-- set is the lower of the first boundaries of both kinds.
 use Rattle.std.proofs.Common.{arith, ◌≡◌, ◌≢◌, ◌↔◌, Bool, true, false, ◌&&◌, cond, List, [], ◌∷◌, refl, Ordering, is_lt}
 use Rattle.std.proofs.Common.{sym, ap, ◌∙◌, subst, true≢false, Less, Option, Some, None, map, Bor}
 use Rattle.std.specs.Option.{option_copied}
@@ -22,11 +23,11 @@ use Rattle.version_sets.proofs.SetLaws.{contains-release, contains-pre_release, 
 use Rattle.version_sets.proofs.BoundaryLaws.{is_inside-first, is_inside-below, by_order, turned_below}
 use Rattle.version_sets.proofs.SweepLaws.{by_test}
 
--- the lowest of some versions in a set, or that there is none
+-- o is the lowest version with P in a set, or `None` if no version with P is in it
 abbrev pub TellsPlain : (PlainVersion → Type 0) → SetValue → Option PlainVersion → Type 0
 TellsPlain P set o = MatchOption o (HasNone P set) (IsLowest P set)
 
--- the first boundary of a kind is the lowest of its kind
+-- the first boundary of a kind P is the lowest version of that kind in the set
 first_tells : (set : SetValue) (P : PlainVersion → Type 0) (xs : List PlainVersion) → AreBoundaries P xs
     → ((v : PlainVersion) → P v → Fits v × (contains set v ≡ is_inside precedence xs v)) → TellsPlain P set (slice_get xs 0)
 first_tells set P [] s is = λ v k h. true≢false (sym h.1 ∙ (is v k).1)
@@ -48,28 +49,27 @@ module _ (set : SetValue) (s : IsNormal set) where
   pub pre_release_is : (p : PlainVersion) → slice_get set.pre_releases 0 ≡ Some p → IsPreRelease p
   pre_release_is p e = let told = subst (TellsPlain IsPreRelease set) e first_pre_release in told.is_of_kind
 
--- ---- the lowest of both kinds
+-- ---- the lowest version of either kind
 
 module _ (set : SetValue) where
-  -- what is in the set is of one kind or the other
+  -- a version in the set is a release or a pre-release
   by_kind : (w : PlainVersion) {G : Type 0} → IsIn w set → (IsRelease w → G) → (IsPreRelease w → G) → G
   by_kind w h f g = by_test (is_empty w.pre) (λ t. f (h.0, t)) (λ t. g (h.0, t))
 
   neither : HasNone IsRelease set → HasNone IsPreRelease set → HasNone Fits set
   neither r p = λ v fits h. by_kind v h (λ k. r v k h) (λ k. p v k h)
 
-  -- it is in the set, and none of either kind is below it
+  -- a version in the set is the lowest if no release and no pre-release in the set is below it
   lower_one : (b : PlainVersion) → IsIn b set → ((w : PlainVersion) → IsRelease w → IsIn w set → precedence w b ≢ Less)
       → ((w : PlainVersion) → IsPreRelease w → IsIn w set → precedence w b ≢ Less) → IsLowest Fits set b
   lower_one b h f g = record { is_of_kind = h.0; is_in = h; lowest = λ w fits i. by_kind w i (λ k. f w k i) (λ k. g w k i) }
 
-  -- what is not below b, and is below p, has b below p
   below_then : (b v p : PlainVersion) → precedence v b ≢ Less → precedence v p ≡ Less → precedence b p ≡ Less
   below_then b v p n e =
       by_order (precedence v b) (λ l. absurd (n l)) (λ t. sym (precedence_total.congr v b p t) ∙ e)
       (λ g. precedence_total.trans b v p (turned_below precedence precedence_total v b g) e)
 
-  -- the lower one of the lowest of each kind is the lowest of both
+  -- the lower of the lowest release and the lowest pre-release is the lowest version in the set
   lower_is : (r p : Option PlainVersion) → TellsPlain IsRelease set r → TellsPlain IsPreRelease set p → TellsPlain Fits set (lower r p)
   lower_is None None f g = neither f g
   lower_is (Some b) None l g = lower_one b l.is_in l.lowest (λ w k h. absurd (g w k h))
@@ -87,7 +87,7 @@ module _ (set : SetValue) where
   pub first_is : IsNormal set → TellsPlain Fits set (lower (slice_get set.releases 0) (slice_get set.pre_releases 0))
   first_is s = lower_is _ _ (first_release set s) (first_pre_release set s)
 
-  -- a set is empty exactly where it has no boundaries
+  -- a set is empty if and only if it has no boundaries
   empty_lists : (xs ys : List PlainVersion) → TellsPlain IsRelease set (slice_get xs 0) → TellsPlain IsPreRelease set (slice_get ys 0)
       → (is_empty xs && is_empty ys ≡ true) ↔ ((v : PlainVersion) → ¬ IsIn v set)
   empty_lists [] [] f g = (λ _ v h. neither f g v h.0 h, λ _. refl)
@@ -100,7 +100,7 @@ module _ (set : SetValue) where
       let is = empty_lists set.releases set.pre_releases (first_release set s) (first_pre_release set s) in
       (λ h. is.0 (sym e ∙ h), λ none. e ∙ is.1 none)
 
--- ---- what is told by a version
+-- ---- the lowest version as a result
 
 module _ {X : Type 0} (f : X → PlainVersion) (P : PlainVersion → Type 0) (set : SetValue) where
   pub told_some : (o : Option X) → TellsPlain P set (option_map f o) → IfSome o (λ x. IsLowest P set (f x))
@@ -115,7 +115,7 @@ pub first_map : {X : Type 0} (f : X → PlainVersion) (xs : List X) → option_m
 first_map f [] = refl
 first_map f (x ∷ xs) = refl
 
--- the first item by reference
+-- the first element of a list, from a reference to it
 pub first_copied : {X : Type 0} (f : X → PlainVersion) (o : Option (Bor X)) (xs ys : List X) → option_copied o ≡ slice_get xs 0 → xs ≡ ys
     → option_map (λ x. f x.now) o ≡ slice_get (map f ys) 0
 first_copied {X = X} f o xs ys e is = after o ∙ ap (option_map f) e ∙ ap (λ l. option_map f (slice_get l 0)) is ∙ first_map f ys
@@ -124,7 +124,8 @@ first_copied {X = X} f o xs ys e is = after o ∙ ap (option_map f) e ∙ ap (λ
     after None = refl
     after (Some x) = refl
 
--- what is told of it as a version without a build
+-- the result is the lowest version in the set, as it is kept and without build metadata, or `None`
+-- if and only if the set is empty
 pub record IsTold (set : SetValue) (lowest : Option Version) : Type 0 where
   pub is_lowest : IfSome lowest (λ v. (p : PlainVersion) × IsLowest Fits set p × ((version_value v).plain ≡ plain_kept p))
   pub no_build : IfSome lowest (λ v. (version_value v).build ≡ [])
@@ -144,7 +145,7 @@ is_told set (Some w) told (Some v) e =
     }
 
 module _ (how : Combination) (a b : SetValue) (s : IsNormal a) (t : IsNormal b) where
-  -- the lowest of a combination is the lowest of what is kept
+  -- the lowest version in a combination is the lowest that it keeps of the two sets
   pub kept_lower_one : (v : VersionValue) → v.build ≡ [] → IsLowest Fits (combined_sets how a b) v.plain → IsLowestOf (IsKept how a b) v
   kept_lower_one v no_build l = record {
     is_one = (l.is_in.0, sym (contains-combined how a b s t v.plain) ∙ l.is_in.1);
@@ -152,7 +153,7 @@ module _ (how : Combination) (a b : SetValue) (s : IsNormal a) (t : IsNormal b) 
     lowest = λ w kept. l.lowest w kept.0 (kept.0, contains-combined how a b s t w ∙ kept.1);
   }
 
-  -- what is told of a combination
+  -- the result for a combination is the lowest version that it keeps
   pub kept_lowest : (lowest : Option Version) → IsTold (combined_sets how a b) lowest → TellsLowest (IsKept how a b) lowest
   kept_lowest None told = λ v kept. told.none.0 refl v kept.0 (kept.0, contains-combined how a b s t v ∙ kept.1)
   kept_lowest (Some version) told =
@@ -162,7 +163,8 @@ module _ (how : Combination) (a b : SetValue) (s : IsNormal a) (t : IsNormal b) 
         λ i. record { plain = told.is_lowest.2 i; build = told.no_build i },
       )
 
-  -- a first pre-release that is the lowest of both kinds is the lowest of what is kept
+  -- if the first pre-release is the lowest version in a combination, the lowest version that it
+  -- keeps is a pre-release
   pub kept_pre_release : (p : PlainVersion) → slice_get (combined_sets how a b).pre_releases 0 ≡ Some p
       → IsLowest Fits (combined_sets how a b) p
       → LowestIsPreRelease (IsKept how a b)
@@ -170,7 +172,8 @@ module _ (how : Combination) (a b : SetValue) (s : IsNormal a) (t : IsNormal b) 
       let v : VersionValue = record { plain = p; build = [] } in
       (v, pre_release_is (combined_sets how a b) (combined-normal how a b s t) p is, kept_lower_one v refl l)
 
--- what a difference keeps is in the first set alone, and what an intersection keeps is in both
+-- a difference keeps the versions that are only in the first set, and an intersection those that
+-- are in both
 module _ (a b : SetValue) where
   kept_alone : (v : PlainVersion) → IsKept Difference a b v → IsInFirstAlone a b v
   kept_alone v (fits, k) = grind arith
@@ -188,7 +191,7 @@ module _ (a b : SetValue) where
   both_kept : (v : PlainVersion) → IsInBoth a b v → IsKept Intersection a b v
   both_kept v ((fits, e), (_, f)) = (fits, grind arith)
 
-  -- so the lowest of one is the lowest of the other
+  -- if P and Q hold for the same versions, the lowest with P is also the lowest with Q
   the_same : (P Q : PlainVersion → Type 0) → ((v : PlainVersion) → P v → Q v) → ((v : PlainVersion) → Q v → P v)
       → LowestIsPreRelease P → LowestIsPreRelease Q
   the_same P Q f g (v, p, l) = (v, p, record { is_one = f v.plain l.is_one; no_build = l.no_build; lowest = λ w q. l.lowest w (g w q) })
@@ -199,7 +202,7 @@ module _ (a b : SetValue) where
   pub shared_pre_release : LowestIsPreRelease (IsKept Intersection a b) → LowestIsPreRelease (IsInBoth a b)
   shared_pre_release = the_same _ _ kept_both both_kept
 
-  -- so with what is told of them
+  -- and a result for P is also a result for Q
   tells_same : (P Q : PlainVersion → Type 0) → ((v : PlainVersion) → P v → Q v) → ((v : PlainVersion) → Q v → P v)
       → (lowest : Option Version) → TellsLowest P lowest → TellsLowest Q lowest
   tells_same P Q f g None none = λ v q. none v (g v q)

@@ -1,5 +1,6 @@
 -- serves: version_sets::ranges::Ranges::push_stated
--- What holds of where spans begin and end holds of their boundaries.
+-- If a test holds for the versions at which spans begin and end, it holds for the boundaries of
+-- their union.
 use Rattle.std.proofs.Common.{arith, ◌≡◌, Bool, true, false, not, ◌&&◌, cond, List, [], ◌∷◌, ◌++◌, map, refl, sym, ap, ◌∙◌, is_ge, is_lt}
 use Rattle.std.proofs.lemmas.Bool.{and_parts}
 use Rattle.std.proofs.lemmas.List.Folds.{list_all-append}
@@ -31,7 +32,7 @@ module _ (p : PlainVersion → Bool) where
   pub both_hold : (a b : Option PlainVersion) → holds_at p a ≡ true → holds_at p b ≡ true → (holds_at p a && holds_at p b) ≡ true
   both_hold a b e f = grind arith
 
-  -- within two bounds
+  -- the test holds for the bounds of an intersection
   pub and_hold : (f t a b x y : Option PlainVersion) → x ≡ later precedence f a → y ≡ earlier precedence t b
       → (holds_at p f && holds_at p t) ≡ true → (holds_at p a && holds_at p b) ≡ true → (holds_at p x && holds_at p y) ≡ true
   and_hold f t a b x y later_is earlier_is e g =
@@ -40,7 +41,8 @@ module _ (p : PlainVersion → Bool) where
       both_hold x y (ap (holds_at p) later_is ∙ later_holds f a first.0 second.0)
       (ap (holds_at p) earlier_is ∙ earlier_holds t b first.1 second.1)
 
-  -- the boundaries of spans
+  -- the test holds for the versions at which a span begins and ends; below, for the boundaries of
+  -- such spans
   abbrev holds_in : SpanValue PlainVersion → Bool
   holds_in s = p s.from && holds_at p s.to
 
@@ -76,7 +78,7 @@ module _ (p : PlainVersion → Bool) where
   all_hold [] e = refl
   all_hold (x ∷ xs) e = let both = and_parts (holds_in x) (list_all holds_in xs) e in joined_holds x xs both.0 both.1
 
--- what holds of each item holds of each in another order
+-- a test of all elements doesn't depend on their order
 all_by_any : {X : Type 0} (p : X → Bool) (xs : List X) → list_all p xs ≡ not (list_any (λ x. not (p x)) xs)
 all_by_any p [] = refl
 all_by_any p (x ∷ xs) = grind (arith, all_by_any p xs)
@@ -90,7 +92,7 @@ module _ {L : Type 0} (place : L → PlainVersion) (p : PlainVersion → Bool) w
   by_values [] = refl
   by_values (s ∷ spans) = ap (λ b. (p (place s.from) && holds_at p (option_map place s.to)) && b) (by_values spans)
 
-  -- the boundaries of spans that were sorted
+  -- the test holds for the boundaries of spans that were sorted
   pub boundaries_hold : (xs sorted : List (Span L)) → IsPermutation xs sorted → (ys : List PlainVersion)
       → ys ≡ all_joined precedence (map (span_value place) sorted) → spans_hold place p xs ≡ true → list_all p ys ≡ true
   boundaries_hold xs sorted moved ys is e =

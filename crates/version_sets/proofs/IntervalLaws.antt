@@ -1,5 +1,6 @@
 -- serves: version_sets::ranges::Conjunction::new, all
--- The ranges of intervals are met by the versions that the boundaries turn on, of a kind with a next version right above each.
+-- A version of a kind satisfies the ranges of the intervals if and only if it is inside the
+-- boundaries.
 use Rattle.std.proofs.Common.{arith, ◌≡◌, Bool, true, false, not, ◌&&◌, ◌||◌, cond, List, [], ◌∷◌, refl, sym, ap, ap₂, ◌∙◌}
 use Rattle.std.proofs.Common.{Ordering, Less, is_eq, is_ge, is_gt, is_lt}
 use Rattle.std.specs.Prelude.{Option, Some, None, IfSome}
@@ -32,11 +33,13 @@ same_end None (Some w) e = cc
 same_end (Some v) None e = cc
 same_end (Some v) (Some w) e = ap Some (precedence-same v w (equal_is (precedence v w) e))
 
--- from x on and below y, or s, where s is after both
+-- x says whether a version is at or above the start of an interval, y whether it is at or above the
+-- end, and s whether it is in a later interval
 turned : (x y s : Bool) → (x ≡ false → s ≡ false) → ((x && not y) || s) ≡ (x && not (y && not s))
 turned x y s e = grind arith
 
--- a kind: the next version is right above, none is below the lowest, and what is below the end is below what is shown of it
+-- the next version is right above a version, none is below the lowest, and the versions below the
+-- end of an interval are those below the end that is written
 pub record IsKind (P : PlainVersion → Type 0) (kind : Kind) : Type 0 where
   pub above : (a v : PlainVersion) → P a → P v → from (kind.next a) v ≡ is_gt (precedence v a)
   pub lowest : (a v : PlainVersion) → P a → P v → is_lowest a ≡ true → is_ge (precedence v a) ≡ true

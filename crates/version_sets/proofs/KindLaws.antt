@@ -1,5 +1,6 @@
 -- serves: version_sets::ranges::Conjunction::new, all
--- What is right above a release and above a pre-release, and that none of a kind is below its lowest.
+-- Releases and pre-releases are kinds: each has a version right above it, if any is above, and none
+-- is below the lowest of its kind.
 use Rattle.std.proofs.Common.{arith, ◌≡◌, Bool, true, false, cond, not, List, [], ◌∷◌, refl, sym, ap, ◌∙◌}
 use Rattle.std.proofs.Common.{Equal, is_ge, is_gt, is_lt}
 use Rattle.std.specs.Prelude.{Option, Some, None, option_map}
@@ -15,7 +16,7 @@ use Rattle.version_sets.proofs.BoundLaws.{from, from_lowest, before_release, zer
 use Rattle.version_sets.proofs.SweepLaws.{by_test}
 use Rattle.version_sets.proofs.IntervalLaws.{IsKind, below_is, same_end}
 
--- by the numbers alone
+-- whether the numbers of v are at or above those of another version, if there is one
 reached : Option PlainVersion → PlainVersion → Bool
 reached None v = false
 reached (Some w) v = is_ge (numbers_cmp v w)
@@ -29,11 +30,11 @@ unfolding reached
 release_from None v e = refl
 release_from (Some w) v e = sym (against is_ge is_ge v w refl refl (release_reaches v.pre w.pre e))
 
--- no numbers are below zeros
+-- no numbers are below 0.0.0
 from_zero : (a v : PlainVersion) → is_lowest a ≡ true → is_ge (numbers_cmp v a) ≡ true
 from_zero a v e = grind (arith, nat_tests)
 
--- a release isn't below either lowest
+-- a release isn't below 0.0.0 or 0.0.0-0
 pub release_lowest : (a v : PlainVersion) → is_empty v.pre ≡ true → is_lowest a ≡ true → is_ge (precedence v a) ≡ true
 release_lowest a v e l = sym (against is_ge is_ge v a refl refl (release_reaches v.pre a.pre e)) ∙ from_zero a v l
 
@@ -59,13 +60,13 @@ lowest_pre (x ∷ xs) (alphanumeric t ∷ ws) e f l = cc
 is_lowest-pre : (a : PlainVersion) → is_lowest a ≡ true → is_lowest_pre a.pre ≡ true
 is_lowest-pre a l = grind (arith, nat_tests)
 
--- a pre-release isn't below the lowest
+-- a pre-release isn't below 0.0.0-0
 pub pre_release_lowest : (a v : PlainVersion) → is_empty a.pre ≡ false → is_empty v.pre ≡ false → is_lowest a ≡ true
     → is_ge (precedence v a) ≡ true
 pre_release_lowest a v f e l =
     sym (against is_ge is_ge v a refl refl (lowest_pre v.pre a.pre e f (is_lowest-pre a l))) ∙ from_zero a v l
 
--- the pre-releases below the lowest one of the numbers above are those below the release of the numbers
+-- the pre-releases below `pre_release_above a` are those below the release with the numbers of a
 from_above : (n : Option PlainVersion) (v : PlainVersion) → is_empty v.pre ≡ false
     → from (option_map lowest_pre_release n) v ≡ reached n v
 unfolding reached

@@ -1,5 +1,5 @@
 -- serves: version_sets::lowest::VersionSet::lowest, lowest
--- Lists by their length and by their halves, and the result of one.
+-- Lemmas about the length of a list, and about the value or the error of a result.
 use Rattle.std.proofs.Common.{◌≡◌, ◌==◌, ℕ, Bool, List, [], ◌∷◌, map, length}
 use Rattle.std.proofs.Common.{arith, IfOk, IfErr, Result, Ok, Err}
 use Rattle.std.proofs.lemmas.Bool.Decides.{nat_tests}
@@ -17,7 +17,6 @@ pub failed_so : {T E : Type 0} {P : E → Type 0} (Q : E → Type 0) (r : Result
 failed_so Q (Ok x) _ f = tt
 failed_so Q (Err e) p f = f e p
 
--- what is so, is so where an error is returned
 pub on_err : {X E : Type 0} {P : Type 0} (r : Result X E) → P → IfErr r (λ _. P)
 on_err (Ok x) p = tt
 on_err (Err e) p = p

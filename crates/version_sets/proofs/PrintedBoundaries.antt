@@ -1,5 +1,6 @@
 -- serves: version_sets::ranges::Ranges::push_stated, meaning
--- Where pre-releases begin and end can be read back from its text, if the comparators can.
+-- A version that can be read back from its text can also be read back with the number 0 after its
+-- pre-release.
 use Rattle.std.proofs.Common.{◌≡◌, Bool, true, false, List}
 use Rattle.std.proofs.Common.{refl, ◌∙◌}
 use Rattle.std.proofs.lemmas.Bool.{and_parts}
@@ -12,7 +13,6 @@ use Rattle.semver_texts.specs.Versions.{IdentifierValue, numeric, PlainVersion, 
 use Rattle.version_sets.specs.Printable.{is_kept_by, prints_by}
 use Rattle.version_sets.specs.Steps.SpanViews.{successor}
 
--- so with the number 0 after it
 pub zero_prints : (d : Digits) (v : PlainVersion) (added : Bool) → prints_by d v ≡ true
     → prints_by d (record { major = v.major; minor = v.minor; patch = v.patch; pre = successor v.pre added }) ≡ true
 zero_prints d v added e =

@@ -1,5 +1,6 @@
 -- serves: version_sets::set_ranges::VersionSet::release_ranges
--- The text of a set's ranges is read in npm mode as comparators that the same versions meet.
+-- The text of the ranges of a set, read in npm mode, gives comparators that the versions in the set
+-- satisfy, and no others of their kind.
 use Rattle.std.proofs.Common.{arith, ◌≡◌, Bool, true, false, not, ◌&&◌, ◌||◌, cond, List, [], ◌∷◌, codes, refl, sym, ap, ◌∙◌, subst}
 use Rattle.std.proofs.Common.{IsTrue, All, is_ge}
 use Rattle.std.specs.Prelude.{Option, Some, None}
@@ -26,7 +27,7 @@ use Rattle.version_sets.proofs.IntervalLaws.{below_is}
 use Rattle.version_sets.proofs.KindLaws.{release_lowest, pre_release_lowest}
 use Rattle.version_sets.proofs.SweepLaws.{by_test}
 
--- ---- the ranges are printable where the boundaries are
+-- ---- the ranges are printable if the boundaries are
 
 abbrev Prints : List PlainComparator → Type 0
 Prints cs = IsTrue (not (is_empty cs)) × IsTrue (list_all (λ c. is_printable_version c.version) cs)
@@ -35,12 +36,12 @@ abbrev to_prints : Option PlainVersion → Bool
 to_prints None = true
 to_prints (Some v) = is_printable_version v
 
--- what an interval is shown to end below is printable where its boundaries are
+-- the end that is written for an interval is printable if both of its boundaries are
 abbrev pub EndPrints : Kind → Type 0
 EndPrints kind = (a b : PlainVersion) → is_printable_version a ≡ true → is_printable_version b ≡ true
     → is_printable_version (kind.end a b) ≡ true
 
--- the numbers of what is printable
+-- a printable version without its pre-release is printable
 release_of_prints : (v : PlainVersion) → is_printable_version v ≡ true → is_printable_version (record v { pre = [] }) ≡ true
 release_of_prints v e = and_from _ _ (and_parts _ _ e).0 refl
 
@@ -137,7 +138,7 @@ whole_met v [] e w = cc
 whole_met v (r ∷ []) e w = ap (λ t. t || false) (from_lowest_met v r.comparators e w)
 whole_met v (r ∷ s ∷ rs) e w = cc
 
--- what the law of printed sets says
+-- the statement of the law `semver_ranges::laws::printed_sets_read_back`
 abbrev pub PrintedReadBack : Type 0
 PrintedReadBack = (s : PlainSet) → IsPrintableSet s → (tree : SetTree)
     × Spells tree (set_text s) × IsTrue (fits s.compat tree) × (rewritten s.compat tree ≡ s)
@@ -180,7 +181,7 @@ module _ (law : PrintedReadBack) (P : PlainVersion → Type 0) (set : SetValue) 
           (λ w. subst (λ t. ReadsBack (cond t (codes "*") (set_text made)) P set) (sym w)
           (some_read made (ap not e, ranges_print kind end_prints_too xs prints) refl means))))
 
-      -- that of releases, where all are in the set
+      -- `*`, which is written if all releases are in the set, is read back
       pub whole_reads : ((v : PlainVersion) → P v → is_empty v.pre ≡ true) → is_whole (intervals kind xs) ≡ true
           → ReadsBack (codes "*") P set
       whole_reads of_kind w = star_reads of_kind (λ v pv. sym (means v pv) ∙ whole_met v (intervals kind xs) (of_kind v pv) w)

@@ -1,5 +1,6 @@
 -- serves: version_sets::laws::one_set
--- Sets with the same versions have the same boundaries.
+-- Sets with the same versions have the same boundaries; and the results of `==`, `is_subset` and
+-- `is_disjoint` in terms of versions.
 use Rattle.std.proofs.Common.{arith, ◌≡◌, ◌↔◌, Bool, true, false, not, ◌&&◌, refl, sym}
 use Rattle.std.proofs.lemmas.Bool.{and_parts}
 use Rattle.std.proofs.Common.{ap, ap₂, ◌∙◌, subst, true≢false, Ordering, Equal, is_eq}
@@ -24,7 +25,7 @@ one_answer p q e f = grind arith
 pub equal_is : (r : Ordering) → is_eq r ≡ true → r ≡ Equal
 equal_is r e = grind arith
 
--- versions tie exactly where they are the same
+-- versions are equal in precedence if and only if they are equal
 exact : (v w : PlainVersion) → (eq_by_cmp precedence v w ≡ true → v ≡ w) × (v ≡ w → eq_by_cmp precedence v w ≡ true)
 exact v w = (
   λ e. precedence-same v w (equal_is (precedence v w) e),
@@ -41,7 +42,7 @@ read_alike : (d : Digits) → same_digits d d ≡ true
 read_alike Kept = refl
 read_alike AnySize = refl
 
--- it is to be one set
+-- `same_set` holds if and only if the two sets are equal
 pub same_is : (a b : SetValue) (r : Bool) → r ≡ same_set a b → (r ≡ true) ↔ (a ≡ b)
 same_is a b r e =
     let releases = pointwise_decides exact a.releases b.releases in
@@ -54,7 +55,8 @@ same_is a b r e =
           (ap₂ (λ p q. p && q) (releases.1 (ap (λ s. s.releases) is)) (pre_releases.1 (ap (λ s. s.pre_releases) is))),
     )
 
--- sets in the normal form that read digits alike and have the same versions are one
+-- sets in the normal form are equal if they read digits in the same way and contain the same
+-- versions
 pub one_set : (a b : SetValue) → IsNormal a → IsNormal b → a.digits ≡ b.digits → ((v : PlainVersion) → IsIn v a ↔ IsIn v b) → a ≡ b
 one_set a b s t digits h =
     let alike = λ (v : PlainVersion) (fits : Fits v).
@@ -78,7 +80,8 @@ same_versions a b s t r e =
 is_true : (k : Bool) → not k ≡ false → k ≡ true
 is_true k e = grind arith
 
--- a set is within another where nothing is in it alone
+-- a set is a subset of another if and only if no version is only in it; below, they are disjoint if
+-- and only if no version is in both
 pub tells_within : (a b : SetValue) (k : Bool) → (k ≡ true) ↔ KeepsSome Difference a b
     → (not k ≡ true) ↔ ((v : PlainVersion) → IsIn v a → IsIn v b)
 tells_within a b k some = (
@@ -105,7 +108,7 @@ tells_apart a b k some = (
       (λ f. ap not f),
 )
 
--- and where it isn't, some version is in it alone
+-- if a set isn't a subset of another, some version is only in it
 pub some_alone : (a b : SetValue) (k : Bool) → (k ≡ true) ↔ KeepsSome Difference a b → not k ≡ false
     → (v : PlainVersion) × IsIn v a × (¬ (IsIn v b))
 some_alone a b k some e =
@@ -113,7 +116,7 @@ some_alone a b k some e =
     let parts = and_parts _ _ found.1.1 in
     (found.0, (found.1.0, parts.0), λ g. true≢false (sym parts.1 ∙ ap not g.1))
 
--- where two aren't apart, some version is in both
+-- if two sets aren't disjoint, some version is in both
 pub some_shared : (a b : SetValue) (k : Bool) → (k ≡ true) ↔ KeepsSome Intersection a b → not k ≡ false
     → (v : PlainVersion) × IsIn v a × IsIn v b
 some_shared a b k some e =

@@ -1,5 +1,6 @@
 -- serves: version_sets::version_set::VersionSet::contains
--- A binary search among boundaries finds how many are at or below a place, and so whether it is in the set.
+-- Whether an element is inside boundaries, as a binary search finds it, and as a search one by one
+-- does.
 use Rattle.std.proofs.Common.{◌&&◌, ◌≡◌, ℕ, zero, suc, ◌≤◌, ◌<◌, ◌%◌, Bool, true, false, not, nat_eq, List, [], ◌∷◌}
 use Rattle.std.proofs.Common.{map, length, get_or, refl, sym, ap, ◌∙◌}
 use Rattle.std.proofs.Common.{Ordering, Less, is_ge, is_le, is_lt, is_gt, arith}
@@ -38,7 +39,7 @@ module _ {T X : Type 0} (cmp : T → T → Ordering) (o : IsTotalOrder cmp) (f :
   first_passed x [] d l h p = absurd (omega arith)
   first_passed x (y ∷ xs) d l h p = gt-le _ (upto o (f x) (f y) v (ap is_gt h) (le-gt _ p))
 
-  -- what is before a boundary that is at or below the place, is so too
+  -- if a boundary is at or below v, so are those before it
   pub passed_before : (xs : List X) → IsIncreasing cmp (map f xs) → IsPartitionedBy is_passed xs
   passed_before [] s i j d k l p = absurd (omega arith)
   passed_before (x ∷ xs) s zero zero d k l p = p
@@ -48,7 +49,7 @@ module _ {T X : Type 0} (cmp : T → T → Ordering) (o : IsTotalOrder cmp) (f :
   passed_before (x ∷ xs) s (suc i) zero d k l p = absurd (omega arith)
   passed_before (x ∷ xs) s (suc i) (suc j) d k l p = passed_before xs s.1 i j d (omega arith) (omega arith) p
 
-  -- where n boundaries are at or below the place, it is in the set if n is odd
+  -- if n boundaries are at or below v, it is inside if and only if n is odd
   pub odd_passed : (xs : List X) (n : ℕ) → n ≤ length xs → IsPartitionPoint (λ x. is_passed x ≡ true) (λ x. is_passed x ≡ false) xs n
       → nat_eq (n % 2) 1 ≡ is_inside cmp (map f xs) v
   odd_passed [] zero l point = refl
@@ -64,9 +65,10 @@ module _ {T X : Type 0} (cmp : T → T → Ordering) (o : IsTotalOrder cmp) (f :
       ∙ sym (is_inside-at cmp v (f x) (map f xs) (ap is_ge (o.antisymm v (f x))
       ∙ ge_reverse (cmp (f x) v) (point.0 0 x (omega arith) (omega arith))))
 
--- ---- boundaries asked one by one
+-- ---- boundaries compared one by one
 
--- whether it is in the set is what is known, turned by what is left
+-- v is inside all boundaries if and only if `known` differs from whether it is inside those that
+-- are left
 pub record IsTurned {T : Type 0} (cmp : T → T → Ordering) (v : T) (all left : List T) (known : Bool) : Type 0 where
   pub increase : IsIncreasing cmp left
   pub turned : is_inside cmp all v ≡ differ known (is_inside cmp left v)
@@ -76,7 +78,7 @@ turns : (known s below : Bool) (r : Ordering) → below ≡ is_lt r → (r ≡ L
 turns known s below r told after = grind arith
 
 module _ {T : Type 0} (cmp : T → T → Ordering) (o : IsTotalOrder cmp) (v : T) (all : List T) where
-  -- the next boundary is above it, and so are those after, or it isn't
+  -- the step over the next boundary: `known` is inverted unless v is below that boundary
   pub turn_next : (b : T) (left : List T) (known below : Bool) → below ≡ is_lt (cmp v b) → IsTurned cmp v all (b ∷ left) known
       → IsTurned cmp v all left (differ known (not below))
   turn_next b left known below told w =

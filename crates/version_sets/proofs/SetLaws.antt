@@ -1,5 +1,6 @@
 -- serves: version_sets::laws::one_set
--- Sets of versions by the laws of their boundaries: what is in a combination, and that one set has one normal form.
+-- Which versions are in the combination of two sets. The combination is in the normal form, and it
+-- is printable if both sets are.
 use Rattle.std.proofs.Common.{arith, ◌≡◌, ◌↔◌, Bool, true, false, ◌||◌, cond, List, [], ◌∷◌, refl, sym, ap, ap₂, ◌∙◌}
 use Rattle.std.proofs.lemmas.Bool.{and_parts}
 use Rattle.std.specs.List.{AllByRecursion, list_all}
@@ -59,7 +60,8 @@ module _ (P : PlainVersion → Type 0) (how : Combination) (xs ys : List PlainVe
 
 -- ---- both kinds
 
--- a release is in a set by the boundaries of the releases, a pre-release by the others
+-- the boundaries of the releases decide whether a release is in a set, and the others whether a
+-- pre-release is
 pub contains-release : (set : SetValue) (v : PlainVersion) → is_empty v.pre ≡ true → contains set v ≡ is_inside precedence set.releases v
 contains-release set v e = ap (λ b. cond b (is_inside precedence set.releases v) (is_inside precedence set.pre_releases v)) e
 
@@ -73,7 +75,7 @@ module _ (how : Combination) (a b : SetValue) (s : IsNormal a) (t : IsNormal b) 
     pre_releases = combined-are IsPreRelease how a.pre_releases b.pre_releases s.pre_releases t.pre_releases;
   }
 
-  -- what is in the combination
+  -- which versions are in the combination
   pub contains-combined : (v : PlainVersion) → contains (combined_sets how a b) v ≡ keeps how (contains a v) (contains b v)
   contains-combined v =
       by_test (is_empty v.pre)
@@ -110,7 +112,7 @@ module _ (how : Combination) (a b : SetValue) (s : IsNormal a) (t : IsNormal b) 
       (λ e. or_second _ _ (kept_some IsPreRelease how a.pre_releases b.pre_releases s.pre_releases t.pre_releases v
       (sym (ap₂ (keeps how) (contains-pre_release a v e) (contains-pre_release b v e)) ∙ h)))
 
-  -- the answer of both kinds returns whether some version is in the combination
+  -- `keeps_any` is true if and only if some version is in the combination
   pub tells_some : (r : Bool) → r ≡ keeps_any → (r ≡ true) ↔ KeepsSome how a b
   tells_some r e = (λ h. some_is (sym e ∙ h), λ k. e ∙ is_some k.0 k.1.1)
 
@@ -120,7 +122,7 @@ by_first r p q e f = grind arith
 pub by_second : (r s p q : Bool) → r ≡ p → r ≡ false → s ≡ q → s ≡ (p || q)
 by_second r s p q e f g = grind arith
 
--- ---- printable identifiers
+-- ---- printable boundaries
 
 abbrev Prints : PlainVersion → Type 0
 Prints v = is_printable_boundary v ≡ true

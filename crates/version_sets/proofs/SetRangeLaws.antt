@@ -1,5 +1,6 @@
 -- serves: version_sets::set_ranges::VersionSet::release_ranges, out_of_memory
--- The ranges of a set are met by its versions, its text reads back, and there is one only where a version of the kind is in the set.
+-- A version satisfies the ranges of a set if and only if it is in the set, and the text of the
+-- ranges reads back. A set that has a boundary of a kind contains a version of that kind.
 use Rattle.std.proofs.Common.{arith, ◌≡◌, ◌<◌, not, List, [], ◌∷◌, map, length, IsTrue, sym, ◌∙◌, subst}
 use Rattle.std.specs.List.{list_all}
 use Rattle.semver_texts.specs.Versions.{PlainVersion}
@@ -38,7 +39,7 @@ module _ (set : SetValue) (n : IsNormal set) where
   pre_releases_read law prints part =
       reads law IsPreRelease set of_pre_releases end_prints set.pre_releases prints pre_releases_meet (λ whole. absurd (cc (part, whole)))
 
-  -- the first boundary is in the set
+  -- if there is a boundary, the first one is in the set
   pub contains_release : {X : Type 0} (f : X → PlainVersion) (xs : List X) → set.releases ≡ map f xs → 0 < length xs
       → (v : PlainVersion) × IsRelease v × IsIn v set
   contains_release f [] e some = absurd (omega arith)

@@ -1,5 +1,6 @@
 -- serves: version_sets::ranges::Ranges::push_stated
--- The boundaries of ascending spans increase, and boundary what is in some span.
+-- The boundaries of ascending spans increase, and an element is inside them if and only if it is in
+-- some span.
 use Rattle.std.proofs.Common.{arith, ◌≡◌, Bool, true, false, ◌&&◌, ◌||◌, cond, List, [], ◌∷◌, ◌++◌, refl, sym, ap, ◌∙◌, subst}
 use Rattle.std.proofs.Common.{map, add-one, get_or, suc, Bor}
 use Rattle.std.proofs.lemmas.Fn.{always_returns_same}
@@ -24,7 +25,7 @@ use Rattle.version_sets.specs.declared.spans.Span.{Span}
 use Rattle.version_sets.proofs.BoundaryLaws.{is_inside-below}
 
 module _ {T : Type 0} (cmp : T → T → Ordering) (o : IsTotalOrder cmp) where
-  -- what isn't at or above a isn't at or above b, where this isn't below a
+  -- an element below a is below b if b isn't below a
   not_on : (v a b : T) → is_lt (cmp b a) ≡ false → is_ge (cmp v a) ≡ false → is_ge (cmp v b) ≡ false
   not_on v a b n e = grind (arith, o.antisymm, o.trans, o.congr)
 
@@ -44,11 +45,11 @@ module _ {T : Type 0} (cmp : T → T → Ordering) (o : IsTotalOrder cmp) where
       → is_between cmp (later cmp f a) (earlier cmp t b) v ≡ (is_between cmp f t v && is_between cmp a b v)
   between-both f t a b v = grind (arith, reached-later, reached-earlier)
 
-  -- nothing is between, where the end isn't above the begin
+  -- a span whose end isn't above its beginning is empty
   pub between-none : (a b v : T) → is_ge (cmp a b) ≡ true → is_between cmp (Some a) (Some b) v ≡ false
   between-none a b v e = grind (arith, not_on)
 
-  -- whether there is a gap to the next span
+  -- two cases: a gap before the next span, or none
   by_gap : (P : List T → Type 0) (s x : SpanValue T) (xs : List (SpanValue T))
       → (is_below cmp s.to x.from ≡ true → P (span_boundaries cmp s ++ joined cmp x xs))
       → (is_below cmp s.to x.from ≡ false → P (joined cmp (met cmp s x) xs)) → P (joined cmp s (x ∷ xs))
@@ -59,7 +60,7 @@ module _ {T : Type 0} (cmp : T → T → Ordering) (o : IsTotalOrder cmp) where
       at true f g = f refl
       at false f g = g refl
 
-  -- what is below a span is below its boundaries and those of the spans after it
+  -- an element below a span is below the first boundary of that span and those after it
   first-joined : (s : SpanValue T) (xs : List (SpanValue T)) (v : T) → cmp v s.from ≡ Less → IsBelowFirst cmp v (joined cmp s xs)
   first-joined s [] v l = l
   first-joined s (x ∷ xs) v l = by_gap (IsBelowFirst cmp v) s x xs (λ e. l) (λ e. first-joined (met cmp s x) xs v l)
@@ -75,19 +76,20 @@ module _ {T : Type 0} (cmp : T → T → Ordering) (o : IsTotalOrder cmp) where
     alone : (from : T) (to : Option T) → is_inside cmp (from ∷ option_to_list to) v ≡ is_between cmp (Some from) to v
     alone from to = grind arith
 
-    -- a span, and boundaries that what is below b isn't in
+    -- an element is inside the boundaries of a span and others after it if and only if it is in the
+    -- span or inside the others
     apart : (from b : T) (to : Option T) (ys : List T) → reached cmp to from ≡ false → is_below cmp to b ≡ true
         → (cmp v b ≡ Less → is_inside cmp ys v ≡ false)
         → is_inside cmp (from ∷ option_to_list to ++ ys) v ≡ (is_between cmp (Some from) to v || is_inside cmp ys v)
     apart from b None ys is gap after = grind arith
     apart from b (Some t) ys is gap after = grind (arith, o.antisymm, o.trans, o.congr)
 
-    -- two that meet
+    -- an element is in the union of two spans that meet if and only if it is in one of them
     meet : (s x : SpanValue T) → is_below cmp s.to x.from ≡ false → is_lt (cmp x.from s.from) ≡ false
         → is_in cmp (met cmp s x) v ≡ (is_in cmp s v || is_in cmp x v)
     meet s x e up = grind (arith, reached-later, not_on)
 
-    -- the boundaries say what is in some of the spans
+    -- an element is inside the boundaries if and only if it is in some of the spans
     pub joined-contains : (s : SpanValue T) (xs : List (SpanValue T)) → IsSpan cmp s → some_empty cmp xs ≡ false → IsAscending cmp s.from xs
         → is_inside cmp (joined cmp s xs) v ≡ (is_in cmp s v || in_some cmp xs v)
     joined-contains s [] is all up = grind (arith, alone)
@@ -111,7 +113,7 @@ module _ {T : Type 0} (cmp : T → T → Ordering) (o : IsTotalOrder cmp) where
   apart-rise a b None ys is gap first rise = absurd (grind arith)
   apart-rise a b (Some t) ys is gap first rise = (grind arith, (first t (grind arith), rise))
 
-  -- and they increase
+  -- the boundaries increase
   pub joined-rise : (s : SpanValue T) (xs : List (SpanValue T)) → IsSpan cmp s → some_empty cmp xs ≡ false → IsAscending cmp s.from xs
       → IsIncreasing cmp (joined cmp s xs)
   joined-rise s [] is all up = alone-rise s.from s.to is
@@ -121,7 +123,8 @@ module _ {T : Type 0} (cmp : T → T → Ordering) (o : IsTotalOrder cmp) where
       (λ e. apart-rise s.from x.from s.to (joined cmp x xs) is e (first-joined x xs) (joined-rise x xs (grind arith) rest up.1))
       (λ e. joined-rise (met cmp s x) xs (met-is s x is) rest (ascend s.from x.from xs up.0 up.1))
 
--- the boundaries of sorted spans, and what is in them
+-- ys are boundaries of the kind P, and a version is inside them if and only if it is in some of the
+-- spans xs
 pub record AreOf (P : PlainVersion → Type 0) (xs : List (SpanValue PlainVersion)) (ys : List PlainVersion) : Type 0 where
   pub are_boundaries : AreBoundaries P ys
   pub turn : (v : PlainVersion) → is_inside precedence ys v ≡ in_some precedence xs v
@@ -143,7 +146,7 @@ are_of P (x ∷ xs) ys is kind all up =
       turn = λ v. ap (λ ys. is_inside precedence ys v) is ∙ joined-contains precedence precedence_total v x xs own rest up;
     }
 
--- one span
+-- the boundaries of one span
 pub are_of_one : (P : PlainVersion → Type 0) (x : SpanValue PlainVersion) (ys : List PlainVersion) → IsSpan precedence x
     → ys ≡ span_boundaries precedence x → AllByRecursion P ys → AreOf P (x ∷ []) ys
 are_of_one P x ys e is kind = are_of P (x ∷ []) ys is kind (grind arith) tt
@@ -152,7 +155,7 @@ module _ {L : Type 0} (place : L → PlainVersion) where
   abbrev pub begins_below : Span L → Span L → Bool
   begins_below x y = is_lt (precedence (place x.from) (place y.from))
 
-  -- what is asked of the sort's closure
+  -- the closure that sorts spans compares them by where they begin
   pub compares : {F : Type 0} {g : _} {f : F}
       → ((a : Bor (Span L) × (Bor (Span L) × Unit {0})) (r : Ordering) (f' : F) → Called g f a r f'
       → (r ≡ precedence (place a.0.now.from) (place a.1.0.now.from)) × (f' ≡ f)) → ComparesAs g begins_below f
@@ -170,7 +173,7 @@ module _ {L : Type 0} (place : L → PlainVersion) where
         ∙ up (suc k) d (omega arith) (omega arith)),
   )
 
-  -- those of spans that were sorted
+  -- the boundaries of spans that were sorted
   pub are_of_sorted : (P : PlainVersion → Type 0) (xs sorted : List (Span L)) → IsPermutation xs sorted → IsSortedBy begins_below sorted
       → some_empty precedence (map (span_value place) xs) ≡ false
       → (ys : List PlainVersion) → AllByRecursion P ys × (ys ≡ all_joined precedence (map (span_value place) sorted))

@@ -1,5 +1,6 @@
 -- serves: version_sets::laws::one_set
--- What the sweep over two lists of boundaries shows of them.
+-- The pieces of a sweep over two lists of boundaries say which elements are inside each list, and
+-- give the boundaries of a combination.
 use Rattle.std.proofs.Common.{arith, ◌≡◌, Bool, true, false, not, cond, List, [], ◌∷◌, map}
 use Rattle.std.proofs.Common.{refl, sym, ap, ap₂, ◌∙◌, true≢false, Ordering, Less, Equal, Greater, is_ge}
 use Rattle.std.specs.List.{AllByRecursion, list_any}
@@ -27,7 +28,7 @@ abbrev pub froms : {T : Type 0} → List (PieceValue T) → List T
 froms = map (λ p. p.from)
 
 module _ {T : Type 0} (cmp : T → T → Ordering) (o : IsTotalOrder cmp) (P : T → Type 0) where
-  -- ---- what is below the first boundary, and from it on
+  -- ---- elements below the first boundary
 
   differ-below : (x : Bool) (v : T) (ys : List T) → IsBelowFirst cmp v ys → differ x (is_inside cmp ys v) ≡ x
   differ-below x v ys h = ap (differ x) (is_inside-below cmp v ys h) ∙ differ-false x
@@ -109,7 +110,7 @@ module _ {T : Type 0} (cmp : T → T → Ordering) (o : IsTotalOrder cmp) (P : T
   sweep-is [] x y ys = sweep_alone-is x y ys
   sweep-is (a ∷ xs) x y ys = sweep_step-is a xs (sweep cmp xs) (sweep-is xs) x y ys
 
-  -- ---- the boundaries where a test of the pieces changes
+  -- ---- the boundaries at which a test of the pieces changes
 
   module _ (f : Bool → Bool → Bool) where
     changes-starts : (v : T) (k : Bool) (ps : List (PieceValue T)) → IsIncreasing cmp (froms ps) → IsBelowFirst cmp v (froms ps)
@@ -133,7 +134,8 @@ module _ {T : Type 0} (cmp : T → T → Ordering) (o : IsTotalOrder cmp) (P : T
         (λ e. (q.0, changes-each (f p.in_first p.in_second) ps q.1))
         (λ e. changes-each k ps q.1)
 
-    -- they boundary as the test does
+    -- an element is inside these boundaries if and only if the test of its piece (`held`) differs
+    -- from k
     pub changes-hold : (k : Bool) (ps : List (PieceValue T)) (v : T) → IsIncreasing cmp (froms ps)
         → differ k (is_inside cmp (changes f k ps) v) ≡ held cmp f k ps v
     changes-hold k [] v s = differ-false k
@@ -148,7 +150,7 @@ module _ {T : Type 0} (cmp : T → T → Ordering) (o : IsTotalOrder cmp) (P : T
     abbrev pub some_passes : List (PieceValue T) → Bool
     some_passes = list_any (λ p. f p.in_first p.in_second)
 
-    -- then an element does
+    -- if some piece passes, the test holds at some element
     pub some_held : (k : Bool) (ps : List (PieceValue T)) → IsIncreasing cmp (froms ps) → AllByRecursion P (froms ps)
         → some_passes ps ≡ true → (v : T) × P v × (held cmp f k ps v ≡ true)
     some_held k [] s q e = absurd (true≢false (sym e))
@@ -161,7 +163,7 @@ module _ {T : Type 0} (cmp : T → T → Ordering) (o : IsTotalOrder cmp) (P : T
         let below = λ (l : cmp later.0 p.from ≡ Less). held-below f j ps later.0 (below-first cmp o later.0 p.from (froms ps) l s.0) in
         (later.0, later.1, grind (arith, later.2, below)))
 
-    -- and where an element does, some piece does
+    -- if the test holds at some element, some piece passes
     pub held_some : (ps : List (PieceValue T)) (v : T) → held cmp f false ps v ≡ true → some_passes ps ≡ true
     held_some [] v e = absurd (true≢false (sym e))
     held_some (p ∷ ps) v e = grind (arith, held_some ps v)

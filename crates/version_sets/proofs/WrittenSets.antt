@@ -1,5 +1,5 @@
 -- serves: version_sets::printing::VersionSetDisplay::fmt, writes
--- The text of intervals, and that an identifier has one text however its digits are read.
+-- The text of an identifier doesn't depend on how its digits are read; and the text of intervals.
 use Rattle.std.proofs.Common.{◌≡◌, ℕ, ◌≤◌, false, List, [], ◌∷◌, ◌++◌, arith, cond, codes, length, map, refl, sym, ap, ap₂, ◌∙◌, take_all}
 use Rattle.std.proofs.lemmas.Bool.{and_parts}
 use Rattle.semver_texts.proofs.Joins.{joined_all}
@@ -38,17 +38,18 @@ same_texts AnySize ids = any_texts ids
 le_refl : (n : ℕ) → n ≤ n
 le_refl n = omega arith
 
--- a range, and each other after the separator
+-- the text of a set is that of its first range, and then that of each other range after ` || `
 pub first_and_others : (r : PlainRange) (rs : List PlainRange) → range_text r ++ others_text rs ≡ set_text (npm_set (r ∷ rs))
 first_and_others r rs =
     ap (λ l. range_text r ++ others_text l) (sym (take_all (length rs) rs (le_refl (length rs))))
     ∙ joined_all range_text (codes " || ") (r ∷ rs) r rs (length rs) refl (le_refl (length rs))
 
--- some range is there, and it isn't that of all versions of the kind
+-- if there is a range, and not just the one of every version of a kind, the text of the ranges is
+-- that of the set
 pub not_whole : (r : PlainRange) (rs : List PlainRange) → is_whole (r ∷ rs) ≡ false → set_text (npm_set (r ∷ rs)) ≡ ranges_text (npm_set (r ∷ rs))
 not_whole r rs e = sym (ap (λ w. cond w (codes "*") (set_text (npm_set (r ∷ rs)))) e)
 
--- the text of a set that has both kinds
+-- the text of a set that has both releases and pre-releases
 pub both_kinds : (set : SetValue) → is_empty set.releases ≡ false → is_empty set.pre_releases ≡ false
     → ranges_text (release_ranges set) ++ (codes ", pre-releases " ++ ranges_text (pre_release_ranges set)) ≡ kinds_text set
 both_kinds set e f =

@@ -1,4 +1,4 @@
--- The answers on the versions so far are written.
+-- The results for the versions so far are written, and the numbers of these versions fit 64 bits.
 use Rattle.version_sets.specs.Steps.Places.{version_place}
 use Rattle.version_sets.specs.VersionSets.{contains_kept, Fits}
 use Rattle.version_sets.proofs.EachAnswer.{AreTold}

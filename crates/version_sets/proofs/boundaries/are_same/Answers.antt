@@ -6,7 +6,7 @@ use Rattle.std.specs.List.{list_all, zip}
 use Rattle.semver_texts.specs.Precedence.{precedence}
 use Rattle.version_sets.proofs.boundaries.are_same.Goals as goal
 
--- lists that are as long agree place by place if all their pairs do
+-- two lists of the same length agree at each index if and only if all their pairs agree
 all_pairs : {X Y : Type 0} (f : X → Y) (E : Y → Y → Bool) (xs ys : List X) → length xs ≡ length ys
     → list_all (λ p. E (f p.0) (f p.1)) (zip xs ys) ≡ pointwise E (map f xs) (map f ys)
 all_pairs f E [] [] e = refl

@@ -1,4 +1,5 @@
--- The boundaries below `low` are at or below the version, and those from `high` on are above it.
+-- The boundaries before the index `low` are at or below the version, and those from the index
+-- `high` on are above it.
 use Rattle.std.proofs.Common.{◌≤◌, ◌-◌, length}
 use Rattle.semver_texts.specs.Digits.{plain_by}
 use Rattle.semver_versions.specs.VersionRefs.{kept_version_of}

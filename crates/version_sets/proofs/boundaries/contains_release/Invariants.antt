@@ -1,4 +1,5 @@
--- What is left of the boundaries turns what is known.
+-- The release is inside the boundaries if and only if `is_in` differs from whether it is inside
+-- those that are left.
 use Rattle.std.proofs.Common.{drop, map}
 use Rattle.semver_texts.specs.Precedence.{precedence}
 use Rattle.version_sets.specs.Releases.{release_value}

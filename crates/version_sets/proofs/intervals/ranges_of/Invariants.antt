@@ -1,4 +1,5 @@
--- The ranges so far, and those of the boundaries that are left, are those of all boundaries.
+-- The ranges so far, followed by those of the boundaries that are left, are the ranges of all
+-- boundaries.
 use Rattle.std.proofs.Common.{◌≡◌, ◌≤◌, map, ◌++◌, length}
 use Rattle.semver_ranges.specs.RangeViews.{range_of}
 use Rattle.version_sets.specs.DigitViews.{range_kept}

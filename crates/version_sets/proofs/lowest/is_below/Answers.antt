@@ -8,12 +8,12 @@ use Rattle.version_sets.specs.Releases.{release_value}
 use Rattle.version_sets.specs.Steps.Lower.{is_below}
 use Rattle.version_sets.proofs.lowest.is_below.Goals as goal
 
--- no pre-release is not below any
+-- an empty pre-release isn't below any other
 no_pre : (xs : List IdentifierValue) → is_lt (pre_cmp [] xs) ≡ false
 no_pre [] = refl
 no_pre (x ∷ xs) = refl
 
--- what comes last, and is not below, does not make it below
+-- a last comparison that isn't less doesn't change whether the whole is less
 last : (a b c d : Ordering) → is_lt d ≡ false
     → is_lt (ordering_then a (ordering_then b (ordering_then c d))) ≡ is_lt (ordering_then a (ordering_then b c))
 last a b c d e = grind arith

@@ -1,4 +1,5 @@
--- What is written, and then the text of what is left, is that of all.
+-- The text that was written, followed by that of the intervals that are left, is the text of all
+-- intervals.
 use Rattle.std.proofs.Common.{◌≡◌, ◌++◌, length, map}
 use Rattle.std.specs.Fmt.{HasWritten, IsPlainFormatter}
 use Rattle.semver_texts.specs.Texts.{Text}

@@ -1,4 +1,5 @@
--- The boundaries so far, and those of the spans that are left, are those of all.
+-- The boundaries so far are of their kind and, followed by those of the spans that are left, are
+-- the boundaries of all spans.
 use Rattle.std.proofs.Common.{◌≡◌, ◌++◌, drop, map}
 use Rattle.std.specs.List.{AllByRecursion}
 use Rattle.semver_texts.specs.Precedence.{precedence}

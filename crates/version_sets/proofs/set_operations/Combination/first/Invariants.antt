@@ -5,7 +5,8 @@ use Rattle.version_sets.specs.Steps.SweepViews.{pieces_left}
 use Rattle.version_sets.specs.Steps.Combined.{keeps, pieces, combined}
 use Rattle.version_sets.proofs.set_operations.Combination.first.Given as goal
 
--- the first boundary is to come
+-- no boundary was found yet: the first one of the pieces that are left is the first of the
+-- combination
 abbrev pub invariant-loop-piece : goal.invariant-loop-piece
 invariant-loop-piece g l =
     let place = g.T.Boundary.place in

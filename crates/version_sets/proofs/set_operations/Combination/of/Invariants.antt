@@ -4,8 +4,8 @@ use Rattle.version_sets.specs.Steps.SweepViews.{pieces_left}
 use Rattle.version_sets.specs.Steps.Combined.{keeps, pieces, keeps_some, combined}
 use Rattle.version_sets.proofs.set_operations.Combination.of.Given as goal
 
--- the boundaries so far, and those to come, are those of the combination; and what is kept so far, or
--- will be, is kept of the whole
+-- the boundaries so far, followed by those of the pieces that are left, are those of the
+-- combination; and if the last piece or one that is left is kept, some piece of the whole is
 abbrev pub invariant-loop-piece : goal.invariant-loop-piece
 invariant-loop-piece g l =
     let place = g.T.Boundary.place in

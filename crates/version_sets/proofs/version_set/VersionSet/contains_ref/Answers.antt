@@ -12,7 +12,7 @@ use Rattle.version_sets.proofs.DigitLaws.{by_empty}
 use Rattle.version_sets.proofs.BorrowedPlaces.{of_texts, pre_release_has, release_is}
 use Rattle.version_sets.proofs.version_set.VersionSet.contains_ref.Goals as goal
 
--- whether there are identifiers is the same however their digits are read
+-- whether a version has a pre-release doesn't depend on how its identifiers of digits are read
 told : (o : VersionRefValue) (digits : Digits) (answer : Bool) → answer ≡ not (is_empty (version_of o).plain.pre)
     → answer ≡ not (is_empty (identifiers_by digits (kept_version_of o).plain.pre))
 told o digits answer is =

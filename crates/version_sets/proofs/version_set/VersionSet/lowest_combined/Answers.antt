@@ -24,7 +24,7 @@ answer c =
     lower (option_map (λ r. release_value r.now) c.first-release.result) (option_map (λ p. read_plain p.now)
     c.first-pre_release.result)
 
--- the first pre-release is the first of the combination
+-- the first pre-release that was found is the first boundary of the combination's pre-releases
 first_is_first : (c : goal.After-lower_one)
     → option_map (λ p. read_plain p.now) c.first-pre_release.result
     ≡ slice_get (combined_sets c.args.how (first c) (second c)).pre_releases 0
