@@ -1,5 +1,5 @@
 -- serves: semver_parser::version::parse
--- What a call of `parse` answers, from the outcome of the text.
+-- The clauses of `version::parse`, from the outcome of the text.
 use Rattle.std.proofs.Common.{◌≡◌, ℕ, List, [], ◌∷◌, Some, None, Option, Result, Ok, Err, sym, refl, ap, subst, inl, inr, IsUtf8, IfOk}
 use Rattle.std.proofs.Common.{◌↔◌}
 use Rattle.semver_tokens.specs.Tokens.{TokenValue}
@@ -73,9 +73,9 @@ module _ (text : List ℕ) (utf8 : IsUtf8 text) where
         out_of_memory = m;
       }
 
--- ---- the outcome at each end of the call
+-- ---- the outcome at each return of `parse_by_tokens`
 
--- a bad start
+-- the text begins with a bad character
 pub at_bad_start : (text : List ℕ) (e : Error)
     → (c : ℕ) × (error_value e ≡ spec.Lexer c) × IsStateOf text (record { remaining = []; pending = Some c })
     → IsOutcomeOf text (Err (error_value e))
@@ -94,14 +94,14 @@ pub lexer_has_memory : (P : Type 0) (e : Error) (c : ℕ) → error_value e ≡ 
 lexer_has_memory P error.OutOfMemory c d = cc
 lexer_has_memory P _ c d = tt
 
--- reading answers an error
+-- reading the tokens returns an error
 pub at_error : (text : List ℕ) (s t : ParserState) (e : ErrorValue) → IsStateOf text s → ReadsVersion s (Err e) t → IsOutcomeOf text (Err e)
 at_error text s t e state reads = record { start = s; answer = Err e; end = t; state = state; reads = reads; whole = refl }
 
 pub at_refusal : (text : List ℕ) (s t : ParserState) → IsStateOf text s → MayRunOutInVersion s t → TextMayRunOut text
 at_refusal text s t state m = record { start = s; front = m.front; rest = m.rest; state = state; longest = m.longest; why = inl m.holds }
 
--- reading answers a version
+-- reading the tokens returns a version
 module _ (text : List ℕ) (s t : ParserState) (v : VersionValue) (state : IsStateOf text s) (reads : ReadsVersion s (Ok v) t) where
   pub at_end : t.remaining ≡ [] → IsOutcomeOf text (Ok v)
   at_end none =
@@ -115,7 +115,8 @@ module _ (text : List ℕ) (s t : ParserState) (v : VersionValue) (state : IsSta
             (rw none);
       }
 
-  -- the tail, where some token is left
+  -- if tokens are left, the outcome is the error that `tail` returns, or `MoreInput` with the
+  -- tokens that it returns
   pub tail_given : ¬ (t.remaining ≡ []) → (d : Step (List TokenValue)) → d ≡ tail t
       → Gives (λ e u. IsOutcomeOf text (Err e)) (λ ts u. IsOutcomeOf text (Err (spec.MoreInput ts))) d
   tail_given some d e =

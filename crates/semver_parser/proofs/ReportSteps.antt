@@ -1,5 +1,5 @@
 -- serves: semver_parser::report::run
--- What the report writes, from what its lines show.
+-- The bytes that the report writes are lines of its text.
 use Rattle.std.proofs.Common.{◌≡◌, Bool, true, false, List, ℕ, Option, Result, Ok, Err, IfOk, IsTrue, codes, refl}
 use Rattle.std.specs.Prelude.{◌||◌}
 use Rattle.semver_ranges.specs.declared.range.Compat.{Compat}
@@ -28,7 +28,7 @@ use Rattle.semver_parser.specs.Steps.Shown.{shown_text, is_value_of}
 use Rattle.semver_parser.specs.declared.report.Shown.{Shown}
 use Rattle.semver_parser.specs.declared.report.Shown.TheVariants.{Value, Word}
 
--- a version that was read shows as its printed text, or as out of memory
+-- a version that was read is shown as its printed text, or as out of memory
 pub shows_version : (text : Text) (shown : Shown) (v : VersionValue) → IsOutcomeOf text (Ok v)
     → (is_value_of shown ≡ true → shown_text shown ≡ version_text v)
     → (is_value_of shown ≡ false → shown_text shown ≡ codes "out-of-memory")
@@ -38,14 +38,14 @@ shows_version text (Value t) v outcome value other =
 shows_version text (Word w) v outcome value other =
     rw (other refl) (version_unprinted text v outcome)
 
--- an error shows as its word
+-- an error is shown as its word
 pub shows_error : (text : Text) (e : Error) → UnlessOutOfMemory {T = Version} (Err e) (IsOutcomeOf text (answer_of version_value (Err e)))
     → IfOutOfMemory {T = Version} (Err e) (TextMayRunOut text)
     → (word : Text) → word ≡ version_error_word (error_value e) → VersionLine text false word
 shows_error text error.OutOfMemory outcome memory word is = rw is (version_unread text memory)
 shows_error text _ outcome memory word is = rw is (version_refused text _ outcome)
 
--- a set that was read shows as its printed text, or as out of memory
+-- a set that was read is shown as its printed text, or as out of memory
 pub shows_set : (mode : Compat) (text : Text) (shown : Shown) (set : PlainSet) (tree : SetTree) → Spells tree text → IsTrue (fits mode tree)
     → set ≡ rewritten mode tree
     → (is_value_of shown ≡ true → shown_text shown ≡ set_text set) → (is_value_of shown ≡ false → shown_text shown ≡ codes "out-of-memory")
@@ -55,7 +55,7 @@ shows_set mode text (Value t) set tree spelled fit is value other =
 shows_set mode text (Word w) set tree spelled fit is value other =
     rw (other refl) (no_memory mode text tree spelled fit)
 
--- a refusal shows as its word
+-- an error of a range text is shown as its word
 pub shows_refusal : (mode : Compat) (text : Text) (e : RangeError) → RefusesExactly {A = RangeSet} mode text (Err e)
     → (word : Text) → word ≡ range_error_word e → RangeLine mode text false word
 shows_refusal mode text NotARange refused word is = rw is (not_a_range mode text (refused.not_a_range.0 refl))
@@ -84,7 +84,7 @@ are_lines text version cargo npm p q s = record {
   whole = refl;
 }
 
--- what was written of the lines was written of the lines of the text
+-- if these three lines were written, or a beginning of them, they are lines of the text
 pub writes_lines : {E : Type 0} (text : Text) (version cargo npm : Shown) (a b : Option (List ℕ)) (r : Result Bool E)
     → VersionLine text (is_value_of version) (shown_text version)
     → RangeLine Cargo text (is_value_of cargo) (shown_text cargo)

@@ -1,5 +1,5 @@
 -- serves: semver_parser::laws::row_facts, leading_zero
--- Examples that show what the definitions say. The table of cases has what the calls answer.
+-- Examples of the definitions of tokens, of identifiers, and of the outcome of a text.
 use Rattle.std.proofs.Common.{◌≡◌, List, [], ◌∷◌, length, Some, Err, refl, sym, arith, inl}
 use Rattle.std.specs.Prelude.{codes}
 use Rattle.std.specs.Str.{chars}
@@ -25,7 +25,7 @@ use Rattle.semver_versions.proofs.OneVersion.{bare}
 
 -- ---- tokens and the state of a parser
 
--- tokens that are found are the tokens
+-- the tokens that `scan` finds are the tokens of the text
 tokens_found : (text : Text) (ts : List TokenValue) (rest : Text) → scan (length text) text 0 ≡ (ts, rest) → AreTokensOf text ts rest
 tokens_found text ts rest e =
     rw e at (scan_finds text (length text) 0 (omega arith))
@@ -34,7 +34,7 @@ word_space_slash : AreTokensOf (codes "foo / *") (token.AlphaNumeric (codes "foo
 unfolding scan first_token component sign
 word_space_slash = tokens_found _ _ _ refl
 
--- the longer signs go first, and a `|` alone opens no token
+-- the longer of two signs is read, and a single `|` begins no token
 signs_and_bars : AreTokensOf (codes "<==|||") (token.LtEq ∷ token.Eq ∷ token.Or ∷ []) (codes "|")
 unfolding scan first_token sign
 signs_and_bars = tokens_found _ _ _ refl
@@ -47,7 +47,7 @@ past_ascii : IsStateOf (49 ∷ 195 ∷ 169 ∷ 50 ∷ []) (record { remaining = 
 unfolding scan first_token component sign chars
 past_ascii = (195 ∷ 169 ∷ 50 ∷ [], tokens_found _ _ _ refl, refl)
 
--- on `.1/` the dot is consumed, and the number after it isn't given
+-- in `.1/`, `dot_component` consumes the dot, but doesn't return the number after it
 dot_one_slash : dot_component (record { remaining = token.Dot ∷ token.Numeric 1 ∷ []; pending = Some 47 })
     ≡ (Err (state.Lexer 47), record { remaining = token.Numeric 1 ∷ []; pending = Some 47 })
 dot_one_slash = refl

@@ -1,5 +1,6 @@
 -- serves: semver_parser::version::parse
--- A text that spells a version with identifiers has tokens that hold a run of one, so reading it may run out of memory.
+-- Reading a text that spells a version with a pre-release or build metadata may run out of memory,
+-- since its tokens contain a run of an identifier.
 use Rattle.std.proofs.Common.{◌≡◌, ℕ, ◌<◌, ◌+◌, Bool, true, false, arith, List, [], ◌∷◌, length, map, Some}
 use Rattle.std.proofs.Common.{refl, subst, inl, inr, ⊎_elim, ◌⊎◌, decimal}
 use Rattle.std.specs.List.{AllZip, join_with_byte}
@@ -18,7 +19,7 @@ use Rattle.semver_tokens.proofs.VersionSteps.{version_is_read}
 use Rattle.semver_tokens.proofs.VersionTaking.{holds_later, mark_of, sign_holds}
 use Rattle.semver_parser.proofs.WholeText.{is_no_mark, letter_no_mark, has, spelled_may_run_out}
 
--- ---- after a mark comes a run
+-- ---- a run follows a mark
 
 mark_leads : (mark : Part) (p q : Place) → step p (mark_of mark) ≡ Some q → (part : Part) × (q ≡ at_run part)
 mark_leads pre_release (after_number patch) q e = (pre_release, cc)
@@ -36,7 +37,7 @@ mark_holds mark p q leads ts last e ok =
     is_sign pre_release = inl refl
     is_sign build = inr refl
 
--- ---- tokens without a mark have a text without one
+-- ---- tokens without a mark have a text without a mark
 
 abbrev is_mark : TokenValue → Bool
 is_mark Hyphen = true
@@ -56,7 +57,7 @@ no_mark_inside text place Hyphen other w = cc
 no_mark_inside text place Plus other w = cc
 no_mark_inside text place _ other w = (refl, tt)
 
--- the tokens hold a run of an identifier, or their text has no mark
+-- the tokens contain a run of an identifier, or their text contains no mark
 holds_or_none : (text : List ℕ) (place : ℕ) (p last : Place) (ts : List TokenValue) → AreInPlace text place ts → run step p ts ≡ Some last
     → accepts last ≡ true → HoldsIdentifierRun ts ⊎ Passes is_no_mark (inner_texts ts)
 holds_or_none text place p last [] placed leads ok = inr tt
@@ -72,7 +73,7 @@ holds_or_none text place p last (t ∷ ts) placed leads ok =
 
 -- ---- a version with identifiers
 
--- a part with identifiers has its mark
+-- the text of a part with identifiers contains its mark
 no_ids : (mark : ℕ) (ids : List IdentifierValue) (text : Text) → SpellsPart (mark ∷ []) ids text → is_no_mark mark ≡ false
     → Passes is_no_mark text → ¬ (0 < length ids)
 no_ids mark ids text w marks all some = go ids w.texts w.each some (subst (Passes is_no_mark) w.joined all)

@@ -1,5 +1,5 @@
 -- serves: semver_parser::laws::one_outcome
--- A text that spells a version has the tokens of one, and they spell that version.
+-- The tokens of a text that spells a version have the shape of a version, and spell that version.
 use Rattle.std.proofs.Common.{◌≡◌, ℕ, ◌+◌, ◌<◌, ◌^◌, true, false, List, [], ◌∷◌, ◌++◌, length, take, drop, Some, sym, refl}
 use Rattle.std.proofs.Common.{ap, ◌∙◌, subst, inl, arith, append_assoc, append-nil, length-append, length-drop, decimal}
 use Rattle.std.specs.Prelude.{option_and_then, slice_index, slice_range}
@@ -24,8 +24,8 @@ use Rattle.semver_tokens.proofs.VersionSteps.{version_is_read}
 use Rattle.semver_tokens.proofs.VersionTaking.{mark_of}
 use Rattle.semver_versions.proofs.OneVersion.{at_numbers, after_spaces, build_ends, pre_ends, numbers_end, numbers_first, core_begins}
 
--- the tokens from a place of the text on, which lead from the place p of a version to one where it may end, and spell this without white
--- space
+-- the tokens of the text from an offset on: they lead from the position p in a version to one at
+-- which it may end, and spell `spelled`, not counting white space
 record AreEnding (text : List ℕ) (p : Place) (spelled : List ℕ) (at : ℕ) : Type 0 where
   ts : List TokenValue
   tokens : AreTokensFrom text at ts []
@@ -34,11 +34,11 @@ record AreEnding (text : List ℕ) (p : Place) (spelled : List ℕ) (at : ℕ) :
   may_end : accepts last ≡ true
   text_is : inner_texts ts ≡ spelled
 
--- they are there wherever the text goes on so
+-- there are such tokens at each offset of the text at which `suffix` is left
 abbrev EndsWith : List ℕ → List ℕ → Place → List ℕ → Type 0
 EndsWith text suffix p spelled = (at : ℕ) → drop at text ≡ suffix → AreEnding text p spelled at
 
--- the token of a run is no white space, and has the run as its text
+-- the token of a run has the run as its text, not counting white space
 run_inner : (run : List ℕ) → 0 < length run → inner_text (component run) ≡ run
 run_inner run some =
     component_cases run (λ t. inner_text t ≡ token_text [] t) (λ c. refl) (λ other. refl) ∙ token_text-component [] run some
@@ -47,7 +47,7 @@ run_leads : (part : Part) (run : List ℕ) → step (at_run part) (component run
 run_leads part run = component_cases run (λ t. step (at_run part) t ≡ Some (after_run part)) (λ c. refl) (λ other. refl)
 
 module _ (text : List ℕ) where
-  -- a token, and what ends after it
+  -- one more token before such tokens
   one_more : (t : TokenValue) (p q : Place) (more spelled : List ℕ) (at : ℕ) → drop at text ≡ token_text text t ++ more
       → IsTokenAt text at t → continues_into t more ≡ false → step p t ≡ Some q → EndsWith text more q spelled
       → AreEnding text p (inner_text t ++ spelled) at
@@ -89,7 +89,7 @@ module _ (text : List ℕ) where
     subst (Passes is_space) (sym (slice_here at spaces more here)) all,
   )
 
-  -- one, or none
+  -- white space is one token, or none
   spaces_more : (p q : Place) (spaces more spelled : List ℕ) → Passes is_space spaces → is_space (slice_index more 0) ≡ false
       → ((a b : ℕ) → step p (Whitespace a b) ≡ Some q) → EndsWith text more p spelled → EndsWith text more q spelled
       → EndsWith text (spaces ++ more) p spelled
@@ -111,7 +111,7 @@ module _ (text : List ℕ) where
         text_is = refl;
       }
 
-  -- ---- before white space at the end of the text
+  -- ---- tokens before white space at the end of the text
 
   module _ (after : List ℕ) (spaces : Passes is_space after) where
     abbrev Ends : Place → List ℕ → Type 0
@@ -184,7 +184,7 @@ module _ (text : List ℕ) where
     mark_more build from spelled leads rest at here =
         one_more Plus from (at_run build) (spelled ++ after) spelled at here tt refl leads rest
 
-    -- a part, from a place where its mark leads to a run of it, or nothing
+    -- a pre-release or build metadata with its mark, or nothing
     part_more : (part : Part) (from : Place) (ids : List IdentifierValue) (bytes spelled : List ℕ)
         → step from (mark_of part) ≡ Some (at_run part) → SpellsPart (inner_text (mark_of part)) ids bytes → NoRun spelled
         → Ends from spelled → Ends (after_run part) spelled → Ends from (bytes ++ spelled)
@@ -201,7 +201,7 @@ module _ (text : List ℕ) where
 
 -- ---- a version
 
--- the tokens of a version
+-- the tokens of a text that spells a version
 pub record HasTokens (v : VersionValue) (text : List ℕ) : Type 0 where
   pub ts : List TokenValue
   pub tokens : AreTokensOf text ts []

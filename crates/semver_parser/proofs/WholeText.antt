@@ -1,5 +1,5 @@
 -- serves: semver_parser::laws::one_outcome
--- What reading a whole text answers, by the texts and the grammar.
+-- The result of reading a whole text as a version, in terms of the grammar of versions.
 use Rattle.std.proofs.Common.{◌≡◌, ℕ, zero, suc, ◌+◌, ◌<◌, ◌^◌, Bool, true, false, eqb, ◌||◌, List, [], ◌∷◌, ◌++◌, length, map}
 use Rattle.std.proofs.Common.{Some, None, Option, Result, Ok, Err, sym, refl, ap, ◌∙◌, subst, inr, inl, ⊎_elim, arith, append_assoc}
 use Rattle.std.proofs.Common.{append-nil, length-append, codes, decimal, IsUtf8}
@@ -42,7 +42,8 @@ core_printed v core w =
     w.spelled ∙ (λ i. join_with_byte 46 (map decimal (numbers v.plain)) ++ part_text _ v.plain.pre w.pre_text w.pre i
     ++ part_text _ v.build w.build_text w.build i)
 
--- the bytes of a core, where those of numbers pass, dots, and those of its parts
+-- the bytes of a version's text, without white space around it, pass p if letters and digits, dots,
+-- and the bytes of its pre-release and build metadata do
 core_passes : (p : ℕ → Bool) → ((b : ℕ) → is_ascii_alphanumeric b ≡ true → p b ≡ true) → p 46 ≡ true → (v : VersionValue) (core : List ℕ)
     (w : SpellsCore v core) → Passes p w.pre_text → Passes p w.build_text → Passes p core
 core_passes p letters dot v core w pre build =
@@ -56,7 +57,7 @@ core_passes p letters dot v core w pre build =
     number : (n : ℕ) → n < 2 ^ 64 → Passes p (decimal n)
     number n small = all_more letters _ (decimal_is_run n small).1
 
--- bytes of a version
+-- a byte of a version's text: a byte of a part, a dot or a `+`
 abbrev is_version_byte : ℕ → Bool
 is_version_byte b = is_part_byte b || (eqb b 46 || eqb b 43)
 
@@ -138,7 +139,7 @@ outer_texts text ((Whitespace a b) ∷ []) w placed =
 outer_texts text (t ∷ []) w placed = cc (w.1.0)
 outer_texts text (t ∷ u ∷ ts) w placed = absurd (omega (arith, w.0))
 
--- they have the same text whatever text they are of
+-- the text of these tokens, as tokens of `text`, is their text without white space
 abbrev AreSame : List ℕ → List TokenValue → Type 0
 AreSame text ts = tokens_text text ts ≡ inner_texts ts
 
@@ -165,7 +166,7 @@ part_same : (text : List ℕ) (mark : TokenValue) (ts : List TokenValue) → tok
 part_same text mark ts same w =
     ⊎_elim (λ none. rw none.1) (λ some. rw some.1 (λ i. same i ++ identifiers_same text w.ids w.each i)) w.parted
 
--- what the tokens spell without white space, the text spells with it
+-- if the tokens without white space spell a version, the whole text spells it
 pub whole_spelled : (v : VersionValue) (text : List ℕ) (ts : List TokenValue) → AreTokensOf text ts [] → IsVersionShape ts
     → SpellsCore v (inner_texts ts) → SpellsVersion v text
 whole_spelled v text ts tokens shape w =
@@ -210,7 +211,7 @@ none_first : (cs : List ℕ) → slice_get cs 0 ≡ None → cs ≡ []
 none_first [] none = refl
 none_first (c ∷ cs) none = absurd (none-some c (sym none))
 
--- where no character is pending, the tokens are all of the text
+-- if no character is pending, nothing of the text follows the tokens
 no_rest : (text : List ℕ) (s : ParserState) → IsUtf8 text → (w : IsStateOf text s) → s.pending ≡ None → w.0 ≡ []
 no_rest text s utf8 w none =
     let front : List ℕ = tokens_text text s.remaining in
@@ -220,7 +221,7 @@ no_rest text s utf8 w none =
     append_cancel_left front w.0 [] (sym w.1.spelled ∙ sym (encodes-chars text utf8) ∙ ap encode_utf8_all same
     ∙ encodes-chars front front_utf8 ∙ sym (append-nil front))
 
--- and where they are, none is
+-- if nothing of the text follows the tokens, no character is pending
 no_pending : (text : List ℕ) (s : ParserState) → (w : IsStateOf text s) → w.0 ≡ [] → s.pending ≡ None
 no_pending text s w empty = w.2 ∙ rw empty (rw chars-nil)
 
@@ -244,14 +245,14 @@ accepted_spells v text utf8 o =
 
 -- ---- a text that spells a version
 
--- a byte that is no mark of a pre-release or a build
+-- a byte other than `-` and `+`, the marks of a pre-release and of build metadata
 abbrev pub is_no_mark : ℕ → Bool
 is_no_mark b = not (eqb b 45 || eqb b 43)
 
 pub letter_no_mark : (b : ℕ) → is_ascii_alphanumeric b ≡ true → is_no_mark b ≡ true
 letter_no_mark b h = grind (arith, nat_tests)
 
--- so are all bytes of a part without identifiers
+-- the text of a part without identifiers contains no mark
 no_part : (mark : List ℕ) (ids : List IdentifierValue) (part : List ℕ) → ids ≡ [] → SpellsPart mark ids part → Passes is_no_mark part
 no_part mark ids part none w =
     rw (part_text mark ids part w ∙ ap (λ l. marked mark (map identifier_text l)) none) tt
@@ -260,7 +261,7 @@ module _ (v : VersionValue) (text : List ℕ) (spells : SpellsVersion v text) wh
   pub has : HasTokens v text
   has = version_tokens v text spells
 
-  -- all its tokens are the longest front
+  -- the longest prefix of its tokens with which a version begins consists of all of them
   all_longest : IsLongestFront IsVersionShape has.ts has.ts []
   all_longest = record {
     split = sym (append-nil has.ts);
@@ -294,7 +295,7 @@ module _ (v : VersionValue) (text : List ℕ) (spells : SpellsVersion v text) wh
             known = inr (no_pending text o.start o.state (sym (state_is o.start o.state).1));
           }))
 
-  -- the state of the text, and its outcome
+  -- the state at the beginning of the text; below, the outcome of the text
   abbrev at_start : ParserState
   at_start = record { remaining = has.ts; pending = None }
 
@@ -317,12 +318,12 @@ module _ (v : VersionValue) (text : List ℕ) (spells : SpellsVersion v text) wh
     whole = refl;
   }
 
-  -- where its tokens hold a run of an identifier, memory is asked for
+  -- if its tokens contain a run of an identifier, reading the text may run out of memory
   pub spelled_may_run_out : HoldsIdentifierRun has.ts → TextMayRunOut text
   spelled_may_run_out holds =
       record { start = at_start; front = has.ts; rest = []; state = is_start; longest = all_longest; why = inl holds }
 
-  -- without pre-release and build no memory is asked for
+  -- without a pre-release and build metadata, reading the text can't run out of memory
   pub plain_has_memory : v.plain.pre ≡ [] → v.build ≡ [] → ¬ (TextMayRunOut text)
   plain_has_memory no_pre no_build m =
       ⊎_elim
@@ -348,7 +349,7 @@ module _ (v : VersionValue) (text : List ℕ) (spells : SpellsVersion v text) wh
           (λ plus. let e = subst (λ x. Passes is_no_mark (inner_text x)) plus at_sign in cc (e.0))
           h.is_sign
 
--- ---- the outcome is one
+-- ---- there is only one outcome
 
 pub one_outcome : (text : List ℕ) (x y : Result VersionValue ErrorValue) → IsOutcomeOf text x → IsOutcomeOf text y → x ≡ y
 one_outcome text x y a b =
