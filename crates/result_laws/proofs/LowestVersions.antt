@@ -1,5 +1,5 @@
 -- serves: result_laws::sets::one_lowest
--- There is one lowest version.
+-- There is at most one lowest version.
 use Rattle.std.proofs.Common.{IfSome, ◌≡◌, ◌≢◌, ◌↔◌, [], refl, sym, ap, ◌∙◌, Option, Some, None, option_map}
 use Rattle.std.specs.Cmp.{IsTotalOrder}
 use Rattle.std.specs.Ordering.{ordering_reverse}
@@ -17,7 +17,7 @@ use Rattle.version_sets.specs.declared.Release.{Release}
 use Rattle.result_laws.proofs.SameSets.{plainly}
 
 module _ (total : IsTotalOrder precedence) (exact : (v w : PlainVersion) → (precedence v w ≡ Equal) ↔ (v ≡ w)) where
-  -- of which neither is below the other
+  -- two versions are equal if neither is below the other
   level : (v w : PlainVersion) → precedence v w ≢ Less → precedence w v ≢ Less → v ≡ w
   level v w p q = by_order (precedence v w) refl
     where
@@ -46,7 +46,8 @@ module _ (total : IsTotalOrder precedence) (exact : (v w : PlainVersion) → (pr
       (p.lowest (release_value b) q.is_of_kind q.is_in) in
       ap Some (λ i. record { major = (e i).major; minor = (e i).minor; patch = (e i).patch })
 
--- what the clauses of `lowest` say, as one of `compare` does
+-- the clauses of `VersionSet::lowest` imply `TellsLowest`, which is how the clauses of a comparison
+-- are stated
 pub lower_one : (set : SetValue) (x : Option Version)
     → IfSome x (λ version. (v : PlainVersion) × IsLowest Fits set v × ((version_value version).plain ≡ plain_kept v))
     → IfSome x (λ v. (version_value v).build ≡ []) → (x ≡ None) ↔ HasNone Fits set → TellsLowest (λ v. Fits v × IsIn v set) x

@@ -1,5 +1,5 @@
 -- serves: result_laws::ranges::one_refusal
--- A range text has one error, at one offset, for one reason.
+-- A range text has at most one error, with one offset and one reason.
 use Rattle.std.proofs.Common.{◌≡◌, ◌∙◌, ℕ, Option, Some, None, refl, subst, sym, ap, drop, take}
 use Rattle.semver_texts.specs.Texts.{Text}
 use Rattle.semver_parser.specs.declared.RangeError.{RangeError}
@@ -14,7 +14,7 @@ use Rattle.tool_ranges.specs.Refusals.{IsRefusalAs}
 use Rattle.tool_ranges.specs.declared.dialect.Dialect.{Dialect}
 use Rattle.tool_ranges.specs.declared.refusals.Refusal.{Refusal}
 
--- the refusals whose parts are equal
+-- two errors are equal if their parts are
 same : (r s : Refusal) → r.error ≡ s.error → r.offset ≡ s.offset → r.reason ≡ s.reason → r ≡ s
 same r s error offset reason = λ i. record { error = error i; offset = offset i; reason = reason i }
 

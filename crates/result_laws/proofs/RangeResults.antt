@@ -1,5 +1,6 @@
 -- serves: result_laws::version_ranges::one_contains
--- Two answers of a call that reads, combines or asks ranges are one.
+-- Two results of a call that combines two ranges, or tests whether a range contains a version text,
+-- count as the same.
 use Rattle.std.proofs.Common.{IfOk, ◌≡◌, ◌≢◌, ◌↔◌, Bool, refl, sym, ap, ◌∙◌, inl, inr, Result, Ok, Err}
 use Rattle.semver_texts.specs.Texts.{Text}
 use Rattle.semver_texts.specs.ToolVersions.{SpellsIn}
@@ -15,11 +16,11 @@ use Rattle.tool_ranges.specs.declared.satisfying.SatisfiesError.TheVariants.{Inv
 use Rattle.result_laws.specs.OneResult.{AreOne, itself, seen}
 use Rattle.result_laws.specs.SameSets.{AreAlikeRanges}
 
--- two answers whose ranges are alike
+-- two ranges that are returned satisfy `AreAlikeRanges`
 abbrev pub Alike : {E : Type 0} → Result RangeValue E → Result RangeValue E → Type 0
 Alike r s = IfOk r (λ a. IfOk s (AreAlikeRanges a))
 
--- what is combined of two ranges
+-- the clauses of a call that combines two ranges
 module _ (mine other : Meaning) (test : PlainVersion → Bool) where
   abbrev IsRefused : Result RangeValue OperationError → Type 0
   IsRefused r = (r ≡ Err DifferentMeanings) ↔ (mine ≢ other)
@@ -44,7 +45,7 @@ module _ (mine other : Meaning) (test : PlainVersion → Bool) where
   one_combined (Err DifferentMeanings) s alike d e f g p q m n = inl (ap (seen itself) (sym (e.1 (d.0 refl))))
   one_combined r (Err DifferentMeanings) alike d e f g p q m n = inl (ap (seen itself) (d.1 (e.0 refl)))
 
--- what a range says of a text
+-- whether a range contains the version that a text spells
 pub one_contained : ((grammar : Grammar) (v w : VersionValue) (text : Text) → SpellsIn grammar v text → SpellsIn grammar w text → v ≡ w)
     → (range : RangeValue) (text : Text) (r s : Result Bool SatisfiesError) → ContainsText range text r → ContainsText range text s → r ≡ s
 one_contained same range text (Ok a) (Ok b) p q =

@@ -1,5 +1,5 @@
 -- serves: result_laws::sets::one_read
--- Two answers that are sets with the same versions are one.
+-- Two results that are sets with the same versions count as the same.
 use Rattle.std.proofs.Common.{IfOk, ◌≡◌, ◌↔◌, [], refl, sym, ap, ◌∙◌, inl, inr, Bool, Result, Ok, Err}
 use Rattle.semver_parser.specs.declared.RangeError.{RangeError}
 use Rattle.semver_parser.specs.declared.RangeError.TheVariants.{OutOfMemory}
@@ -13,26 +13,28 @@ use Rattle.result_laws.specs.OneResult.{AreOne, itself, seen}
 use Rattle.result_laws.specs.SameSets.{AreAlike}
 use Rattle.result_laws.proofs.OneResult.{one, said}
 
--- two answers whose sets are alike
+-- two sets that are returned satisfy `AreAlike`
 abbrev pub Alike : {E : Type 0} → Result SetValue E → Result SetValue E → Type 0
 Alike r s = IfOk r (λ a. IfOk s (AreAlike a))
 
--- a set that is answered reads digits so
+-- a set that is returned reads digits in this way
 abbrev pub ReadsAs : {E : Type 0} → Digits → Result SetValue E → Type 0
 ReadsAs d r = IfOk r (λ a. a.digits ≡ d)
 
--- what is so of two sets says that they have the same versions
+-- any two sets with P contain the same versions
 abbrev pub Agree : (SetValue → Type 0) → Type 0
 Agree P = (a b : SetValue) → P a → P b → (v : PlainVersion) → Fits v → contains a v ≡ contains b v
 
--- what is read of a text: each tree of it says which versions they have
+-- two results of reading a text count as the same if P determines the versions of a set whenever
+-- the text fits
 pub one_read : {T L F : Type 0} {P : SetValue → Type 0} (d : Digits) (r s : Result SetValue RangeError) → Refuses T L F r
     → Refuses T L F s → Alike r s → ReadsAs d r → ReadsAs d s → IfOk r P → IfOk s P → (F → Agree P) → AreOne OutOfMemory itself r s
 one_read d r s p q alike dr ds h k agree =
     one itself r s p q (λ a b is is' text.
     said _ is' (said _ is alike) (said _ is dr ∙ sym (said _ is' ds)) (agree text a b (said _ is h) (said _ is' k)))
 
--- what is made of two sets, if these read digits alike
+-- two results of a call on two sets count as the same if they fail with `DifferentDigits` under the
+-- same condition, and their values have equal views
 pub one_combined_answer : {A V : Type 0} (view : A → V) (D : Type 0) (r s : Result A SetError)
     → (r ≡ Err DifferentDigits) ↔ D → (s ≡ Err DifferentDigits) ↔ D
     → ((a b : A) → r ≡ Ok a → s ≡ Ok b → view a ≡ view b) → AreOne NoMemory view r s
@@ -50,10 +52,10 @@ one_set_combined D d r s p q alike dr ds h k agree =
     one_combined_answer itself D r s p q
     (λ a b is is'. said _ is' (said _ is alike) (said _ is dr ∙ sym (said _ is' ds)) (agree a b (said _ is h) (said _ is' k)))
 
--- by one test
+-- sets whose versions are decided by the same test contain the same versions
 pub by_test : (test : PlainVersion → Bool) → Agree (λ set. (v : PlainVersion) → contains set v ≡ test v)
 by_test test a b p q v fits = p v ∙ sym (q v)
 
--- a version without a build
+-- a version without build metadata
 abbrev pub plainly : PlainVersion → VersionValue
 plainly v = record { plain = v; build = [] }

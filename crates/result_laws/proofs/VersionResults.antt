@@ -1,5 +1,6 @@
 -- serves: result_laws::texts::one_whole_number
--- Two answers about one version text are one.
+-- Two results for the same version text, or the same state of a parser, are equal, unless memory
+-- ran out.
 use Rattle.std.proofs.Common.{◌≡◌, ◌↔◌, ◌∙◌, ◌<◌, ◌^◌, ◌++◌, ◌∷◌, [], ℕ, List, refl, sym, ap, arith, length, decimal}
 use Rattle.std.proofs.Common.{Option, Some, None, Result, Ok, Err, IfOk, IfErr, MatchOption, option_map, alloc_error}
 use Rattle.std.specs.Prelude.{IsErr, IsOk, chars, slice_get}
@@ -58,7 +59,7 @@ one_numbers bytes (Some n) None p q = absurd (q _ _ _ _ p)
 one_numbers bytes None (Some m) p q = absurd (p _ _ _ _ q)
 one_numbers bytes None None p q = refl
 
--- one part isn't two
+-- a list of one part isn't a list of two or more
 one_part : (part other rest : Text) → part ∷ [] ≡ other ∷ slice_split is_dot rest → ⊥
 one_part part other rest e = omega (arith, ap length e, length-slice_split is_dot rest)
 
@@ -85,7 +86,7 @@ one_state same_tokens text s t a b =
     let pending = a.2 ∙ ap (λ rest. slice_get (chars rest) 0) same.1 ∙ sym b.2 in
     (λ i. record { remaining = same.0 i; pending = pending i })
 
--- what `Parser::new` ensures
+-- the clauses of `Parser::new`
 pub record Begins (text : Text) (r : Result ParserState Error) : Type 0 where
   pub ok : IfOk r (λ p. IsStateOf text p)
   pub lexer : IfErr r (λ e. (c : ℕ) × (error_value e ≡ spec.Lexer c) × IsStateOf text (record { remaining = []; pending = Some c }))
@@ -101,7 +102,6 @@ one_parser same_tokens text (Err e) (Err f) a b =
     let errors : error_value e ≡ error_value f = cc in
     ap Err errors
 
--- what follows of an answer unless memory ran out
 pub unless_more : {T P Q : Type 0} (r : Result T Error) → (P → Q) → UnlessOutOfMemory r P → UnlessOutOfMemory r Q
 unless_more (Err error.OutOfMemory) f p = tt
 unless_more r f p = f p
@@ -115,7 +115,8 @@ step_is : {T A : Type 0} (view : T → A) (r : Result T Error) (s : ParserState)
 step_is view (Ok x) s = refl
 step_is view (Err e) s = refl
 
--- what is read once has one step
+-- if a text spells only one value, two calls that read from the same state return the same result
+-- and leave the same state
 pub one_step : {T V : Type 0} (view : T → V) (Shape : List TokenValue → Type 0) (Spells : V → Text → Type 0)
     → ((v w : V) (text : Text) → Spells v text → Spells w text → v ≡ w) → (before : ParserState) (r q : Result T Error)
     (s t : ParserState) → Reads Shape Spells before (step_of view r s).0 s → Reads Shape Spells before (step_of view q t).0 t
@@ -124,9 +125,9 @@ one_step view Shape Spells once before r q s t a b =
     let same = reads_once Shape Spells once before _ _ s t a b in
     step_is view r s ∙ (λ i. (same.0 i, same.1 i)) ∙ sym (step_is view q t)
 
--- ---- what the answers hold
+-- ---- identifiers and versions
 
--- what a call ensures that reads an identifier
+-- the clauses of a call that reads an identifier
 pub record IsRead (before : ParserState) (r : Result Identifier Error) (s : ParserState) : Type 0 where
   pub answer : UnlessOutOfMemory r (ReadsIdentifier before (step_of identifier_value r s).0 s)
   pub text_taken : IfOutOfMemory r ((text : Text) × ReadsIdentifier before (Ok (alphanumeric text)) s)
@@ -140,7 +141,7 @@ once : (before : ParserState) (x y : Result IdentifierValue ErrorValue) (s t : P
     → ReadsIdentifier before y t → (x ≡ y) × (s ≡ t)
 once before x y s t a b = reads_once IsIdentifierShape SpellsIdentifier same_identifier before x y s t a b
 
--- something is read, also where memory ran out
+-- there is a result of reading from the state, even if memory ran out
 something : (before : ParserState) (r : Result Identifier Error) (s : ParserState)
     → UnlessOutOfMemory r (ReadsIdentifier before (step_of identifier_value r s).0 s)
     → IfOutOfMemory r ((text : Text) × ReadsIdentifier before (Ok (alphanumeric text)) s)
@@ -154,7 +155,7 @@ one_left before r q s t a b =
     let y = something before q t b.answer b.text_taken in
     (once before x.0 y.0 s t x.1 y.1).1
 
--- where memory ran out in one answer, the other is an identifier
+-- if one call ran out of memory, the other returns an identifier, unless it ran out of memory too
 pub one_memory : (before : ParserState) (r q : Result Identifier Error) (s t : ParserState) → IsRead before r s → IsRead before q t
     → IfOutOfMemory r (UnlessOutOfMemory q (IsOk q))
 one_memory before (Err error.OutOfMemory) q s t a b =

@@ -10,7 +10,7 @@ use Rattle.result_laws.proofs.OneResult.{one_made, said}
 use Rattle.result_laws.specs.OneResult.{itself}
 use Rattle.result_laws.proofs.texts.one_explanation.Goals as goal
 
--- what the clauses say of a refusal, or of none
+-- the clauses of `explain` for its result: an error of the text, or none
 record IsAnswer (g : Grammar) (t : Text) (o : Option Refusal) : Type 0 where
   version : MatchOption o (IsVersionTextIn g t) (λ r. ¬ (IsVersionTextIn g t))
   offset : MatchOption o (Unit {0}) (λ r. IsLongestVersionPrefix g t r.offset)
