@@ -65,7 +65,7 @@ for name in package-lock version-1 version-2 links missing peers kinds accepted 
     checked 1 "$name.json"
 done
 for name in nothing-wrong canaries-right left-alone/package-lock own-versions/package-lock hidden/node_modules/.package-lock \
-    peers-overridden/package-lock gone-links/version-1 gone-links/version-2 gone-links/version-3; do
+    peers-overridden/package-lock hiding/overridden/package-lock gone-links/version-1 gone-links/version-2 gone-links/version-3; do
     checked 0 "$name.json"
 done
 cp -R cases/hidden "$work" && sed -i -f cases/hidden/broken.sed "$work/hidden/node_modules/.package-lock.json"
@@ -73,7 +73,7 @@ same 'a lock file in node_modules' 1 /dev/null cases/hidden/broken.expected /dev
     $fields "$work/hidden/node_modules/.package-lock.json"
 same 'a lock file in the current node_modules' 1 /dev/null cases/hidden/broken.expected /dev/null \
     sh -c 'cd "$1" && shift && exec "$@"' - "$work/hidden/node_modules" "$PWD/$check" --quiet --format tsv .package-lock.json
-for name in missing version-1 archives-1 left-alone/package-lock peers-conflict/package-lock peers-overridden/package-lock overrides-1/package-lock from-npm/package-lock canaries tags unread stale/package-lock; do
+for name in missing version-1 archives-1 left-alone/package-lock peers-conflict/package-lock peers-overridden/package-lock hiding/overridden/package-lock overrides-1/package-lock from-npm/package-lock canaries tags unread stale/package-lock; do
     checked 1 "$name.json" --strict
 done
 for name in nothing-wrong canaries-right; do checked 0 "$name.json" --strict; done

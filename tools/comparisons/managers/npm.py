@@ -163,13 +163,6 @@ def version_in(text: str) -> Version:
     return Version.parse(text, dialect=Dialect.NPM)
 
 
-def are_chosen(listed: List[Finding], it: Case, npm: Npm) -> bool:
-    """Returns whether each finding for a project as it is now is listed by a row of the README."""
-    now = it._replace(lock=json.loads((it.folder / LOCK).read_text()))
-    answer = npm.answer(it.folder)
-    return all(choice_of(each, now, answer) is not None for each in listed)
-
-
 def mend(it: Case, answer: Answer, npm: Npm, found: Differences) -> None:
     """Runs the repair that the checker proposes."""
     repair(
@@ -180,7 +173,6 @@ def mend(it: Case, answer: Answer, npm: Npm, found: Differences) -> None:
             flags=npm.flags,
             failures=FAILURES,
             is_taken=lambda: not npm.answer(it.folder).refused,
-            is_chosen=lambda listed: are_chosen(listed, it, npm),
             is_rejected=lambda: has_overrides_or_peers(it),
         ),
         found,

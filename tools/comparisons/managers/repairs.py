@@ -6,7 +6,7 @@ import subprocess
 from pathlib import Path
 from typing import Callable, Dict, List, NamedTuple, Optional
 
-from differences import Differences, Finding, listed_in
+from differences import Differences, listed_in
 from semver_parser.checks.model import Scope
 from semver_parser.checks.repairs import command_for
 from semver_parser.checks.reports import Wanted, report_on
@@ -22,7 +22,6 @@ class Repairs(NamedTuple):
     - `failures` has a pattern of what the tool prints if it fails for each reason that files can't
       tell.
     - `is_taken` returns whether the tool accepts the project.
-    - `is_chosen` returns whether all findings after a repair are listed by choice.
     - `is_rejected` returns whether the tool rejects what it has repaired, by a row of the README.
     """
 
@@ -31,7 +30,6 @@ class Repairs(NamedTuple):
     flags: List[str]
     failures: Dict[str, str]
     is_taken: Callable[[], bool]
-    is_chosen: Callable[[List[Finding]], bool] = lambda _: False
     is_rejected: Callable[[], bool] = lambda: False
 
 
@@ -52,8 +50,7 @@ def reason_of(failures: Dict[str, str], printed: str) -> Optional[str]:
 def repair(path: Path, tool: Repairs, found: Differences, shown: Dict[str, object]) -> None:
     """Runs the command that is proposed for a lock file, if there is one. The command may fail for a
     reason that files can't tell. Afterwards, the tool has to accept the lock file, and what is listed
-    has to be something that the checker says the command doesn't repair, or that is listed by
-    choice."""
+    has to be something that the checker says the command doesn't repair."""
     command = proposed(path)
     if command is None:
         return
@@ -77,9 +74,7 @@ def repair(path: Path, tool: Repairs, found: Differences, shown: Dict[str, objec
             found.choose("a repair that the tool itself rejects afterwards", shown)
         else:
             found.add("a repair that the tool itself rejects afterwards", shown)
-    elif listed and not tool.is_chosen(listed):
-        found.add("a repair that repairs nothing", shown)
     elif listed:
-        found.choose("a repair that leaves what is listed by choice", shown)
+        found.add("a repair that repairs nothing", {**shown, "left": [it.record for it in listed]})
     else:
         found.count("repairs that repair")

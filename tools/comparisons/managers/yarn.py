@@ -131,12 +131,10 @@ def compare(
     elif taken == bool(listed):
         who = "rejected here, but yarn accepts it" if taken else "only yarn rejects it"
         found.add(f"{what}: {who}", shown_of(world, lock))
-    mend(what, folder, world, lock, yarn, found)
+    mend(folder, world, lock, yarn, found)
 
 
-def mend(
-    what: str, folder: Path, world: World, lock: str, yarn: Yarn, found: Differences
-) -> None:
+def mend(folder: Path, world: World, lock: str, yarn: Yarn, found: Differences) -> None:
     """Runs the repair that the checker proposes."""
     repair(
         folder / LOCK,
@@ -146,7 +144,6 @@ def mend(
             flags=yarn.flags,
             failures=FAILURES,
             is_taken=lambda: yarn.takes(folder),
-            is_chosen=lambda listed: all(choice_of(what, it, world) for it in listed),
         ),
         found,
         shown_of(world, lock),

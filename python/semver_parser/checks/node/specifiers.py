@@ -119,6 +119,11 @@ def is_no_range(spec: str) -> bool:
     return is_tag or is_elsewhere(spec)
 
 
+def is_fetched(specifier: str) -> bool:
+    """Returns whether npm fetches what a specifier requires from a URL, a repository or a path."""
+    return is_no_range(specifier) and reason_of(specifier) in ("git", "URL", "path")
+
+
 def reason_of(spec: str) -> str:
     """Returns a word for why a specifier isn't checked. It is a tag if it is nothing else."""
     return next((reason for reason, begins in REASONS if begins.match(spec)), "tag")

@@ -14,11 +14,14 @@ from ..findings import (
     OfFound,
     OfRequirement,
     Overridden,
+    TwoVersions,
     Unsatisfied,
 )
 from ..model import Requirement
+from ..node.specifiers import is_fetched
 from ..satisfaction import is_met, range_in
 from .lock import Packages, folder_round, folders, inside, is_outside, is_top, locked_in
+from .overrides import Rule
 from .peers import Peers
 
 UNMET = (Unsatisfied, Overridden)
@@ -34,10 +37,10 @@ class Leaving:
     leaves no peer."""
 
     def __init__(
-        self, packages: Packages, peers: Optional[Peers], look: Callable[[], Set[str]]
+        self, packages: Packages, peers: Optional[Peers], rules: Rule, look: Callable[[], Set[str]]
     ) -> None:
         self.packages, self.peers, self.locked = packages, peers, locked_in(packages)
-        self.look = look
+        self.rules, self.look = rules, look
 
     @cached_property
     def looked(self) -> Set[str]:
@@ -57,12 +60,13 @@ class Leaving:
         if not is_top(it.requirer.place) and it.requirer.place not in self.looked:
             finding.advised(ANEW, False)
         is_unmet = isinstance(finding, UNMET)
-        if isinstance(finding, UNMET) and self.may_stay(finding):
+        if isinstance(finding, UNMET) and (self.may_stay(finding) or self.is_hiding(finding)):
             if isinstance(finding, Overridden):
                 return "override"
             finding.advised(ANEW, False)
-        if isinstance(finding, Unsatisfied) and self.is_hiding(finding):
-            finding.advised(ANEW, False)
+        # If there are overrides, npm also leaves what has the version of the one that it fetches.
+        if isinstance(finding, Unsatisfied) and self.rules.inner and is_fetched(it.specifier):
+            finding.advised(TwoVersions.advice, False)
         is_peer = self.peers is not None and is_unmet and self.peers.is_left(it)
         return "conflicting peer" if is_peer else ""
 
@@ -77,7 +81,7 @@ class Leaving:
         versions = (self.packages[at].get("version") for at in places)
         return any(is_met(specifier, str(version), Dialect.NPM) for version in versions)
 
-    def is_hiding(self, finding: Unsatisfied) -> bool:
+    def is_hiding(self, finding: OfFound) -> bool:
         """Returns whether the package that a finding is about hides each one that npm would add. npm
         adds a package one directory further up if nothing has its name there. Then it removes the
         one inside, unless that is newer."""

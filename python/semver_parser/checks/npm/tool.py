@@ -62,6 +62,7 @@ from ..node.specifiers import (
     directory_at,
     is_any,
     is_archive,
+    is_fetched,
     is_no_range,
     reason_of,
     verdict_on,
@@ -148,11 +149,6 @@ class NpmScheme(NodeScheme):
 
 
 NPM_SCHEME = NpmScheme()
-
-
-def is_fetched(specifier: str) -> bool:
-    """Returns whether npm fetches what a specifier requires from a URL, a repository or a path."""
-    return is_no_range(specifier) and reason_of(specifier) in ("git", "URL", "path")
 
 
 # ---- what npm demands besides requirements
@@ -377,7 +373,7 @@ class Reader:
             [found[it] for it in there],
             lambda: edges_of(plain),
             lambda: compared_in((it, packages[it]) for it in packages if is_top(it)),
-            Leaving(packages, peers, lambda: looked_at(required)).excuse,
+            Leaving(packages, peers, self.rules, lambda: looked_at(required)).excuse,
             left_out=self.left_out,
             from_lock=len(self.from_lock.intersection(checked)),
             package_count=len(set(there).intersection(checked)),
