@@ -11,7 +11,6 @@ from ..files import (
     is_there,
     json_object,
     taking,
-    text_at,
     texts_at,
 )
 from ..findings import Finding, MissingMember, OfRequirement, Unsatisfied
@@ -179,11 +178,6 @@ def statement_of(
     else:
         path = os.path.normpath(os.path.join(directory, place, MANIFEST))
     return None if path is None else Statement(path, keys)
-
-
-def text_or(value: object, where: str, other: str) -> str:
-    """Returns a text of a file, or a default if it isn't there."""
-    return other if value is None else text_at(value, where)
 
 
 # ---- the tools

@@ -137,6 +137,12 @@ def may_overlap(spec: str, within: str) -> bool:
     return one is None or other is None or not one.isdisjoint(other)
 
 
+def is_within(spec: str, within: str) -> bool:
+    """Returns whether all versions of a range are in another one. Both have to be valid."""
+    one, other = (range_in(it, Dialect.NPM) for it in (spec, within))
+    return one is not None and other is not None and one <= other
+
+
 def verdict_on(version: Optional[str], spec: str) -> Optional[Verdict]:
     """Returns the verdict on the version of a package for a specifier. A package at a URL may have
     no version."""

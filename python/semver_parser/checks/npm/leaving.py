@@ -31,6 +31,9 @@ UNMET = (Unsatisfied, Overridden)
 # requirement; and a package that hides the one that npm would add.
 ANEW = "remove it, and have npm write it without the old one"
 
+# The advice for a mismatched peer that npm may keep.
+PEER = "run npm install; if npm keeps a mismatched peer, change what requires the package"
+
 
 class Leaving:
     """Decides which findings are about something that npm leaves as it is. Without `peers`, npm
@@ -59,16 +62,23 @@ class Leaving:
             return "bundled"
         if not is_top(it.requirer.place) and it.requirer.place not in self.looked:
             finding.advised(ANEW, False)
-        is_unmet = isinstance(finding, UNMET)
-        if isinstance(finding, UNMET) and (self.may_stay(finding) or self.is_hiding(finding)):
+        return self.excuse_of_version(finding) if isinstance(finding, UNMET) else ""
+
+    def excuse_of_version(self, finding: OfFound) -> str:
+        """Returns why npm leaves a package with the wrong version; an empty text if it doesn't."""
+        it = finding.requirement
+        if self.may_stay(finding) or self.is_hiding(finding):
             if isinstance(finding, Overridden):
                 return "override"
             finding.advised(ANEW, False)
         # If there are overrides, npm also leaves what has the version of the one that it fetches.
-        if isinstance(finding, Unsatisfied) and self.rules.inner and is_fetched(it.specifier):
+        if self.rules.inner and is_fetched(finding.specifier):
             finding.advised(TwoVersions.advice, False)
-        is_peer = self.peers is not None and is_unmet and self.peers.is_left(it)
-        return "conflicting peer" if is_peer else ""
+        if self.peers is None:
+            return ""
+        if self.peers.may_be_left(it):
+            finding.advised(PEER, False)
+        return "conflicting peer" if self.peers.is_left(it) else ""
 
     def may_stay(self, finding: OfFound) -> bool:
         """Returns whether npm may leave the package that a finding is about: a package of the name

@@ -13,7 +13,7 @@ from functools import cached_property
 from typing import Callable, Container, Dict, Iterable, Iterator, List, Set
 
 from ..model import PEERS, Requirement
-from ..node.specifiers import is_elsewhere, is_no_range, may_overlap, range_of
+from ..node.specifiers import is_elsewhere, is_no_range, is_within, may_overlap, range_of
 from .lock import folders, inside, is_top
 
 
@@ -62,6 +62,14 @@ class Peers:
         others = self.others(self.first_folder(place, ask.name), ask, there)
         is_needed = any(is_apart(it.specifier, ask.specifier) for it in others)
         return is_needed and (is_top(place) or not self.is_of_project(place))
+
+    def may_be_left(self, peer: Requirement) -> bool:
+        """Returns whether npm may leave a mismatched peer as it is: not every version that satisfies
+        it also satisfies what the package that is there satisfies."""
+        if peer.kind != PEERS or peer.found is None:
+            return False
+        others = self.fitting(peer.found.place)
+        return not all(is_within(range_of(peer.specifier), range_of(it.specifier)) for it in others)
 
     def first_folder(self, place: str, name: str) -> str:
         """Returns the first of a place and the directories around it whose package has no peer of a
