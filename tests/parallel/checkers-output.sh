@@ -195,6 +195,7 @@ repaired monorepo/web/yarn.lock 'yarn install'
 advised yarn/stale/yarn.lock 'correct the manifests: no lock file is right for them'
 advised yarn/classic/yarn.lock 'run yarn install in cases/yarn/classic' \
     'remove the entry, and have it written anew' 'correct the version of the package'
+advised yarn/contradicted/yarn.lock 'have the resolution and the requirement say the same'
 advised yarn/gone/yarn.lock 'put the directory there, or remove what requires it'
 repaired yarn/stale-berry/yarn.lock 'yarn install'
 repaired pnpm/stale/pnpm-lock.yaml 'pnpm install'

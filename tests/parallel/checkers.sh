@@ -163,7 +163,7 @@ checked 1 yarn/classic/yarn.lock --strict
 checked 0 yarn/berry-right/yarn.lock
 checked 1 yarn/berry/yarn.lock
 checked 1 yarn/berry/yarn.lock --strict
-for name in resolution resolutions keys stale stale-berry workspaces-berry gone; do checked 1 "yarn/$name/yarn.lock"; done
+for name in resolution resolutions contradicted keys stale stale-berry workspaces-berry gone; do checked 1 "yarn/$name/yarn.lock"; done
 for name in asked not-required; do checked 0 "yarn/$name/yarn.lock"; done
 checked 1 yarn/asked/yarn.lock --strict
 for name in cut-off one-name; do checked 2 "yarn/$name/yarn.lock"; done

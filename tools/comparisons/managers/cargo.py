@@ -21,15 +21,18 @@ from cargo_worlds import (
     write_package,
     write_world,
 )
-from differences import Differences, is_refused
+from differences import Differences, Missing, is_refused, listed_in
 from repairs import Repairs, repair
+from semver_parser.checks.findings import MissingMember
 
 CHANGES = 5
 
-# What Cargo prints if it can't repair a lock file.
+# What Cargo prints if it can't repair a lock file. It also reads the manifests at paths that the
+# lock file lacks, which the checker doesn't.
 FAILURES = {
     "the registry doesn't have what is required": "no matching package|failed to select a version",
 }
+OF_UNREAD = {"a manifest that isn't read is invalid": "failed to parse manifest|duplicate key"}
 
 
 def compare(what: str, is_taken: bool, path: Path, found: Differences, shown: object) -> None:
@@ -61,13 +64,14 @@ def mend(top: Path, world: World, lock: str, found: Differences) -> None:
     """Runs the repair that the checker proposes."""
     path = top / "Cargo.lock"
     before = path.read_text()
+    lacks = any(it.kind in (Missing.kind, MissingMember.kind) for it in listed_in(path))
     repair(
         path,
         Repairs(
             program="cargo",
             environment={"CARGO_HOME": str(top / "home")},
             flags=["--offline", "--quiet"],
-            failures=FAILURES,
+            failures={**FAILURES, **OF_UNREAD} if lacks else FAILURES,
             is_taken=lambda: graph_at(top) is not None,
         ),
         found,

@@ -48,7 +48,14 @@ from ..node.package_json import (
     requirer_of,
     version_in,
 )
-from ..node.specifiers import alias_of, directory_at, is_elsewhere, name_and_rest, verdict_on
+from ..node.specifiers import (
+    alias_of,
+    directory_at,
+    is_elsewhere,
+    may_overlap,
+    name_and_rest,
+    verdict_on,
+)
 from ..node.workspaces import patterns_in
 from ..satisfaction import is_range, is_version
 from ..tool import Input
@@ -60,6 +67,9 @@ TRIVIAL = ("", "*")
 
 # Why something that is missing is listed only with --strict.
 FROM_REGISTRY = "the registry is asked"
+
+# What to change if a resolution contradicts what the project requires.
+AGREE = "have the resolution and the requirement say the same"
 
 # What to change if a directory is gone.
 GONE = "put the directory there, or remove what requires it"
@@ -167,7 +177,16 @@ class Reader:
             for it in requirements_in(manifest, requirer_of(directory)):
                 version, spec = versions.get(it.name), specifier_in(manifest, it)
                 if version is None or verdict_on(version, spec) is not RIGHT:
-                    yield it._replace(specifier=spec)
+                    it = it._replace(specifier=spec)
+                    yield it._replace(stated=AGREE if self.is_contradicted(it) else None)
+
+    def is_contradicted(self, it: Requirement) -> bool:
+        """Returns whether no version satisfies both what the project itself requires and a
+        resolution. For such a project, yarn writes a lock file that it then rejects."""
+        if it.requirer.name != PROJECT:
+            return False
+        specs = (each.spec for each in self.resolved_for(it) if is_taken(each.spec))
+        return any(not may_overlap(it.specifier, spec) for spec in specs)
 
     def of_resolutions(self, stated: List[Requirement]) -> Iterator[Requirement]:
         """Yields what the project requires by resolutions, with what is found for it. If one is a
@@ -182,12 +201,14 @@ class Reader:
             inner = requirements_of(package, self.lock.requirer(package))
             others |= {(it.name, it.specifier) for it in inner}
         shared = [(it[0], self.lock.found(*it)) for it in own & others if it[0] in self.resolutions]
+        contradicted = {it.name for it in stated if it.stated}
         for name, groups in self.resolutions.items():
             versions = [it.version for known, it in shared if known == name and it is not None]
             for spec in dict.fromkeys(it.spec for group in groups.values() for it in group):
                 if is_taken(spec):
                     is_dropped = any(verdict_on(it, spec) == UNSATISFIED for it in versions)
                     found = self.own_found(Requirement(Requirer(PROJECT), name, spec))
+                    found = found._replace(stated=AGREE if name in contradicted else None)
                     yield found._replace(excuse="" if is_dropped else FROM_REGISTRY)
 
     def of_keys(self) -> Iterator[Requirement]:
@@ -324,8 +345,10 @@ class Classic(YarnTool):
 
     def advise(self, finding: Finding) -> None:
         """Adds advice to a finding that the command doesn't repair: yarn doesn't compare what is
-        found for an alias."""
+        found for an alias, and it uses a resolution even if that contradicts a requirement."""
         super().advise(finding)
+        if isinstance(finding, (Missing, Unsatisfied, Overridden)) and finding.requirement.stated:
+            finding.advised(finding.requirement.stated, False)
         if isinstance(finding, (AnotherPackage, Unsatisfied)) and alias_of(finding.specifier):
             finding.advised(TwoVersions.advice, False)
 
