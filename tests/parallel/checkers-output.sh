@@ -192,7 +192,8 @@ advised peers-conflict/package-lock.json 'run npm install in cases/peers-conflic
 ! has_toml || advised cargo-lock/conflicts/Cargo.lock 'correct the manifests: no lock file is right for them'
 ! has_toml || advised cargo-lock/checksums/Cargo.lock 'remove the checksum, and have it written anew'
 repaired monorepo/web/yarn.lock 'yarn install'
-advised yarn/stale/yarn.lock 'correct the manifests: no lock file is right for them'
+advised yarn/stale/yarn.lock 'have the resolution and the requirement say the same' \
+    'correct the manifests: no lock file is right for them'
 advised yarn/classic/yarn.lock 'run yarn install in cases/yarn/classic' \
     'remove the entry, and have it written anew' 'correct the version of the package'
 advised yarn/contradicted/yarn.lock 'have the resolution and the requirement say the same'
