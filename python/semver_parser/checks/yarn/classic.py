@@ -16,7 +16,7 @@ project has workspaces.
 """
 
 import os
-from typing import Dict, Iterable, Iterator, List, Optional, Tuple
+from typing import Dict, Iterable, Iterator, List, Optional, Set, Tuple
 
 from semver_parser import Dialect
 
@@ -177,33 +177,42 @@ class Reader:
             for it in requirements_in(manifest, requirer_of(directory)):
                 version, spec = versions.get(it.name), specifier_in(manifest, it)
                 if version is None or verdict_on(version, spec) is not RIGHT:
-                    it = it._replace(specifier=spec)
-                    yield it._replace(stated=AGREE if self.is_contradicted(it) else None)
+                    yield it._replace(specifier=spec)
+
+    def shared(self, stated: List[Requirement]) -> Set[Tuple[str, str]]:
+        """Returns the names and specifiers that both the project and something else requires. If the
+        project has workspaces, it is something else itself."""
+        own = {(it.name, it.specifier) for it in stated if it.requirer.name == PROJECT}
+        if has_workspaces(self.project.top):
+            return own
+        others = [it for it in stated if it.requirer.name != PROJECT]
+        for package in self.lock.packages:
+            others += requirements_of(package, self.lock.requirer(package))
+        return own & {(it.name, it.specifier) for it in others}
 
     def is_contradicted(self, it: Requirement) -> bool:
-        """Returns whether no version satisfies both what the project itself requires and a
-        resolution. For such a project, yarn writes a lock file that it then rejects."""
-        if it.requirer.name != PROJECT:
-            return False
+        """Returns whether no version satisfies both a requirement and a resolution for it."""
         specs = (each.spec for each in self.resolved_for(it) if is_taken(each.spec))
         return any(not may_overlap(it.specifier, spec) for spec in specs)
+
+    def compared(self, stated: List[Requirement]) -> Iterator[Requirement]:
+        """Yields what the project and its workspaces require, with what to change if a resolution
+        contradicts something shared: yarn then writes a lock file that it rejects."""
+        shared = self.shared(stated)
+        for it in stated:
+            is_shared = it.requirer.name == PROJECT and (it.name, it.specifier) in shared
+            is_wrong = is_shared and self.is_contradicted(it)
+            yield it._replace(stated=AGREE) if is_wrong else it
 
     def of_resolutions(self, stated: List[Requirement]) -> Iterator[Requirement]:
         """Yields what the project requires by resolutions, with what is found for it. If one is a
         tag, yarn warns and ignores it. If the entry of one is missing, yarn asks the registry,
         unless it then drops an entry that the project itself requires."""
-        own = {(it.name, it.specifier) for it in stated if it.requirer.name == PROJECT}
-        is_root = has_workspaces(self.project.top)
-        others = {
-            (it.name, it.specifier) for it in stated if is_root or it.requirer.name != PROJECT
-        }
-        for package in self.lock.packages:
-            inner = requirements_of(package, self.lock.requirer(package))
-            others |= {(it.name, it.specifier) for it in inner}
-        shared = [(it[0], self.lock.found(*it)) for it in own & others if it[0] in self.resolutions]
+        shared = (it for it in self.shared(stated) if it[0] in self.resolutions)
+        found_for = [(it[0], self.lock.found(*it)) for it in shared]
         contradicted = {it.name for it in stated if it.stated}
         for name, groups in self.resolutions.items():
-            versions = [it.version for known, it in shared if known == name and it is not None]
+            versions = [it.version for known, it in found_for if known == name and it is not None]
             for spec in dict.fromkeys(it.spec for group in groups.values() for it in group):
                 if is_taken(spec):
                     is_dropped = any(verdict_on(it, spec) == UNSATISFIED for it in versions)
@@ -264,6 +273,7 @@ class Reader:
     def lock_file(self, file: Input) -> LockFile:
         """Returns the contents of the lock file. What the project requires comes first."""
         stated = list(self.stated() if self.project.manifests else self.of_keys())
+        stated = list(self.compared(stated)) if self.resolutions else stated
         found = [it for it in map(self.found, stated) if it is not None]
         outside = [*found, *self.of_resolutions(stated)]
         reached = self.reached(outside) if self.project.manifests else self.lock.packages
