@@ -31,6 +31,7 @@ CHANGES = 5
 # lock file lacks, which the checker doesn't.
 FAILURES = {
     "the registry doesn't have what is required": "no matching package|failed to select a version",
+    "a checksum isn't that of the registry": "checksum for .* changed between lock files",
 }
 OF_UNREAD = {"a manifest that isn't read is invalid": "failed to parse manifest|duplicate key"}
 
