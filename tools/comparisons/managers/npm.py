@@ -10,7 +10,7 @@ import subprocess
 from pathlib import Path
 from typing import Any, Iterator, List, NamedTuple, Optional
 
-from differences import PROJECT, Differences, Finding, Unsatisfied, listed_in
+from differences import PROJECT, Differences, Finding, Unsatisfied, findings_in, listed_in
 from npm_edits import Edited, edited, kinds_of
 from projects import environment, write_project
 from registry import Json, Registry, in_order
@@ -234,9 +234,12 @@ def with_manifests(it: Case) -> Packages:
 
 
 def choice_of_refusal(it: Case, answer: Answer, as_written: Answer) -> Optional[str]:
-    """Returns why npm rejects a project for which nothing is listed, by a row of the README: it
-    rejects the project in the same way as npm wrote it, and would add what has an override by a
-    range, and what that requires."""
+    """Returns why npm rejects a project for which nothing is listed, by a row of the README. It
+    finds no version for a peer that it would otherwise leave as it is; or it rejects the project in
+    the same way as npm wrote it, and would add what has an override by a range, and what that
+    requires."""
+    if set(answer.refused) <= set(not_found_in(it)):
+        return "a conflicting peer that no registry has"
     lines = [REFUSED.fullmatch(line) for line in answer.refused]
     releases = [line.groups() for line in lines if line is not None]
     known = set(names_by_range(it.world.manifests[""].get("overrides", {})))
@@ -247,6 +250,14 @@ def choice_of_refusal(it: Case, answer: Answer, as_written: Answer) -> Optional[
     is_known = len(releases) == len(lines) and all(name in known for name, _ in releases)
     is_written_so = set(answer.refused) <= set(as_written.refused)
     return "an override of a range" if is_known and is_written_so else None
+
+
+def not_found_in(it: Case) -> Iterator[str]:
+    """Yields what npm reports about each conflicting peer if the registry has no version for it."""
+    for finding in findings_in(it.folder / LOCK):
+        record = finding.record
+        if finding.excuse == "conflicting peer":
+            yield f"ETARGET: No matching version found for {record.dependency}@{record.range}."
 
 
 def names_by_range(overrides: Json) -> Iterator[str]:
