@@ -99,8 +99,9 @@ def is_absent(world: World, name: str, wanted: str, seen: Set[Tuple[str, str]]) 
         return not releases
     if version is None:
         return True
-    required = releases[version].get("dependencies", {})
-    return any(is_absent(world, other, text, seen) for other, text in required.items())
+    kinds = (releases[version].get(it, {}) for it in ("dependencies", "optionalDependencies"))
+    required = (each for kind in kinds for each in kind.items())
+    return any(is_absent(world, other, text, seen) for other, text in required)
 
 
 def is_nowhere(finding: Finding, world: World) -> bool:
