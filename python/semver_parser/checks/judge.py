@@ -41,9 +41,11 @@ NO_VERSION = Verdict(NoVersion)
 
 
 class Scheme:
-    """How a tool reads versions and specifiers. This one only has the ranges of a dialect."""
+    """How a tool reads versions and specifiers. This one only has the ranges of a dialect. A tool
+    may write a `protocol` before a range."""
 
     dialect = Dialect.NPM
+    protocol = ""
 
     def is_version(self, package: Package) -> bool:
         """Returns whether the version of a package is valid."""
@@ -66,15 +68,15 @@ class Scheme:
         return Missing(requirement).excused(requirement.excuse)
 
 
-def is_plainly_met(it: Requirement, dialect: Dialect) -> bool:
+def is_plainly_met(it: Requirement, scheme: Scheme) -> bool:
     """Returns whether a requirement is a range, as nearly always, and the package that is found has
     a version in it and no other name. Then nothing else has to be checked."""
-    found, specifier = it.found, it.specifier
+    found, specifier = it.found, it.specifier.removeprefix(scheme.protocol)
     if found is None or found.version is None or ":" in specifier or it.stated is not None:
         return False
     if it.replaced_by or it.locked is not None or found.name not in (None, it.name):
         return False
-    return is_met(specifier, found.version, dialect) is True
+    return is_met(specifier, found.version, scheme.dialect) is True
 
 
 def best_of(it: Requirement, scheme: Scheme) -> Tuple[str, Optional[Verdict]]:
@@ -129,9 +131,8 @@ def judged(node: Node, scheme: Scheme) -> Iterator[Finding]:
     if node.package is not None and not scheme.is_version(node.package):
         yield InvalidVersion(node.package)
     yield from node.findings
-    dialect = scheme.dialect
     for it in node.requirements:
-        if is_plainly_met(it, dialect):
+        if is_plainly_met(it, scheme):
             continue
         found = [] if it.is_gone else list(findings_of(it, scheme))
         yield from found

@@ -195,7 +195,7 @@ def is_left_peer(finding: Finding, it: Case) -> bool:
     required = [
         each
         for place, entry in packages.items()
-        for each in requirements_at(place, entry, found, {}, False)
+        for each in requirements_at(place, entry, found, {})
     ]
     record = finding.record
     into = [each for each in required if each.found and each.found.place == record.place]

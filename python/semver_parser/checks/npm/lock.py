@@ -222,20 +222,21 @@ def pinned_in(packages: Packages) -> Set[str]:
 
 
 def requirements_at(
-    place: str, entry: Entry, found: Dict[str, Package], workspaces: Dict[str, str], is_old: bool
+    place: str, entry: Entry, found: Dict[str, Package], workspaces: Dict[str, str]
 ) -> Iterator[Requirement]:
     """Yields what the package at a place requires, in the order of the file, with the package that
     is found. The project requires its workspaces by their names, whatever else it requires by these
     names."""
-    stated = [] if entry.get("link") else stated_at(place, entry)
+    here = found[place]
+    stated = [] if entry.get("link") else stated_at(place, entry, here.is_own)
     own = {} if place or entry.get("link") else workspaces
     if not stated and not own:
         return
     accepted: Dict[str, str] = {}
     if ACCEPTED in entry:
         accepted = texts_at(entry[ACCEPTED], f"{place or PROJECT}: {ACCEPTED}")
-    requirer = Requirer(place or PROJECT, "", place, keys_of(place, is_old))
-    is_apart = PEERS in entry and not is_top(place)
+    requirer = Requirer(place or PROJECT, "", place, here.at)
+    is_apart = PEERS in entry and not here.is_own
     around = around_of(place)
     of_peers = around_of(folder_round(place)) if is_apart else around
     for kind, name, spec in stated:
@@ -290,11 +291,11 @@ def nearest(name: str, around: Tuple[str, ...], found: Dict[str, Package]) -> Op
     return None
 
 
-def stated_at(place: str, entry: Entry) -> List[Tuple[str, str, str]]:
+def stated_at(place: str, entry: Entry, is_own: bool) -> List[Tuple[str, str, str]]:
     """Returns the requirements of the package at a place: the table, the name and the specifier of
     each."""
     where = place or "the project"
-    named = KINDS_OF_TOPS if is_top(place) else KINDS_OF_EACH
+    named = KINDS_OF_TOPS if is_own else KINDS_OF_EACH
     kinds = [kind for kind in named if kind in entry]
     specs = {kind: texts_at(entry[kind], f"{where}: {kind}") for kind in kinds}
     if len(kinds) < 2:

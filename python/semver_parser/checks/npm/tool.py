@@ -331,7 +331,7 @@ class Reader:
     def requirements_at(self, place: str) -> List[Requirement]:
         """Returns what the package at a place requires."""
         entry = self.packages[place]
-        return list(requirements_at(place, entry, self.found, self.workspaces, self.is_old))
+        return list(requirements_at(place, entry, self.found, self.workspaces))
 
     def checked(self) -> List[str]:
         """Returns the places that are checked. npm removes packages to which nothing leads."""
@@ -367,7 +367,8 @@ class Reader:
         is_strict = is_set(self.directory, STRICT_PEERS)
         tops = self.workspaces.values()
         peers = None if is_strict else Peers(required, NPM_SCHEME.fits, tops, reading.rules)
-        there = [it for it in packages if not is_top(it) and not packages[it].get("link")]
+        own = (it for it, each in packages.items() if not each.get("link"))
+        there = [it for it in own if not found[it].is_own]
         return LockFile(
             list(self.nodes(checked, first)),
             [found[it] for it in there],

@@ -36,6 +36,8 @@ OWN = "workspace:"
 class BerryScheme(YarnScheme):
     """How yarn 2 and later read specifiers."""
 
+    protocol = "npm:"
+
     def npm_form(self, specifier: str, requirement: Requirement) -> str:
         """Returns a specifier in the form that npm reads: a range with the name of its package. For
         `patch:` these are those of the patched package."""
@@ -81,30 +83,33 @@ class Reader:
     def required(self, package: Package) -> Iterator[Requirement]:
         """Yields the requirements of a package, with what is found. A resolution that has a key
         comes first."""
-        name, place = name_and_rest(str(package.entry.get("resolution", "")))
         for it in self.stated(package):
             resolved: List[str] = []
             if it.name in self.resolutions:
-                names = [name]
+                name, place = name_and_rest(str(package.entry.get("resolution", "")))
                 at = without_protocol(place)
-                resolved = specs_for(self.resolutions, it.name, it.specifier, names, at)
-            self.used.add(self.lock.key_for(it.name, (*resolved, it.specifier)[0]))
-            yield self.looked_up(it._replace(is_override=bool(resolved)), *resolved[:1])
+                resolved = specs_for(self.resolutions, it.name, it.specifier, [name], at)
+            key = self.lock.key_for(it.name, resolved[0] if resolved else it.specifier)
+            self.used.add(key)
+            yield self.looked_up(it, key, *resolved[:1])
 
-    def looked_up(self, it: Requirement, specifier: Optional[str] = None) -> Requirement:
-        """Returns a requirement with what is found for a specifier. If nothing is found, it is
-        listed only with `--strict` if it is a tag, a path or a URL, which yarn may have written in
-        another way, or if there is no package.json, so resolutions aren't known."""
-        found = self.lock.found(it.name, it.specifier if specifier is None else specifier)
-        if found is not None:
-            is_replaced = specifier is not None and not found.is_own
-            spec = specifier if specifier and is_replaced else it.specifier
-            return it._replace(specifier=spec, found=found, must_exist=True)
+    def looked_up(
+        self, it: Requirement, key: Optional[str], specifier: Optional[str] = None
+    ) -> Requirement:
+        """Returns a requirement with what is found by a key, which is for a resolution's specifier
+        if there is one. If nothing is found, it is listed only with `--strict` if it is a tag, a
+        path or a URL, which yarn may have written in another way, or if there is no package.json,
+        so resolutions aren't known."""
+        is_over = specifier is not None
+        if key is not None:
+            found = self.lock.by_pattern[key]
+            spec = specifier if specifier and not found.is_own else it.specifier
+            return it._replace(specifier=spec, found=found, must_exist=True, is_override=is_over)
         wanted = BERRY_SCHEME.npm_form(it.specifier, it)
         excuse = reason_of(wanted) if is_no_range(wanted) else ""
         if not self.project.manifests:
             excuse = excuse or "no package.json"
-        return it._replace(must_exist=True, excuse=excuse)
+        return it._replace(must_exist=True, excuse=excuse, is_override=is_over)
 
     def of_project(self, package: Package) -> Iterator[Requirement]:
         """Yields the keys of a package that no package requires. The project requires them, by a
@@ -114,7 +119,8 @@ class Reader:
             if bare(pattern) not in self.used:
                 name, spec = name_and_rest(pattern)
                 if not spec.startswith(OWN):
-                    yield self.looked_up(Requirement(requirer, name, spec))
+                    it = Requirement(requirer, name, spec)
+                    yield self.looked_up(it, self.lock.key_for(name, spec))
 
     def workspaces(self) -> Iterator[Finding]:
         """Yields the findings about workspaces that the lock file lacks, and about those that are

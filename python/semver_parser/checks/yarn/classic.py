@@ -75,6 +75,10 @@ AGREE = "have the resolution and the requirement say the same"
 GONE = "put the directory there, or remove what requires it"
 
 
+Shared = Set[Tuple[str, str]]
+"""Names and specifiers that both the project and something else requires."""
+
+
 class ClassicScheme(YarnScheme):
     """How yarn 1 reads specifiers."""
 
@@ -179,7 +183,7 @@ class Reader:
                 if version is None or verdict_on(version, spec) is not RIGHT:
                     yield it._replace(specifier=spec)
 
-    def shared(self, stated: List[Requirement]) -> Set[Tuple[str, str]]:
+    def shared(self, stated: List[Requirement]) -> Shared:
         """Returns the names and specifiers that both the project and something else requires. If the
         project has workspaces, it is something else itself."""
         own = {(it.name, it.specifier) for it in stated if it.requirer.name == PROJECT}
@@ -195,21 +199,19 @@ class Reader:
         specs = (each.spec for each in self.resolved_for(it) if is_taken(each.spec))
         return any(not may_overlap(it.specifier, spec) for spec in specs)
 
-    def compared(self, stated: List[Requirement]) -> Iterator[Requirement]:
+    def compared(self, stated: List[Requirement], shared: Shared) -> Iterator[Requirement]:
         """Yields what the project and its workspaces require, with what to change if a resolution
         contradicts something shared: yarn then writes a lock file that it rejects."""
-        shared = self.shared(stated)
         for it in stated:
             is_shared = it.requirer.name == PROJECT and (it.name, it.specifier) in shared
             is_wrong = is_shared and self.is_contradicted(it)
             yield it._replace(stated=AGREE) if is_wrong else it
 
-    def of_resolutions(self, stated: List[Requirement]) -> Iterator[Requirement]:
+    def of_resolutions(self, stated: List[Requirement], shared: Shared) -> Iterator[Requirement]:
         """Yields what the project requires by resolutions, with what is found for it. If one is a
         tag, yarn warns and ignores it. If the entry of one is missing, yarn asks the registry,
         unless it then drops an entry that the project itself requires."""
-        shared = (it for it in self.shared(stated) if it[0] in self.resolutions)
-        found_for = [(it[0], self.lock.found(*it)) for it in shared]
+        found_for = [(it[0], self.lock.found(*it)) for it in shared if it[0] in self.resolutions]
         contradicted = {it.name for it in stated if it.stated}
         for name, groups in self.resolutions.items():
             versions = [it.version for known, it in found_for if known == name and it is not None]
@@ -273,9 +275,10 @@ class Reader:
     def lock_file(self, file: Input) -> LockFile:
         """Returns the contents of the lock file. What the project requires comes first."""
         stated = list(self.stated() if self.project.manifests else self.of_keys())
-        stated = list(self.compared(stated)) if self.resolutions else stated
+        shared = self.shared(stated) if self.resolutions else set()
+        stated = list(self.compared(stated, shared))
         found = [it for it in map(self.found, stated) if it is not None]
-        outside = [*found, *self.of_resolutions(stated)]
+        outside = [*found, *self.of_resolutions(stated, shared)]
         reached = self.reached(outside) if self.project.manifests else self.lock.packages
         lock = LockFile([], self.lock.own(), lambda: self.edges(outside, reached))
         lock.package_count, lock.stated = len(lock.packages), lambda: compared_in(self.project.manifests.items())
