@@ -235,11 +235,13 @@ def with_manifests(it: Case) -> Packages:
 
 def choice_of_refusal(it: Case, answer: Answer, as_written: Answer) -> Optional[str]:
     """Returns why npm rejects a project for which nothing is listed, by a row of the README. It
-    finds no version for a peer that it would otherwise leave as it is; or it rejects the project in
-    the same way as npm wrote it, and would add what has an override by a range, and what that
-    requires."""
+    finds no version for a peer that it would otherwise leave as it is; or the peer is that of a
+    workspace that is gone; or it rejects the project in the same way as npm wrote it, and would add
+    what has an override by a range, and what that requires."""
     if set(answer.refused) <= set(not_found_in(it)):
         return "a conflicting peer that no registry has"
+    if any(is_of_gone_workspace(each, it) for each in findings_in(it.folder / LOCK)):
+        return "a peer of a workspace that is gone"
     lines = [REFUSED.fullmatch(line) for line in answer.refused]
     releases = [line.groups() for line in lines if line is not None]
     known = set(names_by_range(it.world.manifests[""].get("overrides", {})))
@@ -258,6 +260,13 @@ def not_found_in(it: Case) -> Iterator[str]:
         record = finding.record
         if finding.excuse == "conflicting peer":
             yield f"ETARGET: No matching version found for {record.dependency}@{record.range}."
+
+
+def is_of_gone_workspace(finding: Finding, it: Case) -> bool:
+    """Returns whether a finding is about a peer of a workspace whose directory is gone."""
+    requirer = finding.record.requirer or ""
+    is_gone = requirer.startswith("packages/") and requirer not in it.world.manifests
+    return is_gone and finding.excuse == "conflicting peer"
 
 
 def names_by_range(overrides: Json) -> Iterator[str]:

@@ -208,7 +208,7 @@ class MetadataScheme(CargoScheme):
 
     def verdict(self, specifier: str, requirement: Requirement) -> Optional[Verdict]:
         """Returns the verdict on what is found. A path or git without a version lets each in."""
-        if specifier == "*" and not requirement.stated.has_registry:
+        if specifier == "*" and requirement.stated is not None:
             return RIGHT
         return super().verdict(specifier, requirement)
 
@@ -222,36 +222,44 @@ class Reader:
         each = (it for package in self.packages for it in package.dependencies)
         self.every_target = {it.kind[1] for it in each}
 
-    def required(self, it: Dependency, package: GraphPackage) -> Iterator[Requirement]:
-        """Yields what a package requires, for each edge that is for it."""
-        is_required = has_to_be_there(it, package, self.targets)
-        is_strict = not is_required and has_to_be_there(it, package, self.every_target)
-        made = Requirement(
-            Requirer(package.name, package.version),
-            it.name,
-            it.requirement,
-            kind=it.kind[0] or "",
-            must_exist=is_required or is_strict,
-            excuse="platform" if is_strict else "",
-            alias=it.other_name or "",
-            stated=it,
-        )
+    def required(
+        self, it: Dependency, package: GraphPackage, requirer: Requirer
+    ) -> Iterator[Requirement]:
+        """Yields what a package requires, for each edge that is for it. What comes from a path or
+        from git is stated."""
         edges = [edge for edge in package.edges if is_edge_for(edge, it, package)]
-        yield from (made._replace(found=Package(each.name, each.version)) for each in edges)
-        if not edges:
-            yield made
+        is_required = bool(edges) or has_to_be_there(it, package, self.targets)
+        is_strict = not is_required and has_to_be_there(it, package, self.every_target)
+        there: List[Optional[Package]] = [Package(each.name, each.version) for each in edges]
+        for found in there or [None]:
+            yield Requirement(
+                requirer,
+                it.name,
+                it.requirement,
+                found,
+                it.kind[0] or "",
+                is_required or is_strict,
+                "platform" if is_strict else "",
+                alias=it.other_name or "",
+                stated=None if it.has_registry else it,
+            )
 
     def nodes(self, package: GraphPackage, lock: LockFile) -> Iterator[Node]:
         """Yields a package, what it requires, and the edges that nothing requires."""
         yield Node(Package(package.name, package.version))
+        requirer = Requirer(package.name, package.version)
+        requirements: List[Requirement] = []
         for it in package.dependencies:
-            first, *others = self.required(it, package)
+            first, *others = self.required(it, package, requirer)
             kept = lock.scoped([first], self.scope)
             rest = others if kept else ()
             more = [found for other in rest for found in findings_of(other, METADATA.scheme)]
-            yield Node(None, kept)
-            yield Node(findings=more)
-        requirer = Requirer(package.name, package.version)
+            requirements += kept
+            if more:
+                yield Node(None, requirements)
+                yield Node(findings=more)
+                requirements = []
+        yield Node(None, requirements)
         for edge in package.edges:
             if not any(is_edge_for(edge, it, package) for it in package.dependencies):
                 found = Package(edge.name, edge.version)
