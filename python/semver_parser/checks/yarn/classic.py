@@ -76,7 +76,7 @@ GONE = "put the directory there, or remove what requires it"
 
 
 Shared = Set[Tuple[str, str]]
-"""Names and specifiers that both the project and something else requires."""
+"""Names and specifiers of what the project requires and yarn resolves, see `Reader.shared`."""
 
 
 class ClassicScheme(YarnScheme):
@@ -184,8 +184,9 @@ class Reader:
                     yield it._replace(specifier=spec)
 
     def shared(self, stated: List[Requirement]) -> Shared:
-        """Returns the names and specifiers that both the project and something else requires. If the
-        project has workspaces, it is something else itself."""
+        """Returns the names and specifiers that the project requires and to which yarn applies
+        resolutions: all if it has workspaces, and otherwise those that something else requires,
+        too."""
         own = {(it.name, it.specifier) for it in stated if it.requirer.name == PROJECT}
         if has_workspaces(self.project.top):
             return own
