@@ -32,7 +32,7 @@ use std::alloc::{AllocError, Global};
 /// assert_eq!(refusal, Some(VersionRefusal { offset: 8, reason: Reason::LeadingZero }));
 /// # Ok::<(), semver_parser::AllocError>(())
 /// ```
-#[derive(Clone, Copy, PartialEq, Eq, Debug)]
+#[derive(Clone, Copy)]
 pub struct Refusal {
     /// The byte offset of the first character that isn't allowed there in a version, or the length
     /// of the string if something is missing at its end.

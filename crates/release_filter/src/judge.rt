@@ -12,7 +12,7 @@ use semver_versions::version::{VersionRef, read_ref_in};
 use tool_ranges::version_range::VersionRange;
 
 /// The range, and how the lines are read and written.
-#[derive(Debug, Drop)]
+#[derive(Drop)]
 pub(crate) struct Judge {
     pub(crate) range: VersionRange,
     pub(crate) prefixes: Vec<String>,
@@ -21,7 +21,7 @@ pub(crate) struct Judge {
 }
 
 /// What was decided about a line.
-#[derive(Debug, Drop)]
+#[derive(Drop)]
 pub(crate) enum Judged<'l> {
     /// Its text has no version. This is the text.
     NotAVersion(&'l [u8]),

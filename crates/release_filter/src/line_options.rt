@@ -26,7 +26,7 @@ use crate::selection::Selection;
 /// assert_eq!(kept, b"1.9.2\n");
 /// # Ok::<(), semver_parser::Error>(())
 /// ```
-#[derive(Clone, Copy, Debug, PartialEq, Eq)]
+#[derive(Clone, Copy, Debug)]
 pub struct LineOptions {
     /// Which of the kept lines are wanted.
     pub selection: Selection,

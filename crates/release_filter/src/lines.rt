@@ -83,7 +83,7 @@ impl From<AllocError> for LinesError {
 /// assert_eq!(kept, b"1.4.0");
 /// # Ok::<(), semver_parser::Error>(())
 /// ```
-#[derive(Debug, Drop)]
+#[derive(Drop)]
 pub struct Lines {
     fold: Fold,
     at_front: bool,
@@ -91,7 +91,7 @@ pub struct Lines {
 }
 
 /// The options for lines, and the state after the lines so far.
-#[derive(Debug, Drop)]
+#[derive(Drop)]
 pub(crate) struct Fold {
     pub(crate) judge: Judge,
     pub(crate) is_strict: bool,

@@ -19,7 +19,7 @@ impl From<AllocError> for JsonError {
 }
 
 /// The part of the file that was read last.
-#[derive(Clone, Copy, PartialEq, Eq)]
+#[derive(Clone, Copy)]
 enum State {
     /// Nothing, or white space.
     Begin,

@@ -34,7 +34,7 @@ use semver_texts::npm_limits::MAX_SAFE_BUILD_LENGTH;
 use semver_texts::white_space::is_ascii_white_space;
 
 /// The operator before a partial, if there is one.
-#[derive(Clone, Copy, PartialEq, Eq)]
+#[derive(Clone, Copy)]
 pub enum Form {
     /// No operator.
     Bare,

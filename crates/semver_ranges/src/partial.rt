@@ -49,7 +49,7 @@ pub struct Components<'input> {
 }
 
 /// The number of numbers in a partial.
-#[derive(Clone, Copy, PartialEq, Eq)]
+#[derive(Clone, Copy)]
 pub enum PartialKind {
     /// None: it begins with a wildcard.
     XRangeOnly,
@@ -62,7 +62,7 @@ pub enum PartialKind {
 }
 
 /// One of the three numbers of a version.
-#[derive(Clone, Copy, PartialEq, Eq)]
+#[derive(Clone, Copy)]
 pub enum Place {
     Major,
     Minor,

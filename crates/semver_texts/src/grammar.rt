@@ -11,7 +11,7 @@ ghost use Rattle.semver_texts.specs.Digits.{digits_in};
 /// assert!(version::read_ref_in(b"v1.2.3", Grammar::Npm).is_some());
 /// assert!(version::read_ref_in(b"v1.2.3", Grammar::Cargo).is_none());
 /// ```
-#[derive(Clone, Copy, PartialEq, Eq, Hash, Debug)]
+#[derive(Clone, Copy, Debug)]
 pub enum Grammar {
     /// The grammar of the crate `semver-parser`.
     Crate,

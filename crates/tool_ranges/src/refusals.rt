@@ -30,7 +30,7 @@ use std::alloc::{AllocError, Global};
 /// assert_eq!(refusal, Some(RangeRefusal { error, offset: 4, reason }));
 /// # Ok::<(), semver_parser::AllocError>(())
 /// ```
-#[derive(Clone, Copy, PartialEq, Eq, Debug)]
+#[derive(Clone, Copy)]
 pub struct Refusal {
     /// `NotARange` or `NumberTooLarge`.
     pub error: RangeError,

@@ -8,7 +8,7 @@ use crate::release::Release;
 use semver_ranges::partial::Place;
 
 /// The side of its version on which a cut is.
-#[derive(Clone, Copy, PartialEq, Eq)]
+#[derive(Clone, Copy)]
 pub enum Side {
     /// Below every version with the same three numbers.
     Below,

@@ -14,7 +14,7 @@ use crate::rattle_std::fmt;
 /// assert_eq!(term.operator, Operator::Tilde);
 /// # Ok::<(), semver_parser::Error>(())
 /// ```
-#[derive(Clone, Copy, PartialEq, Eq, Hash, Debug)]
+#[derive(Clone, Copy, PartialEq, Eq, Debug)]
 #[non_exhaustive]
 pub enum Operator {
     /// No operator: `1.2`.
@@ -95,7 +95,7 @@ impl Operator {
 /// assert_eq!(version.minor, Some(Component::Wildcard('*')));
 /// # Ok::<(), semver_parser::Error>(())
 /// ```
-#[derive(Clone, Copy, PartialEq, Eq, Hash, Debug)]
+#[derive(Clone, Copy, PartialEq, Eq, Debug)]
 pub enum Component {
     /// A number. One above 2^64 - 1, which is possible only after a wildcard, is given as
     /// 2^64 - 1.
@@ -126,7 +126,7 @@ impl fmt::Display for Component {
 /// assert_eq!(term.version.span, Span { start: 7, end: 10 });
 /// # Ok::<(), semver_parser::Error>(())
 /// ```
-#[derive(Clone, Copy, PartialEq, Eq, Hash, Debug)]
+#[derive(Clone, Copy, PartialEq, Eq, Debug)]
 pub struct Span {
     /// The offset of its first byte.
     pub start: usize,
@@ -146,7 +146,7 @@ pub struct Span {
 /// assert_eq!((version.minor, version.patch), (Some(Component::Wildcard('x')), None));
 /// # Ok::<(), semver_parser::Error>(())
 /// ```
-#[derive(Clone, Copy, PartialEq, Eq, Hash, Debug)]
+#[derive(Clone, Copy, PartialEq, Eq, Debug)]
 pub struct PartialVersion<'text> {
     /// The position in the string, including a `v`.
     pub span: Span,
@@ -272,7 +272,7 @@ fn write_part(f: &mut fmt::Formatter<'_>, mark: &str, part: &str) -> fmt::Result
 /// assert_eq!(term.upper.unwrap().span, Span { start: 11, end: 14 });
 /// # Ok::<(), semver_parser::Error>(())
 /// ```
-#[derive(Clone, Copy, PartialEq, Eq, Hash, Debug)]
+#[derive(Clone, Copy, PartialEq, Eq, Debug)]
 pub struct Term<'text> {
     /// The index of its range: the number of `||` before it.
     pub range: usize,

@@ -7,7 +7,6 @@ use crate::proved::semver_versions::version::{VersionRef, read_ref_in};
 use crate::proved::tool_ranges::version_range::VersionRange;
 
 /// The range, and how the lines are read and written.
-#[derive(Debug)]
 pub(crate) struct Judge {
     pub(crate) range: VersionRange,
     pub(crate) prefixes: Vec<String>,
@@ -16,7 +15,6 @@ pub(crate) struct Judge {
 }
 
 /// What was decided about a line.
-#[derive(Debug)]
 pub(crate) enum Judged<'l> {
     /// Its text has no version. This is the text.
     NotAVersion(&'l [u8]),

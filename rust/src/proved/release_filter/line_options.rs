@@ -24,7 +24,7 @@ use crate::proved::release_filter::selection::Selection;
 /// assert_eq!(kept, b"1.9.2\n");
 /// # Ok::<(), semver_parser::Error>(())
 /// ```
-#[derive(Clone, Copy, Debug, PartialEq, Eq)]
+#[derive(Clone, Copy, Debug)]
 pub struct LineOptions {
     /// Which of the kept lines are wanted.
     pub selection: Selection,

@@ -79,7 +79,6 @@ impl From<AllocError> for LinesError {
 /// assert_eq!(kept, b"1.4.0");
 /// # Ok::<(), semver_parser::Error>(())
 /// ```
-#[derive(Debug)]
 pub struct Lines {
     fold: Fold,
     at_front: bool,
@@ -87,7 +86,6 @@ pub struct Lines {
 }
 
 /// The options for lines, and the state after the lines so far.
-#[derive(Debug)]
 pub(crate) struct Fold {
     pub(crate) judge: Judge,
     pub(crate) is_strict: bool,

@@ -10,7 +10,7 @@ use crate::rattle_std::prelude::*;
 /// assert!(version::read_ref_in(b"v1.2.3", Grammar::Npm).is_some());
 /// assert!(version::read_ref_in(b"v1.2.3", Grammar::Cargo).is_none());
 /// ```
-#[derive(Clone, Copy, PartialEq, Eq, Hash, Debug)]
+#[derive(Clone, Copy, Debug)]
 pub enum Grammar {
     /// The grammar of the crate `semver-parser`.
     Crate,

@@ -6,7 +6,7 @@ use crate::proved::version_sets::release::Release;
 use crate::proved::semver_ranges::partial::Place;
 
 /// The side of its version on which a cut is.
-#[derive(Clone, Copy, PartialEq, Eq)]
+#[derive(Clone, Copy)]
 pub enum Side {
     /// Below every version with the same three numbers.
     Below,
