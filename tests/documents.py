@@ -8,13 +8,12 @@
 - The example in Rattle in docs/COMING_FROM.md is crates/library_tests/src/example.rt.
 - What is generated is up to date: docs/PROOFS.md from the sources, docs/CRATES.md from crates.txt,
   docs/manual from docs/man, and rust/src/docs from docs/.
-- Each file of lemmas begins with the call that it serves, and each lemma is cited.
+- Each file of lemmas begins with what its lemmas show, and each lemma is cited.
 - The Rust crate has the licences, and docs/ERASURE.md counts the lines by hand.
 
 tests/documents.py --must-fail       checks that it fails if one of these is changed.
 tests/documents.py --proofs          prints docs/PROOFS.md.
 tests/documents.py --crates          prints docs/CRATES.md.
-tests/documents.py --serves          writes the first line of each file of lemmas.
 tests/documents.py --example-in-c    prints the example in C of docs/COMING_FROM.md.
 tests/documents.py --output-in-c     prints the output of that example, as the page has it.
 """
@@ -29,12 +28,11 @@ sys.path.insert(0, os.path.dirname(os.path.abspath(__file__)))
 sys.dont_write_bytecode = True
 import cited  # noqa: E402
 import proofs_index  # noqa: E402
-import serves  # noqa: E402
 
 TOP = os.path.dirname(os.path.dirname(os.path.abspath(__file__)))
 
 # These crates are programs and tests, so they have no promises.
-UNPROMISED = {'semver_parser_main', 'release_filter_main', 'compare_ranges_main', 'library_tests', 'replayed_cases'}
+UNPROMISED = {'semver_parser_main', 'release_filter_main', 'compare_ranges_main', 'library_tests', 'replayed_cases', 'filter_tests'}
 
 # Only these sources of these crates have promises.
 PROMISED_SOURCES = {'command_line': ['crates/command_line/src/options.rt']}
@@ -44,7 +42,7 @@ EXAMPLES = 'docs/COMING_FROM.md'
 
 # How many calls may have a result that isn't determined, and how many mutants there may be.
 MOST_FREE = 9
-MOST_EDITS = 45
+MOST_EDITS = 24
 
 # The pages of the Rust crate's documentation, which are generated from pages in docs/.
 RUST_PAGES = tuple(f'rust/src/docs/{name}.md' for name in ('ranges', 'meaning', 'grammar', 'original_crate'))
@@ -229,14 +227,11 @@ def errors_of_proofs():
         yield "docs/PROOFS.md isn't what tests/documents.py --proofs prints"
 
 
-def what_lemmas_serve(do):
-    """Calls a function of `serves` with what it needs to know about the files of lemmas."""
-    shown = [crate for crate in crates() if crate not in UNPROMISED]
-    return do(TOP, shown, lambda crate: files(crate, 'src', '.rt'), is_public, is_exported)
-
-
 def errors_of_lemmas():
-    yield from what_lemmas_serve(serves.errors)
+    for crate in crates():
+        for path in files(crate, 'proofs', '.antt'):
+            if os.path.dirname(path).endswith('/proofs') and not path.endswith('/Lib.antt') and not read(path).startswith('-- '):
+                yield f"{path} doesn't begin with a comment that says what its lemmas show"
 
 
 def errors_of_citations():
@@ -497,7 +492,7 @@ EDITS = [
     ('docs/man/semver_parser.3', '.SH LIBRARY', '.Sh LIBRARY'),
     ('docs/GRAMMAR.md', '## Requirements of Cargo\n', '## Requirements of Cargo\n\nTheir definition is in `specs/CargoGrammar.antt`.\n'),
     ('docs/COMING_FROM.md', '3.x', '4.x'),
-    ('crates/semver_texts/proofs/Joins.antt', '-- serves: ', '-- helps: '),
+    ('crates/semver_texts/proofs/Joins.antt', '-- Lemmas for loops that write the items of a list one after the other.\n', ''),
     ('crates/semver_texts/proofs/Joins.antt', None, 'crates/semver_texts/proofs/Joined.antt'),
     ('crates/semver_texts/proofs/Lists.antt', 'pub by_test : ', 'pub by_tests : '),
     ('crates/semver_texts/src/bytes.rt', '// Determined by: equation.\n', ''),
@@ -508,7 +503,7 @@ EDITS = [
     ('crates/result_laws/src/sets.rt', '.union(', '.joined('),
     ('crates/result_laws/src/sets.rt', '(first, second)\n}', '(first, first)\n}'),
     ('crates/version_sets/src/laws.rt', '::from_number(', '::other_number('),
-    ('crates/semver_parser/must-fail/report_forgets_the_npm_line.edit', None, 'crates/semver_parser/must-fail/report.edit'),
+    ('crates/semver_tokens/must-fail/text_of_an_error_is_empty.edit', None, 'crates/semver_tokens/must-fail/text_of_an_error.edit'),
     ('docs/PROOFS.md', '`one_parse`', 'equation'),
     ('docs/COMING_FROM.md', '`VersionSet::lowest`', '`VersionSet::least`'),
     ('rust/LICENSE-MIT', 'WITHOUT WARRANTY', 'WITHOUT ANY WARRANTY'),
@@ -549,9 +544,6 @@ def main():
         return 0
     if sys.argv[1:] == ['--crates']:
         print(crates_page(), end='')
-        return 0
-    if sys.argv[1:] == ['--serves']:
-        what_lemmas_serve(serves.write)
         return 0
     if sys.argv[1:] in (['--example-in-c'], ['--output-in-c']):
         print(block('\n## C\n' if sys.argv[1] == '--example-in-c' else '\nprints'), end='')

@@ -1,4 +1,3 @@
--- serves: invalid_strings::refusals::explain
 -- A text that is at least 8 bytes shorter than npm's limit isn't too long in any dialect.
 use Rattle.std.proofs.Common.{◌+◌, ◌≤◌, ◌++◌, arith, length, length-append, rules}
 use Rattle.std.proofs.lemmas.List.Elements.{All-contains, All-from_recursion}

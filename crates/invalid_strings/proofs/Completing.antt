@@ -1,4 +1,3 @@
--- serves: invalid_strings::longest::longest_prefix
 -- A loop over completions, which looks for one that completes a prefix to a text of the language.
 use Rattle.std.proofs.Common.{◌≡◌, ◌∙◌, ℕ, ◌+◌, ◌<◌, ◌≤◌, List, [], ◌++◌, get_or, ap, arith, below_more, length, map, subst, sym}
 use Rattle.std.proofs.lemmas.List.{get_or-map, get_or_default, length-map}

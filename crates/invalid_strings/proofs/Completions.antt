@@ -1,4 +1,3 @@
--- serves: invalid_strings::laws::prefixes_begin_prefixes
 -- How the prefixes of the texts of a language are completed, also if the language is built from
 -- others. The empty prefix is completed by a shortest text. Any other prefix is completed by one of a
 -- few completions. Compared with the rest after the prefix in a text of the language, that completion

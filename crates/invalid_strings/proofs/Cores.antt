@@ -1,4 +1,3 @@
--- serves: invalid_strings::laws::prefixes_begin_prefixes
 -- How the prefixes of three numbers or wildcards, a pre-release and build metadata are completed.
 use Rattle.std.proofs.Common.{◌≡◌, ℕ, ◌⊎◌, inl, inr, List, [], ◌∷◌, ◌++◌, map, codes}
 use Rattle.std.proofs.Common.{refl, sym, ◌∙◌, subst, append_assoc, arith}

@@ -1,4 +1,3 @@
--- serves: invalid_strings::laws::prefixes_begin_prefixes
 -- How the prefixes of finitely many texts are completed, found by trying each completion.
 use Rattle.std.proofs.Common.{◌≡◌, ℕ, ◌≤◌, Bool, true, false, List, [], ◌∷◌, ◌++◌, arith, append-nil, append_assoc, subst}
 use Rattle.std.specs.Prelude.{nat_le, not, ◌&&◌, ◌||◌}

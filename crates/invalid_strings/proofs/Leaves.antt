@@ -1,4 +1,3 @@
--- serves: invalid_strings::laws::prefixes_begin_prefixes
 -- How the prefixes of numbers, of identifiers and of white space are completed.
 use Rattle.std.proofs.Common.{◌≡◌, ℕ, ◌<◌, ◌≤◌, ◌^◌, ◌⊎◌, inl}
 use Rattle.std.proofs.Common.{inr, Bool, true, false, List, [], ◌∷◌, ◌++◌, codes, length, decimal, map}

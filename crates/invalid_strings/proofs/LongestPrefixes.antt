@@ -1,4 +1,3 @@
--- serves: invalid_strings::laws::one_offset
 -- The longest prefix of a text with which some text of a language begins, and a search that finds it.
 use Rattle.std.proofs.Common.{◌≡◌, ℕ, ◌<◌, ◌≤◌, ⊎_elim, [], ◌++◌, List, ap, refl, sym, ◌∙◌, rules}
 use Rattle.std.proofs.Common.{subst, append-nil, append_assoc, arith, length, length-take, take, drop}

@@ -1,4 +1,3 @@
--- serves: invalid_strings::laws::prefixes_begin_prefixes
 -- Laws about prefixes of versions, and that a text has at most one offset and one reason.
 use Rattle.std.proofs.Common.{◌≡◌, ℕ, ◌++◌, ◌∙◌, [], ⊎_elim, Bool, true, false, append-nil, append_assoc, refl, subst, sym}
 use Rattle.std.specs.Prelude.{◌↔◌, IsTrue, Option}

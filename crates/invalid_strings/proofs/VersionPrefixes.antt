@@ -1,4 +1,3 @@
--- serves: invalid_strings::laws::prefixes_begin_prefixes
 -- How the prefixes of versions are completed, in each dialect.
 use Rattle.std.proofs.Common.{◌≡◌, ℕ, ◌^◌, ◌<◌, ◌≤◌, ◌⊎◌, true, List, [], ◌∷◌, ◌++◌, Bool, map, codes, decimal, rules}
 use Rattle.std.proofs.Common.{refl, sym, ap, ◌∙◌, append_assoc, arith}

@@ -1,4 +1,3 @@
--- serves: range_terms::terms::TermsIterator::next
 -- Lemmas for the loop that skips `||` and blanks.
 use Rattle.std.proofs.Common.{◌≡◌, ℕ, suc, ◌+◌, ◌≤◌, Bool, true, [], ◌∷◌, length, refl, ap, ◌∙◌, ◌&&◌}
 use Rattle.std.proofs.Common.{Some, arith}

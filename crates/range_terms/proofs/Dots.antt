@@ -1,4 +1,3 @@
--- serves: range_terms::terms::TermsIterator::next
 -- If a text begins with a component and a dot, that is the text's first dot.
 use Rattle.std.proofs.Common.{◌≡◌, true, [], ◌∷◌, ◌++◌, length, refl, sym, ap, ◌∙◌, arith}
 use Rattle.std.proofs.lemmas.List.Splits.{join_with_byte-slice_split, length-slice_split, slice_split_at}

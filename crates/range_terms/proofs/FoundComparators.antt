@@ -1,4 +1,3 @@
--- serves: range_terms::terms::Terms::try_parse, terms
 -- Reading a requirement from left to right finds the comparators of its tree, at their offsets.
 use Rattle.std.proofs.Common.{◌≡◌, ℕ, ◌+◌, true, false, List, [], ◌∷◌, ◌++◌, length, refl, sym, ap, ◌∙◌, inl}
 use Rattle.std.proofs.Common.{Some, None, arith, length-append, append_assoc, append-nil}

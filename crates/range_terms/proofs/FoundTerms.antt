@@ -1,4 +1,3 @@
--- serves: range_terms::terms::Terms::try_parse, terms
 -- Reading a range text from left to right finds the terms of its tree, at their offsets.
 use Rattle.std.proofs.Common.{◌≡◌, ℕ, suc, ◌+◌, true, false, List, [], ◌∷◌, ◌++◌, length, refl, sym, ap, ◌∙◌, ◌==◌}
 use Rattle.std.proofs.Common.{Some, arith, length-append, append_assoc, append-nil, codes}

@@ -1,4 +1,3 @@
--- serves: range_terms::terms::Terms::try_parse, terms
 -- Reading a text finds its words at their offsets.
 use Rattle.std.proofs.Common.{◌≡◌, ℕ, ◌+◌, ◌-◌, true, false, [], ◌∷◌, ◌++◌, length, refl, ap, ◌∙◌}
 use Rattle.std.proofs.Common.{Some, None, arith, length-append}

@@ -1,4 +1,3 @@
--- serves: range_terms::terms::TermsIterator::next, steps
 -- Lemmas about the remaining terms of a text that don't mention the count that bounds the
 -- recursion.
 use Rattle.std.proofs.Common.{◌≡◌, ℕ, zero, suc, ◌+◌, ◌-◌, ◌<◌, ◌≤◌, true, List, [], ◌∷◌, ◌++◌, length, refl, sym, ap, ◌∙◌}

@@ -1,4 +1,3 @@
--- serves: range_terms::terms::Terms::try_parse, replaceable
 -- The bytes of words are ASCII.
 use Rattle.std.proofs.Common.{◌≡◌, ℕ, Bool, true, List, [], ◌∷◌, ◌++◌, refl, ◌∙◌, arith, codes, inl, inr}
 use Rattle.std.proofs.lemmas.Bool.{and_from, and_parts}

@@ -1,4 +1,3 @@
--- serves: range_terms::terms::TermsIterator::next
 -- The components and parts that are read from a word are those of its partial version.
 use Rattle.std.proofs.Common.{◌≡◌, true, List, ◌∷◌, ◌++◌, append_assoc, refl, sym, ap, ◌∙◌}
 use Rattle.std.proofs.lemmas.Bool.{and_parts}

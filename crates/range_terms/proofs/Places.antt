@@ -1,4 +1,3 @@
--- serves: range_terms::terms::Terms::try_parse, replaceable
 -- The spans of the words of a text. With another word at such a span, the text stays valid.
 use Rattle.std.proofs.Common.{◌≡◌, ℕ, ◌+◌, ◌<◌, true, List, [], ◌∷◌, ◌++◌, length, subst}
 use Rattle.std.proofs.Common.{Some, arith, length-append, append_assoc}

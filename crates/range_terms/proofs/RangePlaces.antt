@@ -1,4 +1,3 @@
--- serves: range_terms::terms::Terms::try_parse, replaceable
 -- Each word of a range text may be replaced, and the text stays a range text.
 use Rattle.std.proofs.Common.{◌≡◌, ℕ, suc, ◌+◌, ◌<◌, true, List, [], ◌∷◌, ◌++◌, length, refl, sym, ap, ◌∙◌, subst, codes}
 use Rattle.std.proofs.Common.{arith, length-append, append_assoc, append-nil}

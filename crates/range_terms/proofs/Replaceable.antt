@@ -1,4 +1,3 @@
--- serves: range_terms::terms::Terms::try_parse, replaceable
 -- A range text of a dialect stays one if one of its words is replaced.
 use Rattle.std.proofs.Common.{◌≡◌, ◌+◌, ◌<◌, true, ◌&&◌, List, [], ◌∷◌, ◌++◌, length, take, drop, get_or, refl, sym, ap, ◌∙◌, subst}
 use Rattle.std.proofs.Common.{arith, length-append, append_assoc}

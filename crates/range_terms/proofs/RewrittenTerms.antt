@@ -1,4 +1,3 @@
--- serves: range_terms::terms::Terms::try_parse, rewritable
 -- Each version of a term is written as a word of the text. With the numbers of another version, it
 -- may replace this word.
 use Rattle.std.proofs.Common.{◌≡◌, ℕ, suc, ◌+◌, ◌≤◌, Bool, true, false, not, ◌||◌, ◌&&◌, if◌then◌else◌, List, [], ◌∷◌, ◌++◌}

@@ -1,4 +1,3 @@
--- serves: range_terms::terms::Terms::try_parse, rewritable
 -- The text of a term's version with other numbers, and the partial version that it spells.
 use Rattle.std.proofs.Common.{◌≡◌, ℕ, ◌<◌, ◌^◌, Bool, true, false, not, ◌||◌, ◌&&◌, if◌then◌else◌, List, [], ◌∷◌, ◌++◌}
 use Rattle.std.proofs.Common.{Some, refl, sym, ap, ◌∙◌, subst, arith, append_assoc, codes}

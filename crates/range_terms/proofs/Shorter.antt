@@ -1,4 +1,3 @@
--- serves: range_terms::terms::TermsIterator::next
 -- After a piece of a text is read, the rest of the text is shorter.
 use Rattle.std.proofs.Common.{◌≡◌, ℕ, suc, ◌+◌, ◌<◌, ◌≤◌, Bool, true, [], ◌∷◌, length, sym, ap, ◌∙◌}
 use Rattle.std.proofs.Common.{Option, Some, None, arith, length-append, ◌==◌, ◌&&◌}

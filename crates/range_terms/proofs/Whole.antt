@@ -1,4 +1,3 @@
--- serves: range_terms::terms::Terms::try_parse, terms
 -- The terms that are found in a text of each dialect are those of its tree.
 use Rattle.std.proofs.Common.{◌≡◌, length, arith}
 use Rattle.semver_texts.specs.Texts.{Text}

@@ -1,4 +1,3 @@
--- serves: release_filter::laws::pieces_do_not_matter, composed
 -- Lines with the same verdicts, since they begin with the same bytes.
 use Rattle.std.proofs.Common.{◌≡◌, ◌≢◌, ◌∙◌, ◌⊎◌, ◌++◌, ◌∷◌, ◌≤◌, ◌<◌, [], List, ℕ, Bool, true, false, cond, refl, sym, ap, subst, inl, inr}
 use Rattle.std.proofs.Common.{append_assoc, append-nil, arith, length, length-append, length-take, map, take, drop}

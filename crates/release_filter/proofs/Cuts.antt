@@ -1,4 +1,3 @@
--- serves: release_filter::lines::Lines::push, takes
 -- How bytes are cut into lines.
 use Rattle.std.proofs.Common.{◌≡◌, ◌≢◌, ◌∙◌, ◌++◌, ◌∷◌, ◌<◌, ◌-◌, ◌==◌, ◌&&◌, [], List, ℕ, Bool, true, false, cond, refl, sym, ap, ap₂}
 use Rattle.std.proofs.Common.{append_assoc, arith, get_or, length, length-append, suc, All, drop, ne_eqb, rules}

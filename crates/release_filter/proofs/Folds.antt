@@ -1,4 +1,3 @@
--- serves: release_filter::lines::Lines::push, takes
 -- The effects of taking no lines, one line and more lines, also up to an error.
 use Rattle.std.proofs.Common.{◌≡◌, ◌∙◌, ◌++◌, ◌∷◌, ◌||◌, [], List, Bool, true, false, not, refl, sym, ap, subst}
 use Rattle.std.proofs.Common.{append_assoc, append-nil, length}

@@ -1,4 +1,3 @@
--- serves: release_filter::lines::Lines::push, takes
 -- Lists of held lines in memory, and the values that they stand for.
 use Rattle.std.proofs.Common.{◌≡◌, ◌∙◌, ◌++◌, ◌∷◌, [], List, ℕ, ap, arith, drop, length, map, refl, reverse, sym}
 use Rattle.std.proofs.lemmas.List.{length-map, map-append, reverse-append}

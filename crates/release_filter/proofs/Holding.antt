@@ -1,4 +1,3 @@
--- serves: release_filter::laws::pieces_do_not_matter, composed
 -- The lines that are held after no lines, after some and after more. There is only one possibility.
 use Rattle.std.proofs.Common.{◌≡◌, ◌≢◌, ◌⊎◌, ◌∙◌, ◌++◌, ◌∷◌, ◌≤◌, [], List, true, false, refl, sym, ap, subst, inl, inr, arith, rules}
 use Rattle.std.proofs.Common.{append_assoc, append-nil, length, Less, Equal, Greater}

@@ -1,4 +1,3 @@
--- serves: release_filter::filter::filter_text
 -- Keeping the versions that pass a test: their indices are collected, and then the versions at these
 -- indices are kept, a part of the list at a time.
 use Rattle.std.proofs.Common.{◌≡◌, ℕ, zero, suc, ◌+◌, ◌<◌, ◌≤◌, Bool, true, false, List, [], ◌∷◌, ◌++◌, map, filter, take, drop, set}

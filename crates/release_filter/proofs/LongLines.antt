@@ -1,4 +1,3 @@
--- serves: release_filter::laws::pieces_do_not_matter, composed
 -- If the text of a line is too long for a version, the first bytes of the line determine its verdict.
 use Rattle.std.proofs.Common.{◌≡◌, ◌∙◌, ◌++◌, ◌∷◌, ◌≤◌, ◌<◌, ◌+◌, ◌-◌, [], ℕ, Bool, true, false, cond, refl, sym, ap}
 use Rattle.std.proofs.Common.{length, length-append, length-take, take, min, arith}

@@ -1,4 +1,3 @@
--- serves: release_filter::filter::filter_text, kept
 -- The versions in the set of a range text, and small lemmas.
 use Rattle.std.proofs.Common.{◌≡◌, ◌<◌, ◌^◌, ◌==◌, ◌∷◌, arith, length, ℕ, List, [], Some}
 use Rattle.std.proofs.Common.{◌&&◌, ◌∙◌, ap, sym, Bool, true, false, refl, rules}

@@ -1,4 +1,3 @@
--- serves: release_filter::lines::Lines::push
 -- The first invalid line, which is stored with the counts.
 use Rattle.std.proofs.Common.{◌≡◌, Global, Option, Some, None, false, is_some, take, Vec, ℕ}
 use Rattle.std.specs.Option.{option_map}

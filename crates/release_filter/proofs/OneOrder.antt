@@ -1,4 +1,3 @@
--- serves: release_filter::laws::one_finish
 -- A list and a permutation of it are equal after both are filtered by a test, if the permutation
 -- keeps the order of the elements that pass.
 use Rattle.std.proofs.Common.{◌≡◌, ◌∙◌, ◌∷◌, [], List, ℕ, ◌==◌, ◌<◌, ◌≤◌, Bool, true, cond, refl, sym, ap, ap₂, arith}

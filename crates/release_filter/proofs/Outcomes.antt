@@ -1,4 +1,3 @@
--- serves: release_filter::laws::one_outcome, taking
 -- Lines, pieces and the end of a text have only one outcome each.
 use Rattle.std.proofs.Common.{◌≡◌, ◌∙◌, ◌++◌, ◌∷◌, ◌&&◌, ◌||◌, [], List, ℕ, Bool, true, false, refl, sym, ap, ap₂, subst}
 use Rattle.std.proofs.Common.{Result, Ok, Err, IfOk, IfErr, take}

@@ -1,4 +1,3 @@
--- serves: release_filter::laws::pieces_do_not_matter, composed
 -- The effects of a piece of a text, and of pieces one after another.
 use Rattle.std.proofs.Common.{◌≡◌, ◌≢◌, ◌∙◌, ◌++◌, ◌∷◌, ◌⊎◌, ◌==◌, ◌&&◌, [], List, ℕ, Bool, true, false, refl, sym, ap, ap₂, subst, inl}
 use Rattle.std.proofs.Common.{inr, arith}

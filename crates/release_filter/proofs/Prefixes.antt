@@ -1,4 +1,3 @@
--- serves: release_filter::lines::Lines::push
 -- The bytes after a prefix.
 use Rattle.std.proofs.Common.{Bor, ◌+◌, Option, Some, None, MatchOption, ◌≡◌, ℕ, ◌++◌, arith}
 use Rattle.std.proofs.Common.{true, false, List, take, drop, length, eqb}

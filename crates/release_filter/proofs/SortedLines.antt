@@ -1,4 +1,3 @@
--- serves: release_filter::laws::one_finish
 -- The result of `sort_unstable_by` for held lines is their stable sort, since their indices are
 -- compared, too.
 use Rattle.std.proofs.Common.{◌≡◌, ◌∙◌, ◌≤◌, ◌<◌, ◌∷◌, [], List, ℕ, Bool, true, false, refl, sym, ap, ap₂, subst, arith}

@@ -1,4 +1,3 @@
--- serves: release_filter::laws::pieces_do_not_matter, composed
 -- Lines have only one stable sort by precedence, and held lines are written in only one way.
 use Rattle.std.proofs.Common.{◌≡◌, ◌≢◌, ◌∙◌, ◌++◌, ◌∷◌, ◌≤◌, [], List, suc, Bool, true, false, cond, refl, sym, ap, ap₂, arith, length}
 use Rattle.std.proofs.Common.{append-nil, filter, Less, Equal, Greater}

@@ -1,4 +1,3 @@
--- serves: release_filter::filter::filter_text, kept
 -- Lemmas about tests of the elements of a list, and about filtering a list by a test.
 use Rattle.std.proofs.Common.{rules, arith, ◌≡◌, Bool, List, [], ◌∷◌}
 use Rattle.std.proofs.Common.{◌++◌, refl, map, filter}

@@ -1,4 +1,3 @@
--- serves: release_filter::laws::one_outcome, taking
 -- The verdict on a line, prefix by prefix.
 use Rattle.std.proofs.Common.{◌≡◌, ◌∙◌, ◌++◌, ◌∷◌, ◌≤◌, ◌-◌, ◌&&◌, [], List, Bool, true, refl, ap, ap₂, sym, subst, inl, inr}
 use Rattle.std.proofs.Common.{String, Global, string_bytes, length, get_or, take, drop, arith}

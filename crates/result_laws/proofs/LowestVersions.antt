@@ -1,4 +1,3 @@
--- serves: result_laws::sets::one_lowest
 -- There is at most one lowest version.
 use Rattle.std.proofs.Common.{IfSome, ◌≡◌, ◌≢◌, ◌↔◌, [], refl, sym, ap, ◌∙◌, Option, Some, None, option_map}
 use Rattle.std.specs.Cmp.{IsTotalOrder}

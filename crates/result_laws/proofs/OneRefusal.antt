@@ -1,4 +1,3 @@
--- serves: result_laws::ranges::one_refusal
 -- A range text has at most one error, with one offset and one reason.
 use Rattle.std.proofs.Common.{◌≡◌, ◌∙◌, ℕ, Option, Some, None, refl, subst, sym, ap, drop, take}
 use Rattle.semver_texts.specs.Texts.{Text}

@@ -1,4 +1,3 @@
--- serves: result_laws::filters::one_filter_text
 -- Two results that satisfy the clauses of one call count as the same (`AreOne`).
 use Rattle.std.proofs.Common.{IfOk, ◌≡◌, ◌↔◌, Option, Some, None, refl, sym, ap, subst, ◌∙◌, inl, inr, Result, Ok, Err, alloc_error}
 use Rattle.std.specs.declared.alloc.AllocError.{AllocError}

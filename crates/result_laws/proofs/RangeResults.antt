@@ -1,4 +1,3 @@
--- serves: result_laws::version_ranges::one_contains
 -- Two results of a call that combines two ranges, or tests whether a range contains a version text,
 -- count as the same.
 use Rattle.std.proofs.Common.{IfOk, ◌≡◌, ◌≢◌, ◌↔◌, Bool, refl, sym, ap, ◌∙◌, inl, inr, Result, Ok, Err}

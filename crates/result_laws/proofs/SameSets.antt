@@ -1,4 +1,3 @@
--- serves: result_laws::sets::one_read
 -- Two results that are sets with the same versions count as the same.
 use Rattle.std.proofs.Common.{IfOk, ◌≡◌, ◌↔◌, [], refl, sym, ap, ◌∙◌, inl, inr, Bool, Result, Ok, Err}
 use Rattle.semver_parser.specs.declared.RangeError.{RangeError}

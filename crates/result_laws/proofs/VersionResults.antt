@@ -1,4 +1,3 @@
--- serves: result_laws::texts::one_whole_number
 -- Two results for the same version text, or the same state of a parser, are equal, unless memory
 -- ran out.
 use Rattle.std.proofs.Common.{◌≡◌, ◌↔◌, ◌∙◌, ◌<◌, ◌^◌, ◌++◌, ◌∷◌, [], ℕ, List, refl, sym, ap, arith, length, decimal}

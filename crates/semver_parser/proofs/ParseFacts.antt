@@ -1,4 +1,3 @@
--- serves: semver_parser::version::parse
 -- The clauses of `version::parse`, from the outcome of the text.
 use Rattle.std.proofs.Common.{◌≡◌, ℕ, List, [], ◌∷◌, Some, None, Option, Result, Ok, Err, sym, refl, ap, subst, inl, inr, IsUtf8, IfOk}
 use Rattle.std.proofs.Common.{◌↔◌}

@@ -1,4 +1,3 @@
--- serves: semver_parser::report::run
 -- The bytes that the report writes are lines of its text.
 use Rattle.std.proofs.Common.{◌≡◌, Bool, true, false, List, ℕ, Option, Result, Ok, Err, IfOk, IsTrue, codes, refl}
 use Rattle.std.specs.Prelude.{◌||◌}

@@ -1,4 +1,3 @@
--- serves: semver_parser::laws::row_facts, leading_zero
 -- Examples of the definitions of tokens, of identifiers, and of the outcome of a text.
 use Rattle.std.proofs.Common.{◌≡◌, List, [], ◌∷◌, length, Some, Err, refl, sym, arith, inl}
 use Rattle.std.specs.Prelude.{codes}

@@ -1,4 +1,3 @@
--- serves: semver_parser::version::parse
 -- Reading a text that spells a version with a pre-release or build metadata may run out of memory,
 -- since its tokens contain a run of an identifier.
 use Rattle.std.proofs.Common.{◌≡◌, ℕ, ◌<◌, ◌+◌, Bool, true, false, arith, List, [], ◌∷◌, length, map, Some}

@@ -28,7 +28,7 @@ enum Shown {
     Word(&'static str),
 }
 
-// Determined by: free, the writer's own errors: must-fail/report_forgets_the_npm_line.edit.
+// Determined by: free, the writer's own errors: ../replayed_cases/stdin.
 /// Writes three lines for a string: `version: ` with the version, and `cargo: ` and `npm: ` with
 /// the range set in Cargo and in npm mode. Each line has a printed value or an error word. Returns
 /// whether at least one line has no error word.

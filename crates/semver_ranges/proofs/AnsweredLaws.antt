@@ -1,4 +1,3 @@
--- serves: semver_ranges::laws::returned_sets_are_printable
 -- A tree that spells a text and fits is rewritten to a printable set.
 use Rattle.std.proofs.Common.{arith}
 use Rattle.std.proofs.Common.{◌≡◌, ℕ, Bool, true, false, not, List, [], ◌∷◌, ◌++◌, map, refl}

@@ -1,4 +1,3 @@
--- serves: semver_ranges::laws::meanings_agree, exact
 -- Numbers agree with the stated ones as `^` requires if and only if they agree up to the position
 -- that `^` raises.
 use Rattle.std.proofs.Common.{arith}

@@ -1,4 +1,3 @@
--- serves: semver_ranges::grammar::read_components
 -- The component at the beginning of a text, as the code reads it byte by byte.
 use Rattle.std.proofs.Common.{add-one}
 use Rattle.std.proofs.Common.{◌≡◌, ℕ, ◌+◌, ◌-◌, ◌*◌, ◌<◌, ◌≤◌, true, false, ◌==◌, [], ◌∷◌, length, get_or, take, drop}

@@ -1,4 +1,3 @@
--- serves: semver_ranges::grammar::read_components
 -- Results of `after_one`, `after_two`, `after_three` and `simple`, from the steps in which the code
 -- reads a term.
 use Rattle.std.proofs.Common.{arith}

@@ -1,4 +1,3 @@
--- serves: semver_ranges::range_set::RangeSet::parse
 -- The events of a range set fit if and only if the set does, and have the comparators of its
 -- ranges.
 use Rattle.std.proofs.Common.{◌≡◌, Bool, ◌&&◌, List, [], ◌∷◌, refl, sym, arith}

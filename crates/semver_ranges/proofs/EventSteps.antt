@@ -1,4 +1,3 @@
--- serves: semver_ranges::events::Events::new, all
 -- Equations for the events that are left of a text (`events_left`), one for each step of the
 -- cursor.
 use Rattle.std.proofs.Common.{◌≡◌, ◌<◌, Bool, true, false, List, [], ◌∷◌, Option, Some, None, length, refl, sym, ap, ◌∙◌, arith}

@@ -1,4 +1,3 @@
--- serves: semver_ranges::range_set::RangeSet::parse
 -- The invariants of the loops over the events of a text, and their results in terms of its tree.
 use Rattle.std.proofs.Common.{◌≡◌, Bool, true, false, ◌&&◌, List, [], ◌∷◌, ◌++◌, Option, Some, None, refl, sym, ap, ◌∙◌, arith}
 use Rattle.std.proofs.Common.{append-nil, append_assoc, Result, Ok, Err}

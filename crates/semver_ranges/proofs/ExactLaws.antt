@@ -1,4 +1,3 @@
--- serves: semver_ranges::laws::exact_bounds_mean_the_text, exact
 -- Which versions satisfy comparators with exact bounds, and which versions are below such a bound.
 use Rattle.std.proofs.Common.{arith}
 use Rattle.std.proofs.lemmas.Bool.Decides.{nat_tests}

@@ -1,4 +1,3 @@
--- serves: tool_ranges::offset::is_range
 -- The events that were left begin with the event that was read.
 use Rattle.std.proofs.Common.{◌≡◌, ◌≤◌, Bool, true, false, arith, List, [], ◌∷◌, Option, Some, None, refl}
 use Rattle.semver_texts.specs.declared.grammar.Grammar.{Grammar}

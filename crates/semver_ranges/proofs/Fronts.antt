@@ -1,4 +1,3 @@
--- serves: semver_ranges::grammar::after_blanks
 -- The longest prefix of a text whose bytes all pass a test, as a loop over the bytes finds it.
 use Rattle.std.proofs.Common.{add-one}
 use Rattle.std.proofs.lemmas.List.{drop_more}

@@ -1,4 +1,3 @@
--- serves: range_terms::terms::Terms::try_parse, rewritable
 -- Words that are too long for npm: the code decides this from their bytes, and no word of up to
 -- `max_build_length` bytes is too long.
 use Rattle.std.proofs.Common.{◌≡◌, ℕ, ◌+◌, ◌-◌, ◌≤◌, Bool, true, false, ◌&&◌, ◌||◌, not, List, [], ◌∷◌, ◌++◌, codes, length, take}

@@ -1,4 +1,3 @@
--- serves: semver_ranges::laws::meanings_agree, exact
 -- A version satisfies the comparators of a text if and only if it satisfies the text, except for
 -- pre-releases of raised bounds.
 use Rattle.std.proofs.Common.{◌≡◌, true, false, [], refl, sym, ap, ◌∙◌, IsTrue, Option, Some, None}

@@ -1,4 +1,3 @@
--- serves: semver_ranges::range_set::RangeSet::parse
 -- A text that consists of one term: it spells a set of one range with this term.
 use Rattle.std.proofs.Common.{◌≡◌, true, List, [], ◌∷◌, length, Some, refl, arith, append-nil}
 use Rattle.semver_texts.specs.declared.grammar.Grammar.TheVariants.{Crate}

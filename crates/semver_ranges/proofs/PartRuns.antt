@@ -1,4 +1,3 @@
--- serves: semver_ranges::grammar::read_components
 -- The parts and dots at the beginning of a text, as the code reads them byte by byte.
 use Rattle.std.proofs.Common.{◌≡◌, ℕ, Bool, true, Some, None, [], ◌∷◌, take, drop, refl}
 use Rattle.std.proofs.Common.{arith, one-add}

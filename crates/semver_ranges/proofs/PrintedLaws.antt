@@ -1,4 +1,3 @@
--- serves: semver_ranges::laws::printed_sets_read_back
 -- The text of a printable set is spelled by a tree that is rewritten to that set.
 use Rattle.std.proofs.Common.{◌≡◌, ℕ, zero, suc, ◌<◌, Bool, true, false, not, List, [], ◌∷◌, ◌++◌}
 use Rattle.std.proofs.Common.{map, codes, refl, sym, None, All, append_assoc, append-nil, decimal, get_or, arith}

@@ -1,4 +1,3 @@
--- serves: semver_ranges::grammar::read_components
 -- Whether a pre-release or build metadata follows three components.
 use Rattle.std.proofs.lemmas.Bool.Decides.{nat_tests}
 use Rattle.std.proofs.Common.{arith}

@@ -1,4 +1,3 @@
--- serves: semver_ranges::laws::one_tree
 -- The reader finds the tree that spells a text.
 use Rattle.std.proofs.Common.{◌≡◌, ℕ, Bool, true, false, ◌||◌, ◌==◌, List, [], ◌∷◌, ◌++◌, refl, ap, ◌∙◌, inl, inr, Some}
 use Rattle.std.proofs.Common.{append_assoc, append-nil, arith}

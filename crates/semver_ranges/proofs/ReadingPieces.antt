@@ -1,4 +1,3 @@
--- serves: semver_ranges::events::Events::new, short
 -- If the reader finds a component, parts, a partial version, an operator or a term at the beginning
 -- of a text, the text begins with it.
 use Rattle.std.proofs.Common.{◌≡◌, ℕ, Bool, true, false, ◌&&◌, ◌||◌, ◌==◌, ◌⊎◌, List, [], ◌∷◌, ◌++◌, codes, refl, sym, ap, ◌∙◌, inl}

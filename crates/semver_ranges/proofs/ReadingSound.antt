@@ -1,4 +1,3 @@
--- serves: semver_ranges::events::Events::new, all
 -- The tree that the reader finds spells the text.
 use Rattle.std.proofs.Common.{◌≡◌, ℕ, zero, suc, true, false, ◌&&◌, ◌==◌, List, [], ◌∷◌, ◌++◌, codes, length, refl, ◌∙◌}
 use Rattle.std.proofs.Common.{Option, Some, None, append_assoc, append-nil, subst}

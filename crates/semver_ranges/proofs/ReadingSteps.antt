@@ -1,4 +1,3 @@
--- serves: semver_ranges::events::Events::new, short
 -- The reader's recursive functions as equations without the limit on their depth, and the length of
 -- the rest that each leaves.
 use Rattle.std.proofs.Common.{◌≡◌, ℕ, zero, suc, ◌<◌, ◌≤◌, Bool, true, false, List, [], ◌∷◌, length, refl}

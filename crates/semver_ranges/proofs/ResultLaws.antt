@@ -1,4 +1,3 @@
--- serves: semver_ranges::range_set::RangeSet::parse, refusals
 -- The clauses of `RangeSet::parse` and `RangeSet::parse_exact`, from `IsAnswer`, which states their
 -- results in terms of the reader.
 use Rattle.std.proofs.Common.{List, ◌≡◌, ◌⊎◌, true, [], refl, sym, ap, ◌∙◌, subst, inl, inr, IsTrue, Result, Ok, Err, Some, None}

@@ -1,4 +1,3 @@
--- serves: semver_ranges::laws::meanings_agree, exact
 -- A version satisfies the comparators of a cell if and only if it satisfies the term, except that a
 -- pre-release of the raised bound also satisfies them. With an exact bound there is no exception.
 use Rattle.std.proofs.lemmas.Bool.Decides.{nat_tests}

@@ -1,4 +1,3 @@
--- serves: semver_ranges::laws::meanings_agree, exact
 -- If a test of the comparators of each term is equal to a test of the term, this extends to ranges
 -- and sets, for any table of comparators.
 use Rattle.std.proofs.Common.{arith}

@@ -1,4 +1,3 @@
--- serves: semver_ranges::laws::stated_pre_releases_mean_the_text, exact
 -- By the default rule for pre-releases, a text and its comparators with exact bounds are satisfied
 -- by the same versions.
 use Rattle.std.proofs.Common.{arith}

@@ -1,4 +1,3 @@
--- serves: semver_ranges::partial::Partial::new
 -- The numbers and the pre-release that a partial version states, from its components.
 use Rattle.std.proofs.Common.{arith}
 use Rattle.std.proofs.Common.{◌≡◌, ℕ, Bool, true, false, ◌&&◌, ◌==◌, List, [], ◌∷◌, length, map, refl, sym, ap, ◌∙◌, Option}

@@ -1,4 +1,3 @@
--- serves: semver_ranges::range_set::RangeSet::parse
 -- The desugared term of a term that was read has the comparators that the table gives, for each
 -- column of the table.
 use Rattle.std.proofs.Common.{arith}

@@ -1,4 +1,3 @@
--- serves: semver_ranges::laws::stated_pre_releases_mean_the_text, exact
 -- What the proofs require of a table that gives the comparators of each term.
 use Rattle.std.proofs.Common.{◌≡◌, ℕ, true, List, [], ◌∷◌, Bool, refl}
 use Rattle.semver_ranges.specs.declared.range.Compat.{Compat}

@@ -1,4 +1,3 @@
--- serves: semver_ranges::laws::one_tree
 -- If a text begins with a component, parts, a partial version, an operator or a term, and the rest
 -- of the text ends it, the reader finds it.
 use Rattle.std.proofs.Common.{◌≡◌, ℕ, Bool, true, false, not, ◌||◌, ◌==◌, List, [], ◌∷◌, ◌++◌, codes, refl, ap, ◌∙◌, inl, inr}

@@ -1,4 +1,3 @@
--- serves: semver_texts::dotted::text_of_parts
 -- Lemmas for the loops that read parts joined by dots, byte by byte.
 use Rattle.std.proofs.Common.{◌≡◌, ℕ, ◌+◌, ◌<◌, Bool, true, false, length, get_or, drop, refl, sym, ap, ◌∙◌, arith, ◌∷◌, ◌++◌}
 use Rattle.std.proofs.Common.{subst, append-nil, append_assoc, suc, take, take-append-drop}

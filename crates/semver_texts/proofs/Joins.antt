@@ -1,4 +1,3 @@
--- serves: semver_texts::printing::write_part
 -- Lemmas for loops that write the items of a list one after the other.
 use Rattle.std.proofs.Common.{◌≡◌, ℕ, ◌+◌, ◌<◌, ◌≤◌, List, [], ◌∷◌, ◌++◌, length, get_or, take, eqb, false, refl, sym, ap, ◌∙◌, take_all}
 use Rattle.std.proofs.Common.{append_assoc, append-nil, codes}

@@ -1,4 +1,3 @@
--- serves: semver_texts::large_number::LargeNumber::compare
 -- Numbers of any size: comparing their digits compares the numbers, and printing a number gives its
 -- digits.
 use Rattle.std.proofs.Common.{◌≡◌, ℕ, ◌+◌, ◌*◌, ◌^◌, ◌<◌, ◌≤◌, Bool, true, false, [], ◌∷◌, ◌++◌, length, map, arith, refl, sym, ap, ◌∙◌}

@@ -1,4 +1,3 @@
--- serves: semver_versions::identifiers::identifiers_of_text, kept
 -- Lists, and properties that hold for each of their elements.
 use Rattle.std.proofs.Common.{◌≡◌, ℕ, ◌<◌, Bool, true, false, List, [], ◌∷◌, ◌++◌, length, take, drop}
 use Rattle.std.proofs.Common.{refl, one-add}

@@ -1,4 +1,3 @@
--- serves: semver_texts::decimals::number_of_digits
 -- Numbers below 2^64: the texts that spell them, and how they are read from the beginning of a
 -- text.
 use Rattle.std.proofs.Common.{◌≡◌, ℕ, ◌^◌, ◌<◌, ◌≢◌, true, false, eqb, List, [], ◌∷◌, ◌++◌, length, take, drop, map, get_or}

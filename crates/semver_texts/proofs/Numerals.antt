@@ -1,4 +1,3 @@
--- serves: semver_texts::decimals::number_of_digits
 -- Decimal digits and their value.
 use Rattle.std.proofs.Common.{◌≡◌, true}
 use Rattle.std.specs.Str.{all_ascii_digits}

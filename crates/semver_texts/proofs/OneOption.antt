@@ -1,4 +1,3 @@
--- serves: invalid_strings::laws::one_reason_of_number
 -- Two options are equal if each contains a value that has a property, or is `None` because no value
 -- has it, and at most one value has the property.
 use Rattle.std.proofs.Common.{◌≡◌, MatchOption, Option, Some, None, ap, refl}

@@ -1,4 +1,3 @@
--- serves: semver_texts::dotted::have_no_leading_zeros
 -- Parts joined by dots at the beginning of a text, read byte by byte, if hyphens may be anywhere.
 use Rattle.std.proofs.Common.{◌≡◌, ◌∙◌, ℕ, Bool, true, false, ◌&&◌, List, [], ◌∷◌, length, take, refl, sym, ap, subst, arith, one-add}
 use Rattle.std.proofs.Common.{if◌then◌else◌, ◌<◌, length-append}

@@ -1,4 +1,3 @@
--- serves: semver_texts::laws::semver_texts_are_npms
 -- Runs of letters and digits.
 use Rattle.std.proofs.Common.{◌≡◌, ℕ, ◌^◌, ◌<◌, true, false, decimal, refl, arith}
 use Rattle.std.specs.Char.{is_ascii_alphanumeric, is_ascii_digit}

@@ -1,4 +1,3 @@
--- serves: semver_texts::laws::semver_texts_are_npms
 -- The texts of versions in SemVer 2.0.0, compared with those of npm and of the crate.
 use Rattle.std.proofs.Common.{◌≡◌, ◌^◌, ◌<◌, ◌≤◌, Bool, true, List, [], ◌∷◌, ◌++◌, length, map, codes, decimal}
 use Rattle.std.proofs.Common.{refl, sym, ap, ◌∙◌, subst, inl, append_assoc, append-nil, arith}

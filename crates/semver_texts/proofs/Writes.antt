@@ -1,4 +1,3 @@
--- serves: semver_texts::writing::write_whole
 -- Lemmas for a loop that writes the rest of a slice, and for several writes one after the other.
 use Rattle.std.proofs.Common.{◌≡◌, ℕ, ◌-◌, List, Option, Result, Ok, Err, ◌++◌, length, take, drop, ap, sym, ◌∙◌, append_assoc}
 use Rattle.std.proofs.Common.{take-append-drop}

@@ -1,4 +1,3 @@
--- serves: semver_tokens::laws::one_token_list
 -- The token of a run of letters and digits.
 use Rattle.std.proofs.Common.{◌≡◌, ℕ, ◌^◌, ◌<◌, List, length, sym, refl, ap, ◌∙◌, decimal}
 use Rattle.std.specs.Str.Parse.{digits_value}

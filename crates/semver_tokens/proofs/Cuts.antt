@@ -1,4 +1,3 @@
--- serves: semver_tokens::lexer::LexerIterator::next, steps
 -- The end of a token is a character boundary of the text.
 use Rattle.std.proofs.Common.{◌≡◌, ℕ, zero, suc, ◌+◌, ◌-◌, ◌<◌, ◌≤◌, Bool, true, List, ◌++◌, length, get_or, take, drop, sym, refl}
 use Rattle.std.proofs.Common.{ap, ◌∙◌, subst, arith, IsUtf8, length-drop, length-append, length-take-le, take-append-drop, zero-add}

@@ -1,4 +1,3 @@
--- serves: semver_tokens::parser::Parser::identifier, answer
 -- The automaton that reads an identifier token by token, and the value of each identifier.
 use Rattle.std.proofs.Common.{◌≡◌, ℕ, ◌^◌, ◌<◌, Bool, true, false, List, [], ◌∷◌, ◌++◌, length, map, Some, None, Option, Ok}
 use Rattle.std.proofs.Common.{Err, sym, refl, ap, ◌∙◌, arith, append-nil, cond, decimal}

@@ -1,4 +1,3 @@
--- serves: semver_tokens::parser::Parser::identifier, answer
 -- The text of an identifier's tokens is the longest prefix of letters, digits and hyphens.
 use Rattle.std.proofs.Common.{◌≡◌, ℕ, ◌+◌, ◌<◌, Bool, true, false, eqb, ◌||◌, List, [], ◌∷◌, ◌++◌, length, None, Some, Option, Result}
 use Rattle.std.proofs.Common.{Ok, Err, sym, refl, ap, subst, ◌∙◌, ◌⊎◌, inl, inr, arith, append_assoc}

@@ -1,4 +1,3 @@
--- serves: semver_tokens::lexer::count_tokens, end
 -- The states of a lexer before and after a call of `next`, as its result determines them.
 use Rattle.std.proofs.Common.{◌≡◌, ℕ, List, [], ◌∷◌, Some, None, Option, Result, Ok, Err, sym, refl, ap, ◌∙◌}
 use Rattle.std.specs.Iterator.{YieldsFirstBy}

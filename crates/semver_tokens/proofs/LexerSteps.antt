@@ -1,4 +1,3 @@
--- serves: semver_tokens::lexer::Lexer::new
 -- The state that a lexer has left at the start, after each item, and after an error.
 use Rattle.std.proofs.Common.{◌≡◌, ℕ, ◌+◌, ◌≤◌, Bool, true, false, List, [], ◌∷◌, length, drop, sym, refl, ap, inl, arith, length-drop}
 use Rattle.std.proofs.Common.{Some, None, Ok}

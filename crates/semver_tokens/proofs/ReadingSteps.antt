@@ -1,4 +1,3 @@
--- serves: semver_tokens::parser::Parser::identifier, answer
 -- Reading tokens of a shape one after another: the tokens taken so far lead to a state of an
 -- automaton, and the next token is taken if it leads on, that is, if the automaton has a step for it.
 use Rattle.std.proofs.Common.{◌≡◌, ℕ, ◌<◌, ◌≤◌, Bool, true, false, List, [], ◌∷◌, ◌++◌, length, Some, None, Option, Result, Ok, Err, take}

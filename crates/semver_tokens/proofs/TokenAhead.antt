@@ -1,4 +1,3 @@
--- serves: semver_tokens::parser::Parser::new, bad_start
 -- Reading one token ahead from a lexer, as the parser does.
 use Rattle.std.proofs.Common.{◌≡◌, ℕ, List, [], ◌∷◌, ◌++◌, length, Some, None, Option, Result, Ok, Err, sym, refl, ap, ◌∙◌, ◌⊎◌, inl}
 use Rattle.std.proofs.Common.{inr, IsUtf8, ◌<◌, arith, append_assoc}

@@ -1,4 +1,3 @@
--- serves: semver_tokens::laws::one_token_list
 -- The list of the tokens of a text: `scan` finds it from left to right, and it is the only one.
 use Rattle.std.proofs.Common.{◌≡◌, ℕ, zero, suc, ◌+◌, ◌-◌, ◌<◌, ◌≤◌, Bool, true, false, eqb, ◌||◌, not, List, [], ◌∷◌, ◌++◌}
 use Rattle.std.proofs.Common.{length, take, drop, Some, None, sym, refl, ap, ◌∙◌, inl, inr, arith, decimal, ◌⊎◌}

@@ -1,4 +1,3 @@
--- serves: semver_tokens::parser::Parser::version, answer
 -- The automaton that reads the shape of a version token by token.
 use Rattle.std.proofs.Common.{◌≡◌, ℕ, ◌<◌, Bool, true, false, List, [], ◌∷◌, ◌++◌, length, Some, sym, refl, ap, ◌∙◌}
 use Rattle.std.proofs.Common.{◌⊎◌, inl, inr, ⊎_elim, arith, append_assoc}

@@ -1,4 +1,3 @@
--- serves: semver_tokens::parser::Parser::version, answer
 -- Taking a version token by token: each step of the parser takes tokens that lead on, or returns the
 -- error of reading a version.
 use Rattle.std.proofs.Common.{◌≡◌, ℕ, ◌<◌, Bool, true, false, List, [], ◌∷◌, ◌++◌, length, Some, None, Option, Ok, Err, sym}

@@ -1,4 +1,3 @@
--- serves: semver_versions::version::read, out_of_memory
 -- The version of a borrowed version in the crate's dialect.
 use Rattle.std.proofs.Common.{◌≡◌, ◌<◌, ℕ, List, [], ◌∷◌, length, map, sym, refl, ap, ◌∙◌, arith, inl, inr, ⊎_elim, ◌⊎◌}
 use Rattle.std.specs.Prelude.{◌==◌, ◌↔◌, Option, Some, None, Result, Ok, Err, IfErr, IfOk, IfSome}

@@ -1,4 +1,3 @@
--- serves: semver_versions::read_version::ReadVersion::without_build, plain
 -- Cloned identifiers have the same values as the originals.
 use Rattle.std.proofs.Common.{rules, ◌≡◌, List, [], ◌∷◌, map, refl, ap₂}
 use Rattle.std.specs.List.{AllZip}

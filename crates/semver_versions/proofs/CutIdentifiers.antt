@@ -1,4 +1,3 @@
--- serves: semver_versions::laws::one_version_in
 -- Identifiers that are found byte by byte are the same as those that are cut at dots.
 use Rattle.std.proofs.Common.{◌≡◌, ℕ, ◌<◌, Bool, true, false, List, [], ◌∷◌, ◌++◌, length, take, drop}
 use Rattle.std.proofs.Common.{sym, refl, ap, ◌∙◌, subst, arith, append_assoc, append-nil, length-append, one-add, decimal}

@@ -1,4 +1,3 @@
--- serves: semver_versions::laws::one_borrowed_version
 -- The borrowed version of a text in a dialect: its version, and the offsets of its parts.
 use Rattle.std.proofs.Common.{codes, ◌≡◌, ℕ, true, false, List, [], ◌∷◌, ◌++◌, length, take, refl, ◌∙◌, suc, arith, ap, sym}
 use Rattle.std.proofs.Common.{subst, append_assoc, append-nil, length-append}

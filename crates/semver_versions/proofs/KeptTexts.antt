@@ -1,4 +1,3 @@
--- serves: semver_versions::laws::one_version
 -- Texts of letters, digits and hyphens, the identifiers that they are kept as, and such texts joined
 -- by dots.
 use Rattle.std.proofs.Common.{◌≡◌, ℕ, ◌<◌, ◌≤◌, ◌^◌, Bool, true, false, List, [], ◌∷◌, ◌++◌, length, map, arith, ap, sym, refl}

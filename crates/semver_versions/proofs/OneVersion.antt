@@ -1,4 +1,3 @@
--- serves: semver_versions::laws::one_version
 -- How a text that spells a version in the crate's grammar begins and continues. It spells only one
 -- version.
 use Rattle.std.proofs.Common.{◌≡◌, ℕ, Bool, true, false, List, [], ◌∷◌, ◌++◌, sym, ◌∙◌, subst, append_assoc, append-nil}

@@ -1,4 +1,3 @@
--- serves: semver_versions::laws::one_version_in
 -- A whole text that spells a version in a dialect is read as this version, and as no other.
 use Rattle.std.proofs.Common.{codes, ◌≡◌, inl, inr, ⊎_elim, ℕ, ◌+◌, ◌<◌, ◌^◌, Bool, true, false, List, [], ◌∷◌, ◌++◌, length}
 use Rattle.std.proofs.Common.{refl, ◌∙◌, arith, ap, sym, subst, append_assoc, append-nil, length-append, decimal, map, one-add}

@@ -1,4 +1,3 @@
--- serves: semver_versions::laws::one_version
 -- A version in parts: its numbers, its identifiers after their marks, and the white space after it.
 use Rattle.std.proofs.Common.{◌≡◌, ℕ, ◌+◌, ◌≤◌, true, false, List, [], ◌∷◌, ◌++◌, length, map, arith, ap, sym, refl, ◌∙◌}
 use Rattle.std.proofs.Common.{subst, length-append, codes, decimal}

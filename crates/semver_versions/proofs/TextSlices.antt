@@ -1,4 +1,3 @@
--- serves: semver_versions::version::read
 -- A part of a version that is in a text ends at a character boundary of the text.
 use Rattle.std.proofs.Common.{◌≡◌, ℕ, ◌+◌, ◌-◌, ◌<◌, ◌≤◌, IsTrue, length, get_or, drop, sym, ap, ◌∙◌, subst, arith}
 use Rattle.std.specs.List.{list_all}

@@ -1,4 +1,3 @@
--- serves: semver_versions::laws::one_version_in
 -- The white space that may be before and after a version, character by character.
 use Rattle.std.proofs.Common.{◌≡◌, ℕ, ◌<◌, ◌≤◌, Bool, true, List, [], ◌∷◌, ◌++◌, length, take, drop, arith, ap, sym, refl, ◌∙◌}
 use Rattle.std.proofs.Common.{subst, append_assoc, append-nil, length-drop, ◌-◌}

@@ -1,4 +1,3 @@
--- serves: tool_ranges::cargo::rewrite
 -- The comparators of Cargo's and npm's tables, with identifiers of digits as numbers of any size.
 use Rattle.std.proofs.Common.{◌≡◌, ℕ, Bool, true, ◌&&◌, ◌||◌, ◌==◌, List, [], ◌∷◌, ◌++◌, map, length, refl, ap, ◌∙◌}
 use Rattle.std.proofs.Common.{if◌then◌else◌}

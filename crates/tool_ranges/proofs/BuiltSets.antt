@@ -1,4 +1,3 @@
--- serves: tool_ranges::version_range::VersionRange::parse
 -- The versions of a set that is being built, at the end of a range and at the end of the text.
 use Rattle.std.proofs.Common.{◌≡◌, Bool, true, false, not, ◌&&◌, ◌||◌, if◌then◌else◌, refl, sym}
 use Rattle.semver_texts.specs.Texts.{is_empty}

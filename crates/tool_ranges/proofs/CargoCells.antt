@@ -1,4 +1,3 @@
--- serves: tool_ranges::npm::rewrite_included
 -- The versions that satisfy a term in Cargo's or the crate's dialects are those between the sides
 -- in the dialect's table.
 use Rattle.std.proofs.Common.{◌≡◌, ℕ, Bool, true, false, not, ◌&&◌, ◌||◌, ◌==◌, List, [], ◌∷◌, length}

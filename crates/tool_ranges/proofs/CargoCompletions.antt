@@ -1,4 +1,3 @@
--- serves: tool_ranges::laws::prefixes_begin_prefixes
 -- Each prefix of a requirement can be completed by one of a few texts.
 use Rattle.std.proofs.Common.{◌≡◌, ℕ, ◌≤◌, ◌⊎◌, inl, inr, Bool, true, false, List, [], ◌∷◌, ◌++◌, codes, length, refl, sym, ap, ◌∙◌, arith}
 use Rattle.std.proofs.Common.{append-nil, append_assoc, rules, subst}

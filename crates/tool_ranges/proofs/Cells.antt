@@ -1,4 +1,3 @@
--- serves: tool_ranges::npm::rewrite_included
 -- On which side of a zero-filled version a version is, expressed by agreement and comparison with
 -- the stated numbers.
 use Rattle.std.proofs.Common.{◌≡◌, ℕ, Bool, true, false, not, ◌&&◌, ◌||◌, ◌==◌, nat_eq, List, [], ◌∷◌}

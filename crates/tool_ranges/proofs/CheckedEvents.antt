@@ -1,4 +1,3 @@
--- serves: tool_ranges::offset::is_range
 -- Whether the numbers of all terms fit, found from the events of a text.
 use Rattle.std.proofs.Common.{◌≡◌, Bool, true, false, ◌&&◌, Option, Some, None, List, refl, ap, sym, ◌∙◌}
 use Rattle.std.specs.List.{list_all}

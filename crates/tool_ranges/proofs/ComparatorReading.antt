@@ -1,4 +1,3 @@
--- serves: tool_ranges::meaning::check
 -- The reader finds a comparator at the beginning of a requirement if and only if there is one, up
 -- to its comma or the end of the text.
 use Rattle.std.proofs.Common.{◌≡◌, ℕ, Bool, true, false, ◌==◌, [], ◌∷◌, ◌++◌, refl, sym, ap, ◌∙◌, rules}

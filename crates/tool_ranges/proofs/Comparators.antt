@@ -1,4 +1,3 @@
--- serves: tool_ranges::meaning::check
 -- Reading the comparators of a requirement one after the other gives those of its tree.
 use Rattle.std.proofs.Common.{◌≡◌, ℕ, zero, suc, ◌≤◌, Bool, true, false, not, ◌&&◌, ◌||◌, List, [], ◌∷◌, ◌++◌, length, refl, sym, ap, ◌∙◌, subst, arith}
 use Rattle.std.proofs.Common.{Option, Some, None, map}

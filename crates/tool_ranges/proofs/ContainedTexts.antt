@@ -1,4 +1,3 @@
--- serves: tool_ranges::version_range::VersionRange::contains_bytes
 -- A range reads identifiers of digits as its dialect does.
 use Rattle.std.proofs.Common.{◌≡◌, ap, subst, sym, ◌∙◌}
 use Rattle.semver_texts.specs.Digits.{digits_in, plain_by}

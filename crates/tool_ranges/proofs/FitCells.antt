@@ -1,4 +1,3 @@
--- serves: tool_ranges::cargo::rewrite
 -- The numbers that are raised for the sides of a term fit if and only if those of its raised bound
 -- fit.
 use Rattle.std.proofs.Common.{◌≡◌, ℕ, ◌+◌, ◌-◌, ◌^◌, Bool, true, false, not, ◌&&◌, if◌then◌else◌, ◌==◌, List, [], ◌∷◌, length, nat_le, nat_lt}

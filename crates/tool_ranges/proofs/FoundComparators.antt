@@ -1,4 +1,3 @@
--- serves: tool_ranges::cargo::rewrite
 -- The steps of the reader of a comparator.
 use Rattle.std.proofs.Common.{◌≡◌, ◌-◌, ◌≤◌, true, false, ◌==◌, length, get_or, take, drop, Some, None, rules}
 use Rattle.std.proofs.Common.{refl, arith}

@@ -1,4 +1,3 @@
--- serves: tool_ranges::highest::VersionRange::highest_of
 -- The highest version of a set among the first strings of a list.
 use Rattle.std.proofs.Common.{◌≡◌, ◌≢◌, ◌↔◌, ◌⊎◌, ◌∙◌, ◌<◌, ◌+◌, ℕ, Bool, true, false, List, Option, Some, None, MatchOption, option_map}
 use Rattle.std.proofs.Common.{true≢false, arith}

@@ -1,4 +1,3 @@
--- serves: tool_ranges::highest::VersionRange::highest_among
 -- The highest version of a set among the strings that an iterator has returned so far.
 use Rattle.std.proofs.Common.{◌≡◌, ◌↔◌, ◌+◌, ◌<◌, ◌∙◌, ◌++◌, ℕ, Bool, true, false, List, [], ◌∷◌, length, Option, Some, None}
 use Rattle.std.proofs.Common.{zero, suc, MatchOption, Less, ap, arith, option_map, refl, subst, sym}

@@ -1,4 +1,3 @@
--- serves: tool_ranges::npm::rewrite_included
 -- With every pre-release within the bounds, the comparators that are printed from the sides of a
 -- term are those of npm's table with lowest bounds.
 use Rattle.std.proofs.Common.{◌≡◌, ℕ, true, false, not, ◌&&◌, ◌++◌, ◌==◌, if◌then◌else◌, List, [], ◌∷◌, length, map, refl, ap, ◌∙◌, append-nil}

@@ -1,4 +1,3 @@
--- serves: tool_ranges::npm::rewrite_included
 -- A version, which may be a pre-release, satisfies the comparators with lowest bounds if and only
 -- if it satisfies the text in npm's dialect with every pre-release within the bounds.
 use Rattle.std.proofs.Common.{◌≡◌, ℕ, Bool, true, false, not, ◌&&◌, ◌||◌, ◌++◌, ◌==◌, if◌then◌else◌, List, [], ◌∷◌, map, Option, Some, None}

@@ -1,4 +1,3 @@
--- serves: tool_ranges::npm::rewrite_included
 -- The remaining events of a range text whose numbers fit, after a term and at the end.
 use Rattle.std.proofs.Common.{◌≡◌, true, List, [], ◌∷◌, Option, Some, None, refl}
 use Rattle.std.proofs.lemmas.Bool.{and_parts}

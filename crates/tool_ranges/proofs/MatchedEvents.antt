@@ -1,4 +1,3 @@
--- serves: tool_ranges::cargo::rewrite
 -- The progress of matching a version with a range text, after each event of the text.
 use Rattle.std.proofs.Common.{◌≡◌, Bool, true, false, ◌&&◌, ◌||◌, if◌then◌else◌, List, [], ◌∷◌, map, Option, Some, None, refl, sym, ap, ◌∙◌}
 use Rattle.std.proofs.Math.Bool.{and-true, and-false, or-false}

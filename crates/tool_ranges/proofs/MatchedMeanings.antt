@@ -1,4 +1,3 @@
--- serves: tool_ranges::meaning::satisfies
 -- Build metadata doesn't count.
 use Rattle.std.proofs.Common.{◌≡◌, ap}
 use Rattle.semver_texts.specs.Versions.{VersionValue}

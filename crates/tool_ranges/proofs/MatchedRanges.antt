@@ -1,4 +1,3 @@
--- serves: tool_ranges::meaning::satisfies
 -- Testing a version with the terms of each range, as they are read, has the result that the
 -- definitions give for the tree.
 use Rattle.std.proofs.Common.{◌≡◌, ℕ, Bool, true, false, ◌&&◌, ◌||◌, ◌==◌, if◌then◌else◌, List, [], ◌∷◌, length, map, refl, sym, ap, ◌∙◌}

@@ -1,4 +1,3 @@
--- serves: tool_ranges::npm::rewrite_included
 -- For a term that was read, the test of a version has the result that the definition gives for the
 -- term of the tree.
 use Rattle.std.proofs.Common.{◌≡◌, ℕ, Bool, true, false, not, ◌&&◌, ◌==◌, if◌then◌else◌, nat_eq, List, [], ◌∷◌, length, refl, sym, ap, ◌∙◌}

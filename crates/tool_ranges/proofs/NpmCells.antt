@@ -1,4 +1,3 @@
--- serves: tool_ranges::npm::rewrite_included
 -- The versions that satisfy a term in npm's dialect are those between the sides in its table.
 use Rattle.std.proofs.Common.{◌≡◌, ℕ, Bool, true, false, not, ◌&&◌, ◌||◌, ◌==◌, if◌then◌else◌, List, [], ◌∷◌, length}
 use Rattle.std.proofs.Common.{refl, sym, ap, ◌∙◌, rules}

@@ -1,4 +1,3 @@
--- serves: tool_ranges::npm::rewrite
 -- A version satisfies a term in npm's dialect by default if and only if it satisfies the term's
 -- comparators, provided that `>=0.0.0` matches everything. A release satisfies a text if and only
 -- if it satisfies the text's comparators.

@@ -1,4 +1,3 @@
--- serves: result_laws::version_ranges::one_highest_of
 -- At most one index is that of the highest version.
 use Rattle.std.proofs.Common.{◌≡◌, ◌≢◌, ◌⊎◌, ◌<◌, ◌∙◌, ℕ, Bool, List, Option, Some, None, arith, refl, rules, ap, subst, sym, Less, Greater, ⊎_elim}
 use Rattle.std.specs.Borrow.{Bor}

@@ -1,4 +1,3 @@
--- serves: tool_ranges::laws::prefixes_begin_prefixes
 -- Prefixes of partial versions and their completions. A partial version is one to three components,
 -- each from a set of texts of its own, and after three components there may be a suffix.
 use Rattle.std.proofs.Common.{◌≡◌, ℕ, ◌⊎◌, inl, inr, true, List, [], ◌∷◌, ◌++◌, codes, refl, sym, ap, ◌∙◌, arith, append-nil}

@@ -1,4 +1,3 @@
--- serves: tool_ranges::cargo::rewrite
 -- The comparators that are printed from the sides of a term of Cargo or npm are those of the tool's
 -- table.
 use Rattle.std.proofs.Common.{◌≡◌, ℕ, true, false, not, ◌&&◌, ◌==◌, if◌then◌else◌, List, [], ◌∷◌, length, refl, ap}

@@ -1,4 +1,3 @@
--- serves: tool_ranges::cargo::rewrite
 -- The ranges that are printed, found from the events of a text, and the comparators that are
 -- printed for each tree of Cargo and npm.
 use Rattle.std.proofs.Common.{◌≡◌, List, [], ◌∷◌, ◌++◌, map, refl, sym, ap, ◌∙◌, append_assoc}

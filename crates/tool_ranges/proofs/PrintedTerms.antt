@@ -1,4 +1,3 @@
--- serves: tool_ranges::cargo::rewrite
 -- If the numbers of a term that was read fit, its printed comparators are those of the term of the
 -- tree.
 use Rattle.std.proofs.Common.{◌≡◌, ◌++◌, ◌-◌, ◌^◌, true, false, not, ◌&&◌, List, [], ◌∷◌, map, Option, nat_le, refl, sym, ap, ◌∙◌}

@@ -1,4 +1,3 @@
--- serves: tool_ranges::laws::prefixes_begin_prefixes
 -- Each prefix of a range text of the crate or of npm can be completed by one of a few texts, if each
 -- prefix of a word can be.
 use Rattle.std.proofs.Common.{◌≡◌, ℕ, ◌≤◌, ◌⊎◌, inl, inr, Bool, true, false, List, [], ◌∷◌, ◌++◌, codes, length, refl, sym, ap, ◌∙◌}

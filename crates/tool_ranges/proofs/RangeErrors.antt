@@ -1,4 +1,3 @@
--- serves: tool_ranges::refusals::refused, refused
 -- If a call returns an error for a range text, other than `OutOfMemory`, the text has this error
 -- only, and no set.
 use Rattle.std.proofs.Common.{◌≡◌, ◌≢◌, Err, ◌↔◌, ◌∙◌, ap, arith}

@@ -1,4 +1,3 @@
--- serves: tool_ranges::laws::prefixes_begin_prefixes
 -- Each prefix of blanks, of a component and of an identifier in a range text can be completed by one
 -- of a few texts.
 use Rattle.std.proofs.Common.{◌≡◌, ℕ, ◌≤◌, Bool, true, false, [], ◌∷◌, ◌++◌, codes, length, refl, sym, subst, arith, append-nil, ◌∙◌}

@@ -1,4 +1,3 @@
--- serves: tool_ranges::laws::one_reason
 -- There is only one reason why a text is not a range.
 use Rattle.std.proofs.Common.{◌≡◌, ◌∙◌, ℕ, Option, sym}
 use Rattle.semver_texts.specs.Texts.{Text}

@@ -1,4 +1,3 @@
--- serves: tool_ranges::cargo::rewrite
 -- A release satisfies a requirement if and only if it satisfies the requirement's comparators.
 use Rattle.std.proofs.Common.{◌≡◌, ℕ, zero, suc, ◌+◌, Bool, true, false, not, ◌&&◌, ◌||◌, ◌==◌, nat_eq, if◌then◌else◌, List, [], ◌∷◌}
 use Rattle.std.proofs.Common.{length}

@@ -1,4 +1,3 @@
--- serves: result_laws::sets::satisfies_as_the_set
 -- The same error as the result of two calls that return different types.
 use Rattle.std.proofs.Common.{rules}
 use Rattle.std.specs.Prelude.{Result, Err}

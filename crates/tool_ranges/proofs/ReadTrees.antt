@@ -1,4 +1,3 @@
--- serves: tool_ranges::meaning::check
 -- Reading a text in a dialect gives its only tree, and a call returns an error if the text has no
 -- tree or a number of its tree doesn't fit.
 use Rattle.std.proofs.Common.{◌≡◌, true, false, Some, None, refl, sym, ap, ◌∙◌}

@@ -1,4 +1,3 @@
--- serves: tool_ranges::laws::prefixes_begin_prefixes
 -- Each prefix of a range text in a dialect can be completed by one of a few texts.
 use Rattle.std.proofs.Common.{◌≡◌, true, ◌++◌, refl}
 use Rattle.std.specs.List.{AllByRecursion, Contains, list_all}

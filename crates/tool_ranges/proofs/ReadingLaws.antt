@@ -1,4 +1,3 @@
--- serves: tool_ranges::laws::one_tree
 -- In each dialect, a text has at most one tree. Whether it is accepted doesn't depend on the value
 -- that a call returns for it.
 use Rattle.std.proofs.Common.{◌≡◌, Ok, rules}

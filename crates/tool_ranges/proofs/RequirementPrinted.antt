@@ -1,4 +1,3 @@
--- serves: tool_ranges::cargo::rewrite, reads_back
 -- The set that a requirement is rewritten to can be printed, and reading the printed text gives the
 -- set again.
 use Rattle.std.proofs.Common.{◌≡◌, true, false, List, [], ◌∷◌, ◌++◌, refl, arith}

@@ -1,4 +1,3 @@
--- serves: tool_ranges::npm::rewrite
 -- Numbers that are at most 2^53 - 1 fit in 64 bits.
 use Rattle.std.proofs.Common.{◌≡◌, ℕ, true, List, refl, arith}
 use Rattle.std.proofs.Common.{Option, Some, None}

@@ -1,4 +1,3 @@
--- serves: tool_ranges::laws::one_satisfies
 -- An error of the range is an allowed result of `satisfies`, and only one result is allowed.
 use Rattle.std.proofs.Common.{◌≡◌, ◌∙◌, Bool, Ok, Err, ap, inl, inr, refl, subst, sym, true≢false}
 use Rattle.std.specs.Prelude.{Result}

@@ -1,4 +1,3 @@
--- serves: tool_ranges::dialect::rewrite
 -- The sides of a term don't depend on how its identifiers of digits are read.
 use Rattle.std.proofs.Common.{◌≡◌, ℕ, zero, suc, ◌-◌, ◌^◌, Bool, true, false, not, ◌&&◌, Option, Some, None, List, nat_le, refl, ap, sym, ◌∙◌, arith}
 use Rattle.std.specs.List.{list_all}

@@ -1,4 +1,3 @@
--- serves: tool_ranges::refusals::refused
 -- How many terms of a range text fit before the first that doesn't, as the loop over its events
 -- counts them; and the offsets of words and components.
 use Rattle.std.proofs.Common.{◌≡◌, ℕ, zero, suc, ◌+◌, ◌≤◌, Bool, true, false, List, [], ◌∷◌, ◌++◌, Option, Some, None, length, refl, sym}

@@ -1,4 +1,3 @@
--- serves: tool_ranges::npm::rewrite
 -- In npm's table, a side of a hyphen range that states nothing is `>=0.0.0`. The comparators of
 -- Cargo's and of npm's table can be printed.
 use Rattle.std.proofs.Common.{◌≡◌, true, false, refl, arith, rules}

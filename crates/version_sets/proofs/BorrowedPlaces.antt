@@ -1,4 +1,3 @@
--- serves: version_sets::version_set::VersionSet::contains_ref
 -- How the lookup of a borrowed version relates to that of its version, and a binary search among
 -- the boundaries of pre-releases.
 use Rattle.std.proofs.Common.{◌≡◌, ◌↔◌, ℕ, ◌+◌, ◌<◌, ◌≤◌, Bool, true, false, not, List, [], ◌∷◌, length, get_or, refl, sym, ap, ◌∙◌, map}

@@ -1,4 +1,3 @@
--- serves: version_sets::ranges::Conjunction::new, all
 -- Which versions are at or above a version, which are above it, and which have its numbers.
 use Rattle.std.proofs.Common.{rules, arith, ◌≡◌, zero, suc, Bool, true, false, ◌&&◌, ◌||◌, not, List, [], ◌∷◌, ◌++◌, refl, sym}
 use Rattle.std.proofs.Common.{ap, ap₂, ◌∙◌}

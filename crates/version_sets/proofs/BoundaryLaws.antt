@@ -1,4 +1,3 @@
--- serves: version_sets::laws::one_set
 -- Lists of boundaries: an element below the first is outside, and two lists with the same elements
 -- inside are equal.
 use Rattle.std.proofs.Common.{arith, ◌≡◌, Bool, true, false, not, List, [], ◌∷◌, refl, sym, ap, ap₂, ◌∙◌, subst, true≢false}

@@ -1,4 +1,3 @@
--- serves: version_sets::set_ranges::VersionSet::release_ranges
 -- Properties of identifiers and versions that don't depend on how identifiers of digits are read,
 -- and how such identifiers are kept.
 use Rattle.std.proofs.Common.{◌≡◌, ℕ, ◌^◌, ◌<◌, ◌≤◌, Bool, true, false, ◌&&◌, not, List, [], ◌∷◌, map, arith, refl, sym, ap, ◌∙◌}

@@ -1,4 +1,3 @@
--- serves: version_sets::version_set::VersionSet::contains_each, each
 -- Results that are written one after the other, and the versions in a set with two boundaries.
 use Rattle.std.proofs.Common.{◌≡◌, ℕ, ◌<◌, ◌≤◌, ◌==◌, Bool, true, not, ◌&&◌, List, [], ◌∷◌, map, take, set, length}
 use Rattle.std.proofs.Common.{get_or}

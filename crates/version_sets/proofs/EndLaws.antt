@@ -1,4 +1,3 @@
--- serves: version_sets::ranges::Ranges::push_stated, meaning
 -- The versions at which spans of pre-releases begin and end: which versions are at or above them,
 -- and that they can be read back.
 use Rattle.std.proofs.Common.{◌≡◌, Bool, true, false, not, ◌&&◌, ◌||◌, List, [], ◌∷◌, map, refl, sym, ap, ◌∙◌, arith, Ordering, Less, Equal, Greater}

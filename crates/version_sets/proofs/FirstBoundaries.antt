@@ -1,4 +1,3 @@
--- serves: version_sets::lowest::VersionSet::lowest, lowest
 -- The first boundary of a kind is the lowest version of that kind in a set. The lowest version in a
 -- set is the lower of the first boundaries of both kinds.
 use Rattle.std.proofs.Common.{arith, ◌≡◌, ◌≢◌, ◌↔◌, Bool, true, false, ◌&&◌, cond, List, [], ◌∷◌, refl, Ordering, is_lt}

@@ -1,4 +1,3 @@
--- serves: version_sets::ranges::Ranges::push_stated
 -- If a test holds for the versions at which spans begin and end, it holds for the boundaries of
 -- their union.
 use Rattle.std.proofs.Common.{arith, ◌≡◌, Bool, true, false, not, ◌&&◌, cond, List, [], ◌∷◌, ◌++◌, map, refl, sym, ap, ◌∙◌, is_ge, is_lt}

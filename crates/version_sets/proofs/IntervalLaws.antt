@@ -1,4 +1,3 @@
--- serves: version_sets::ranges::Conjunction::new, all
 -- A version of a kind satisfies the ranges of the intervals if and only if it is inside the
 -- boundaries.
 use Rattle.std.proofs.Common.{arith, ◌≡◌, Bool, true, false, not, ◌&&◌, ◌||◌, cond, List, [], ◌∷◌, refl, sym, ap, ap₂, ◌∙◌}

@@ -1,4 +1,3 @@
--- serves: version_sets::ranges::Conjunction::new, all
 -- Releases and pre-releases are kinds: each has a version right above it, if any is above, and none
 -- is below the lowest of its kind.
 use Rattle.std.proofs.Common.{arith, ◌≡◌, Bool, true, false, cond, not, List, [], ◌∷◌, refl, sym, ap, ◌∙◌}

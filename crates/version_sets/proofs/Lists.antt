@@ -1,4 +1,3 @@
--- serves: version_sets::lowest::VersionSet::lowest, lowest
 -- Lemmas about the length of a list, and about the value or the error of a result.
 use Rattle.std.proofs.Common.{◌≡◌, ◌==◌, ℕ, Bool, List, [], ◌∷◌, map, length}
 use Rattle.std.proofs.Common.{arith, IfOk, IfErr, Result, Ok, Err}

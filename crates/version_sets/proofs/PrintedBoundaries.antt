@@ -1,4 +1,3 @@
--- serves: version_sets::ranges::Ranges::push_stated, meaning
 -- A version that can be read back from its text can also be read back with the number 0 after its
 -- pre-release.
 use Rattle.std.proofs.Common.{◌≡◌, Bool, true, false, List}

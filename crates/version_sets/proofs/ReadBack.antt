@@ -1,4 +1,3 @@
--- serves: version_sets::set_ranges::VersionSet::release_ranges
 -- The text of the ranges of a set, read in npm mode, gives comparators that the versions in the set
 -- satisfy, and no others of their kind.
 use Rattle.std.proofs.Common.{arith, ◌≡◌, Bool, true, false, not, ◌&&◌, ◌||◌, cond, List, [], ◌∷◌, codes, refl, sym, ap, ◌∙◌, subst}

@@ -1,4 +1,3 @@
--- serves: version_sets::laws::one_set
 -- Sets with the same versions have the same boundaries; and the results of `==`, `is_subset` and
 -- `is_disjoint` in terms of versions.
 use Rattle.std.proofs.Common.{arith, ◌≡◌, ◌↔◌, Bool, true, false, not, ◌&&◌, refl, sym}

@@ -1,4 +1,3 @@
--- serves: version_sets::version_set::VersionSet::contains
 -- Whether an element is inside boundaries, as a binary search finds it, and as a search one by one
 -- does.
 use Rattle.std.proofs.Common.{◌&&◌, ◌≡◌, ℕ, zero, suc, ◌≤◌, ◌<◌, ◌%◌, Bool, true, false, not, nat_eq, List, [], ◌∷◌}

@@ -1,4 +1,3 @@
--- serves: version_sets::laws::one_set
 -- Which versions are in the combination of two sets. The combination is in the normal form, and it
 -- is printable if both sets are.
 use Rattle.std.proofs.Common.{arith, ◌≡◌, ◌↔◌, Bool, true, false, ◌||◌, cond, List, [], ◌∷◌, refl, sym, ap, ap₂, ◌∙◌}

@@ -1,4 +1,3 @@
--- serves: version_sets::set_ranges::VersionSet::release_ranges, out_of_memory
 -- A version satisfies the ranges of a set if and only if it is in the set, and the text of the
 -- ranges reads back. A set that has a boundary of a kind contains a version of that kind.
 use Rattle.std.proofs.Common.{arith, ◌≡◌, ◌<◌, not, List, [], ◌∷◌, map, length, IsTrue, sym, ◌∙◌, subst}

@@ -1,4 +1,3 @@
--- serves: version_sets::ranges::Ranges::push_stated
 -- The boundaries of ascending spans increase, and an element is inside them if and only if it is in
 -- some span.
 use Rattle.std.proofs.Common.{arith, ◌≡◌, Bool, true, false, ◌&&◌, ◌||◌, cond, List, [], ◌∷◌, ◌++◌, refl, sym, ap, ◌∙◌, subst}

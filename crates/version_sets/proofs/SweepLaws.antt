@@ -1,4 +1,3 @@
--- serves: version_sets::laws::one_set
 -- The pieces of a sweep over two lists of boundaries say which elements are inside each list, and
 -- give the boundaries of a combination.
 use Rattle.std.proofs.Common.{arith, ◌≡◌, Bool, true, false, not, cond, List, [], ◌∷◌, map}

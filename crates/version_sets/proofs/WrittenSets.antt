@@ -1,4 +1,3 @@
--- serves: version_sets::printing::VersionSetDisplay::fmt, writes
 -- The text of an identifier doesn't depend on how its digits are read; and the text of intervals.
 use Rattle.std.proofs.Common.{◌≡◌, ℕ, ◌≤◌, false, List, [], ◌∷◌, ◌++◌, arith, cond, codes, length, map, refl, sym, ap, ap₂, ◌∙◌, take_all}
 use Rattle.std.proofs.lemmas.Bool.{and_parts}
