@@ -197,9 +197,11 @@ crate:
 	may_cargo
 	data=$$work/crate/tests/data
 	cp -R rust "$$work/crate"
-	mkdir -p "$$data/replayed_cases" "$$data/library_tests"
+	mkdir -p "$$data/replayed_cases" "$$data/library_tests" "$$data/filter_tests"
 	cp crates/replayed_cases/stdin crates/replayed_cases/stdout "$$data/replayed_cases"
-	cp crates/library_tests/stdout crates/library_tests/requests "$$data/library_tests"
+	for name in library_tests filter_tests; do
+		cp crates/$$name/stdout crates/$$name/requests "$$data/$$name"
+	done
 	cargo package --quiet --offline --allow-dirty --no-verify --target-dir "$$work/target" \
 		--manifest-path "$$work/crate/Cargo.toml" 2> "$$work/notes" ||
 		{ cat "$$work/notes" >&2; exit 2; }

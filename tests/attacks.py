@@ -804,8 +804,6 @@ pub fn begun(all: &[Strings]) -> Strings {
     pub fn lowest_of('''),
         ],
         careless=[
-    ('replayed_cases/filtering.rs', '        .highest_of(&texts)\n',
-     '        .lowest_of(&texts)\n'),
     ('tool_ranges/highest.rs',
      '''    pub fn highest_of(&self, versions: &[&[u8]]) -> Option<usize> {
         best_index(self, versions, false)

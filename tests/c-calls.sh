@@ -1,7 +1,7 @@
 #!/bin/sh
 # Tests each C function: short and long strings, each dialect, each rule for pre-releases, ranges
-# that are parsed once, errors and their messages, each allocation failing, the table of cases in
-# crates/replayed_cases, and random calls in random order. Builds the library with make. ./test c
+# that are parsed once, errors and their messages, each allocation failing, the tables of cases in
+# crates/replayed_cases and rust/tests/layers, and random calls in random order. Builds the library with make. ./test c
 # runs the same tests under valgrind and sanitizers.
 set -eu
 unset CDPATH
@@ -20,7 +20,7 @@ cc -O1 -o "$work/nulls" tests/c/nulls.c $library
 cc -O1 -o "$work/refused" tests/c/refused.c $library -Wl,--wrap=malloc,--wrap=realloc,--wrap=free
 cc -O1 -pthread -o "$work/uses" tests/c/uses.c $library
 for name in rules readings sets errors nulls refused uses; do "$work/$name"; done
-"$work/replay" crates/replayed_cases/stdin crates/replayed_cases/stdout
+"$work/replay" crates/replayed_cases rust/tests/layers
 
 # A random call returns the same result after other calls as it does alone. Each function is among
 # them.

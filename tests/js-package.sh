@@ -1,8 +1,8 @@
 #!/bin/sh
 # Makes the JavaScript package, packs it, and installs it in an empty project without a network.
-# There it runs the tests of the package, of its types if tsc is installed, the rows of
-# crates/replayed_cases, and random calls, each of which has to return the same result after other
-# calls as it does alone.
+# There it runs the tests of the package, of its types if tsc is installed, the rows of the tables
+# of cases, and random calls, each of which has to return the same result after other calls as it
+# does alone.
 set -eu
 top=$(dirname -- "$(dirname -- "$(readlink -f -- "$0")")")
 fail() {

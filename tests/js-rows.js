@@ -1,13 +1,13 @@
-// Tests the JavaScript package with the rows of crates/replayed_cases: which versions satisfy a
-// range, what a version is parsed to, where and why a string is invalid, and how two ranges
-// compare.
+// Tests the JavaScript package with the rows of crates/replayed_cases and rust/tests/layers: which
+// versions satisfy a range, what a version is parsed to, where and why a string is invalid, and how
+// two ranges compare.
 //
 //     node tests/js-rows.js PACKAGE
 'use strict';
 const fs = require('fs');
 const path = require('path');
 
-const CASES = path.join(__dirname, '..', 'crates', 'replayed_cases');
+const TABLES = ['crates/replayed_cases', 'rust/tests/layers'];
 const semver = require(path.resolve(process.argv[2]));
 
 // The dialects and rules for pre-releases, by the names in the rows.
@@ -45,7 +45,7 @@ function expect(what, found, right) {
     process.exit(1);
 }
 
-// A string of the table without escapes; crates/replayed_cases/src/text.rt describes them.
+// A string of a table without escapes; crates/replayed_cases/src/text.rt describes them.
 function expanded(escaped) {
     const meant = (string, at) => string.replace(/\\([\s\S])/g, (all, it) =>
         it === '#' ? String(at) : { n: '\n', r: '\r', t: '\t', '\\': '\\' }[it]);
@@ -111,7 +111,8 @@ function askWholePair(what, range, other, options, answer) {
     expect(what, `lost ${shown(lost)}; gained ${shown(gained)}`, answer.replace(/; shared.*/, ''));
 }
 
-const lines = (name) => fs.readFileSync(path.join(CASES, name), 'utf8').split('\n').slice(0, -1);
+const lines = (name) => TABLES.flatMap((table) =>
+    fs.readFileSync(path.join(__dirname, '..', table, name), 'utf8').split('\n').slice(0, -1));
 const wanted = lines('stdout');
 lines('stdin').forEach((line, at) => {
     const [name, call, escaped, list = ''] = line.split('\t');

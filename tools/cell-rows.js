@@ -1,4 +1,4 @@
-// Writes the rows for each form of a term in crates/replayed_cases anew, as npm and Cargo read it:
+// Writes the rows for each form of a term in rust/tests/layers anew, as npm and Cargo read it:
 // `node tools/cell-rows.js JUDGE`. JUDGE is the built `versions-by-cargo-semver` of
 // tools/comparisons, and NODE_PATH has to name the directory with npm's own modules (`$(npm root
 // -g)/npm/node_modules`).
@@ -13,7 +13,7 @@ const fs = require('fs')
 const path = require('path')
 const semver = require('semver')
 
-const CASES = path.join(__dirname, '..', 'crates', 'replayed_cases')
+const CASES = path.join(__dirname, '..', 'rust', 'tests', 'layers')
 const NAMES = ['each_term_by_npm', 'each_term_by_cargo']
 
 const OPERATORS = ['', '=', '<', '<=', '>', '>=', '~', '^']

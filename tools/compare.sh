@@ -20,8 +20,8 @@
 #   into pieces in 100 ways (python3)
 # - version-places: brute force with node-semver as npm ships it, and with grammars, where and why a
 #   string is an invalid version, in each dialect (npm)
-# - erased: the kit's build and cargo's, what the table of cases and release-filter write for COUNT
-#   random rows and lines, in each dialect and by each rule (python3, cargo)
+# - erased: the kit's build and cargo's, what the table of cases of the port writes for COUNT random
+#   rows, and release-filter for as many lines, in each dialect and by each rule (python3, cargo)
 # - crate-tests: the tests and examples of the original Rust crate, run with rust/ (cargo and
 #   librust-semver-parser-dev)
 # - semver-suite: the tests of Cargo's crate semver 1.0.14, run with rust/ and Dialect::Cargo by a
@@ -60,7 +60,6 @@
 # It isn't part of the gate.
 set -eu
 cd "$(dirname "$0")/.."
-cases=crates/replayed_cases/out/replayed_cases
 seed=${3:-1}
 
 # every PREFIX COUNT: prints the names of COUNT of Debian's packages, at equal distances in their
@@ -164,33 +163,42 @@ crate | cargo | node | npm | versions | real | grid | lines | places | version-p
     ;;
 esac
 
-# The program of cases, as the kit proves and builds it.
-(cd crates/replayed_cases && rt run < /dev/null > /dev/null)
+# The programs of cases: as the kit proves and builds that of the port, and as cargo builds the one
+# of everything, which is a test.
+port=crates/replayed_cases/out/replayed_cases
+case $1 in crate | erased) (cd crates/replayed_cases && rt run < /dev/null > /dev/null) ;; esac
+tests=$(cargo test --quiet --offline --release --no-run --test proved --message-format=json |
+    sed -n 's/.*"name":"proved".*"executable":"\([^"]*\)".*/\1/p')
+cases=$(mktemp)
+trap 'rm -f "$cases"' EXIT
+trap 'exit 2' HUP INT TERM
+printf '#!/bin/sh\nexec "%s" layers\n' "$tests" > "$cases"
+chmod +x "$cases"
 case $1 in
 crate)
     (cd tools/comparisons && build)
     dpkg-query --show librust-semver-parser-dev
-    exec tools/comparisons/target/release/compare "$cases" "${2:-1000000}" "$seed"
+    tools/comparisons/target/release/compare "$port" "${2:-1000000}" "$seed"
     ;;
 cargo)
     (cd tools/comparisons && build)
     dpkg-query --show librust-semver-dev
     tools/comparisons/target/release/requirements-with-cargo-semver "$cases" "${2:-100000}" "$seed"
-    exec tools/comparisons/target/release/with-cargo-semver "$cases" "${2:-100000}" "$seed"
+    tools/comparisons/target/release/with-cargo-semver "$cases" "${2:-100000}" "$seed"
     ;;
 node)
     dpkg-query --show node-semver
     NODE_PATH=/usr/share/nodejs
     export NODE_PATH
     node tools/comparisons/with-node-semver.js "$cases" "${2:-100000}" "$seed"
-    exec node tools/comparisons/sets-with-node-semver.js "$cases" "${2:-100000}" "$seed"
+    node tools/comparisons/sets-with-node-semver.js "$cases" "${2:-100000}" "$seed"
     ;;
 npm)
     NODE_PATH=$(npm root -g)/npm/node_modules
     export NODE_PATH
     node -e 'console.log("node-semver", require("semver/package.json").version)'
     node tools/comparisons/npm-with-node-semver.js "$cases" "${2:-100000}" "$seed"
-    exec node tools/comparisons/ranges-of-sets-with-node-semver.js "$cases" "${2:-100000}" "$seed"
+    node tools/comparisons/ranges-of-sets-with-node-semver.js "$cases" "${2:-100000}" "$seed"
     ;;
 versions)
     (cd tools/comparisons && build)
@@ -201,19 +209,18 @@ versions)
     asked=tools/comparisons/target/release/versions-by-cargo-semver
     node tools/comparisons/versions-with-tools.js "$cases" "$asked" "${2:-100000}" "$seed"
     make -s
-    exec node tools/comparisons/kept-with-tools.js out/cargo/release/release-filter "$asked" "${2:-100000}" "$seed"
+    node tools/comparisons/kept-with-tools.js out/cargo/release/release-filter "$asked" "${2:-100000}" "$seed"
     ;;
 version-places)
     NODE_PATH=$(npm root -g)/npm/node_modules
     export NODE_PATH
     node -e 'console.log("node-semver", require("semver/package.json").version)'
-    exec node tools/comparisons/version-places.js "$cases" "${2:-30000}" "$seed"
+    node tools/comparisons/version-places.js "$cases" "${2:-30000}" "$seed"
     ;;
 real)
     (cd tools/comparisons && build)
     packages=$(mktemp -d)
-    trap 'rm -rf "$packages"' EXIT
-    trap 'exit 2' HUP INT TERM
+    trap 'rm -rf "$packages" "$cases"' EXIT
     (cd "$packages" && apt-get download -qq $(every node- "${2:-100}") $(every librust- "${2:-100}"))
     tools/real-texts.py "$packages"
     NODE_PATH=$(npm root -g)/npm/node_modules node tools/comparisons/npm-with-node-semver.js "$cases" \
@@ -222,23 +229,21 @@ real)
         --texts "$packages/cargo.texts" "$packages/cargo.versions"
     ;;
 grid)
-    exec python3 tools/comparisons/with-a-grid.py "$cases" "${2:-100000}" "$seed"
+    python3 tools/comparisons/with-a-grid.py "$cases" "${2:-100000}" "$seed"
     ;;
 lines)
     make -s
-    exec python3 tools/comparisons/lines-in-pieces.py out/cargo/release/release-filter "${2:-1000}" "$seed"
+    python3 tools/comparisons/lines-in-pieces.py out/cargo/release/release-filter "${2:-1000}" "$seed"
     ;;
 erased)
     (cd crates/release_filter_main && rt run -- --version)
     cargo build --quiet --offline --release --bins
-    tests=$(cargo test --quiet --offline --release --no-run --test proved --message-format=json |
-        sed -n 's/.*"name":"proved".*"executable":"\([^"]*\)".*/\1/p')
-    exec python3 tools/comparisons/erased.py "$cases" "$tests run-rows" \
+    python3 tools/comparisons/erased.py "$port" "$tests rows" \
         crates/release_filter_main/out/release_filter_main \
         target/release/release-filter "${2:-1000000}" "$seed"
     ;;
 places)
     make -s
-    exec python3 tools/comparisons/places.py "$cases" out/cargo/release/compare-ranges "${2:-4}"
+    python3 tools/comparisons/places.py "$cases" out/cargo/release/compare-ranges "${2:-4}"
     ;;
 esac

@@ -1,5 +1,5 @@
 #!/usr/bin/env python3
-"""Writes the rows of crates/replayed_cases for where a text stops being a range:
+"""Writes the rows of rust/tests/layers for where a text stops being a range:
 tools/place-rows.py > FILE
 
 Of two lines, the first belongs to `stdin` and the second to `stdout`. Regular expressions after

@@ -1,5 +1,5 @@
 #!/usr/bin/env python3
-"""Writes the rows for sets of versions in crates/replayed_cases anew: tools/set-rows.py
+"""Writes the rows for sets of versions in rust/tests/layers anew: tools/set-rows.py
 
 The expected results come from tools/range_meaning.py, which follows the definitions of
 docs/CRATE.md, and not from the code.
@@ -10,7 +10,7 @@ from pathlib import Path
 
 from range_meaning import RULES, fits, least, meets, places, ranges, shown, version, whole
 
-CASES = Path(__file__).resolve().parents[1] / "crates" / "replayed_cases"
+CASES = Path(__file__).resolve().parents[1] / "rust" / "tests" / "layers"
 MODES = ("cargo", "npm")
 N = 2**64 - 1
 M = N - 1

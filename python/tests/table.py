@@ -1,7 +1,7 @@
-"""The table of cases of this repository: its rows, and how it writes what a function returns.
+"""The tables of cases of this repository: their rows, and how they write what a function returns.
 
-`crates/replayed_cases` has the rows in its `stdin` and the expected results in its `stdout`; its
-`src/text.rt` says how strings are escaped. Functions that end with `-as-cargo` and `-as-npm` read
+`crates/replayed_cases` and `rust/tests/layers` have the rows in their `stdin` and the expected
+results in their `stdout`; `src/text.rt` of the former says how strings are escaped. Functions that end with `-as-cargo` and `-as-npm` read
 ranges and versions in the dialects of these tools, with which their rows were made. All others use
 the crate's dialects.
 """
@@ -24,7 +24,8 @@ from semver_parser import (
     crate_comparators,
 )
 
-CASES = Path(__file__).resolve().parents[2] / "crates" / "replayed_cases"
+_TOP = Path(__file__).resolve().parents[2]
+_CASES = (_TOP / "crates" / "replayed_cases", _TOP / "rust" / "tests" / "layers")
 
 _ESCAPES = {"n": "\n", "r": "\r", "t": "\t", "\\": "\\"}
 
@@ -44,11 +45,9 @@ _WORDS = {False: "not-a-range", True: "number-too-large"}
 
 # Which pre-releases are included by the functions for which versions satisfy a range.
 _RULES = {
-    "filter": PreReleases.EXCLUDED,
     "releases": PreReleases.EXCLUDED,
     "stated": PreReleases.DEFAULT,
     "mean": PreReleases.INCLUDED,
-    "meet": PreReleases.INCLUDED,
 }
 
 # The same for the functions that return the highest version, in the crate's npm mode.
@@ -60,7 +59,7 @@ _RULES_OF_HIGHEST = {
 
 
 class Row(NamedTuple):
-    """A row of the table, and its expected result."""
+    """A row of a table, and its expected result."""
 
     call: str
     text: str
@@ -93,15 +92,16 @@ def expanded(escaped: str) -> str:
 
 
 def rows() -> Iterator[Row]:
-    """Yields all rows of the table."""
-    asked = (CASES / "stdin").read_bytes().decode().split("\n")
-    wanted = (CASES / "stdout").read_bytes().decode().split("\n")
-    assert len(asked) == len(wanted) and asked.pop() == wanted.pop() == ""
-    for line, answer in zip(asked, wanted):
-        name, call, text, steps = (line.split("\t") + ["", ""])[:4]
-        assert answer.startswith(name + ": "), line
-        wanted_here = _VERSION_ERRORS.sub(_NO_VERSION, answer[len(name) + 2 :])
-        yield Row(call, expanded(text), expanded(steps), wanted_here)
+    """Yields all rows of the tables."""
+    for directory in _CASES:
+        asked = (directory / "stdin").read_bytes().decode().split("\n")
+        wanted = (directory / "stdout").read_bytes().decode().split("\n")
+        assert len(asked) == len(wanted) and asked.pop() == wanted.pop() == ""
+        for line, answer in zip(asked, wanted):
+            name, call, text, steps = (line.split("\t") + ["", ""])[:4]
+            assert answer.startswith(name + ": "), line
+            wanted_here = _VERSION_ERRORS.sub(_NO_VERSION, answer[len(name) + 2 :])
+            yield Row(call, expanded(text), expanded(steps), wanted_here)
 
 
 def rows_of_tools() -> Iterator[Tuple[str, str, Row]]:

@@ -5,8 +5,18 @@
 #include <stdlib.h>
 #include <string.h>
 
-table table_of_files(const char *rows, const char *answers) {
-    table made = {text_of_file(rows), text_of_file(answers), NULL, NULL};
+/* Reads a file of a directory. */
+static text text_in(const char *directory, const char *name) {
+    text path = {NULL, 0, 0};
+    text_say(&path, directory);
+    text_say(&path, name);
+    text read = text_of_file(path.bytes);
+    text_free(&path);
+    return read;
+}
+
+table table_of_directory(const char *directory) {
+    table made = {text_in(directory, "/stdin"), text_in(directory, "/stdout"), NULL, NULL};
     made.row_at = made.rows.bytes;
     made.answer_at = made.answers.bytes;
     return made;

@@ -1,4 +1,4 @@
-/* The table of cases in crates/replayed_cases, row by row. */
+/* A table of cases, row by row: that of crates/replayed_cases, or that of rust/tests/layers. */
 #ifndef TABLE_H
 #define TABLE_H
 
@@ -21,8 +21,8 @@ typedef struct {
     const char *expected;
 } row;
 
-/* Reads the table from the files STDIN and STDOUT. Exits if a file can't be read. */
-table table_of_files(const char *rows, const char *answers);
+/* Reads the table from the files stdin and stdout of a directory. Exits if one can't be read. */
+table table_of_directory(const char *directory);
 void table_free(table *it);
 
 /* Reads the next row, which the caller has to free, and returns whether there is one. Exits at a

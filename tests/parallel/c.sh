@@ -49,7 +49,7 @@ compile() {
 run() {
     for name in rules readings sets errors refused uses; do "$@" "$work/$name"; done
     [ $# != 0 ] || "$work/nulls"
-    "$@" "$work/replay" crates/replayed_cases/stdin crates/replayed_cases/stdout
+    "$@" "$work/replay" crates/replayed_cases rust/tests/layers
     "$@" "$work/order" 600 1
 }
 

@@ -1,4 +1,4 @@
-// Compares npm's dialect with node-semver. PROGRAM is the built `replayed_cases`.
+// Compares npm's dialect with node-semver. PROGRAM is the program `layers` of rust/tests.
 //
 // `node npm-with-node-semver.js PROGRAM COUNT SEED` makes COUNT texts by the grammar, COUNT with
 // one change, COUNT at the limits of lengths and numbers, and all texts of a few characters. It

@@ -1,7 +1,7 @@
 """Compares the offsets that compare-ranges reports with brute force: places.py CASES PROGRAM
 LENGTH.
 
-CASES is the built `replayed_cases`, which determines whether a text is a range, and PROGRAM is the
+CASES is the program `layers` of rust/tests, which determines whether a text is a range, and PROGRAM is the
 built `compare-ranges`. This tests each text of up to LENGTH of the characters below that isn't a
 range. The offset has to be the length of the longest prefix with which some range of up to LENGTH +
 2 of these characters begins; it is reported as the end of the text if that is the whole text. The

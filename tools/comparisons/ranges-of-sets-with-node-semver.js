@@ -1,7 +1,7 @@
 // Compares how node-semver reads the ranges that sets are printed as.
 //
-// `node ranges-of-sets-with-node-semver.js PROGRAM COUNT SEED`: PROGRAM is the built
-// `replayed_cases`. It makes COUNT pairs of range texts in npm mode, each with some versions near
+// `node ranges-of-sets-with-node-semver.js PROGRAM COUNT SEED`: PROGRAM is the program
+// `layers` of rust/tests. It makes COUNT pairs of range texts in npm mode, each with some versions near
 // their bounds. The program returns what the second text loses, gains and keeps of the first: for
 // each version, and as range texts. In node-semver these ranges have to match the same versions:
 // releases by default, and pre-releases with `includePrerelease`. It prints how many versions were

@@ -1,6 +1,6 @@
 // Compares what sets of versions return for two range texts with node-semver.
 //
-// `node sets-with-node-semver.js PROGRAM COUNT SEED`: PROGRAM is the built `replayed_cases`. It
+// `node sets-with-node-semver.js PROGRAM COUNT SEED`: PROGRAM is the program `layers` of rust/tests. It
 // makes COUNT pairs of texts in npm mode, and compares by two rules, pre-releases included and
 // default: whether the two overlap (`intersects`), whether the first is within the second
 // (`subset`), and the lowest version of the first (`minVersion`). node-semver gets the printed set

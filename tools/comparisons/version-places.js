@@ -1,6 +1,6 @@
 // Compares where and why a text is an invalid version, in each dialect, with brute force.
 //
-// `node version-places.js PROGRAM COUNT SEED`: PROGRAM is the built `replayed_cases`. It tests
+// `node version-places.js PROGRAM COUNT SEED`: PROGRAM is the program `layers` of rust/tests. It tests
 // COUNT texts of each kind that versions-with-tools.js makes, all texts of up to four characters,
 // and all of up to three after `1.0.0-` and after `1.0.0+`. What is a version is determined by
 // node-semver for npm, by the regular expression of semver.org with numbers below 2^64 for Cargo,

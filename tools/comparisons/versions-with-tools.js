@@ -1,6 +1,6 @@
 // Compares which texts are versions in Cargo and npm, and how they are parsed.
 //
-// `node versions-with-tools.js PROGRAM CARGO COUNT SEED`: PROGRAM is the built `replayed_cases`,
+// `node versions-with-tools.js PROGRAM CARGO COUNT SEED`: PROGRAM is the program `layers` of rust/tests,
 // and CARGO the built `versions-by-cargo-semver`, which calls `Version::parse` of the crate
 // `semver`. It makes COUNT texts by the grammar, COUNT with one to three changes, a tenth of COUNT
 // near npm's limit of 256 characters, and all texts of up to five characters after `1.0.0` and of

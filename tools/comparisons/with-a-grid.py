@@ -1,6 +1,6 @@
 """Compares sets of versions with brute force: with-a-grid.py PROGRAM COUNT SEED.
 
-PROGRAM is the built `replayed_cases`. This makes COUNT random pairs of range texts. They have so
+PROGRAM is the program `layers` of rust/tests. This makes COUNT random pairs of range texts. They have so
 few numbers and identifiers that a grid of versions has each point at which a result can change.
 Each version of the grid is matched with each term by `meets_term` of tools/range_meaning.py. This
 gives the contents of each set in the grid, and from them each result is computed:

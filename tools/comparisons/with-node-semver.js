@@ -1,6 +1,6 @@
 // Compares which versions range texts match here and in node-semver.
 //
-// `node with-node-semver.js PROGRAM COUNT SEED`: PROGRAM is the built `replayed_cases`. It makes
+// `node with-node-semver.js PROGRAM COUNT SEED`: PROGRAM is the program `layers` of rust/tests. It makes
 // COUNT pairs of a range text and a version in npm mode, and compares them by two rules:
 // pre-releases included on both sides, and the default rule, which is also node-semver's default.
 // If node-semver is known to read something differently, that is undone: each simple range is

@@ -1,9 +1,9 @@
-//! Tests of the library that need more than data. First it tests the results of functions: reading
-//! strings, sets of versions, the derived orders and precedence, and values made by hand. Then it
-//! tests what they write and append: printed values, whole writes and the report, to writers that
-//! fail, and the lines of a text in pieces. Last it runs the example of README.md, and the
-//! functions that allocate. It writes what it found. The wanted output is in the file next to this
-//! crate; it comes from the written rules and from the declarations of the Rust crate.
+//! Tests of the port that need more than data. First it tests the results of functions: versions
+//! read from bytes, the derived orders and precedence, and values made by hand. Then it tests what
+//! they write: printed values, whole writes and the report, to writers that fail. Last it runs the
+//! example of docs/COMING_FROM.md, and the functions that allocate. It writes what it found. The
+//! wanted output is in the file `stdout` of this crate; it comes from the written rules and from
+//! the declarations of the Rust crate.
 //!
 //! If standard input has a number, it only makes that number of requests for memory, and then calls
 //! the functions that allocate (`./test`, `requests`).
@@ -11,15 +11,12 @@
 
 mod bytes;
 mod example;
-mod lines;
 mod made;
 mod orders;
 mod precedence;
 mod printing;
-mod reading;
 mod refused;
 mod reports;
-mod sets;
 mod writers;
 mod writes;
 
@@ -54,8 +51,6 @@ fn read_number(input: &mut impl Read) -> io::Result<Option<u32>> {
 /// Tests the results of functions.
 fn write_values(rt: &HostRuntime) -> io::Result<()> {
     bytes::write_bytes(rt, rt.alloc())?;
-    reading::write_reading(rt, rt.alloc())?;
-    sets::write_sets(rt, rt.alloc())?;
     orders::write_enums(rt, rt.alloc())?;
     orders::write_structs(rt, rt.alloc())?;
     precedence::write_precedence(rt, rt.alloc())?;
@@ -63,18 +58,11 @@ fn write_values(rt: &HostRuntime) -> io::Result<()> {
     made::write_sets(rt, rt.alloc())
 }
 
-/// Tests what functions write and append.
+/// Tests what functions write.
 fn write_writes(rt: &HostRuntime) -> io::Result<()> {
     printing::write_versions(rt, rt.alloc())?;
     printing::write_sets(rt, rt.alloc())?;
     printing::write_errors(rt, rt.alloc())?;
     writes::write_writes(rt, rt.alloc())?;
-    reports::write_report(rt, rt.alloc())?;
-    lines::write_cuts(rt, rt.alloc())?;
-    lines::write_strict_lines(rt, rt.alloc())?;
-    lines::write_invalid_lines(rt, rt.alloc())?;
-    lines::write_long_lines(rt, rt.alloc())?;
-    lines::write_prefixes(rt, rt.alloc())?;
-    lines::write_forms(rt, rt.alloc())?;
-    lines::write_files(rt, rt.alloc())
+    reports::write_report(rt, rt.alloc())
 }

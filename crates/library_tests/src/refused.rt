@@ -3,20 +3,16 @@
 //! return its result. Otherwise the one request that fails has to be made by exactly one call,
 //! which is named.
 
-mod filters;
 mod fixed;
 mod identifiers;
 mod parsers;
 mod ranges;
 mod reports;
-mod sets;
-mod version_ranges;
 mod versions;
 
 use semver_parser::Compat;
 use std::alloc::Global;
 use std::io;
-use version_sets::VersionSet;
 
 /// How a call ended.
 #[derive(Clone, Copy, PartialEq, Eq)]
@@ -62,13 +58,7 @@ pub fn write_calls(rt: &HostRuntime, requests: u32) -> io::Result<()> {
     }
     tell(rt, &of_versions(rt.alloc()))?;
     tell(rt, &of_range_sets(rt.alloc()))?;
-    tell(rt, &of_tool_ranges(rt.alloc()))?;
-    tell(rt, &of_filters_and_reports(rt.alloc()))?;
-    tell(rt, &of_lines(rt.alloc()))?;
-    match sets::of_texts(rt.alloc()) {
-        Ok((first, second)) => tell(rt, &of_sets(rt.alloc(), &first, &second))?,
-        Err(ending) => tell(rt, &[("sets_of_texts", ending)])?,
-    }
+    tell(rt, &of_errors_copies_and_reports(rt.alloc()))?;
     rt.println("done")
 }
 
@@ -85,7 +75,7 @@ fn tell(rt: &impl Print, endings: &[(&'static str, Ending)]) -> io::Result<()> {
 }
 
 /// Returns how each call for tokens, versions and their identifiers ends.
-fn of_versions(alloc: Global) -> [(&'static str, Ending); 16] {
+fn of_versions(alloc: Global) -> [(&'static str, Ending); 15] {
     [
         ("identifier", parsers::identifier(alloc)),
         ("parser_version", parsers::version(alloc)),
@@ -105,7 +95,6 @@ fn of_versions(alloc: Global) -> [(&'static str, Ending); 16] {
         ("version_read", versions::read_with_identifiers(alloc)),
         ("more_input", versions::more_input(alloc)),
         ("version_clone", versions::clone(alloc)),
-        ("version_error", versions::version_error(alloc)),
         ("concat_of_a_number", identifiers::concat_of_a_number(alloc)),
         ("concat_of_a_text", identifiers::concat_of_a_text(alloc)),
         ("error_text", identifiers::error_text(alloc)),
@@ -178,67 +167,13 @@ fn of_range_sets(alloc: Global) -> [(&'static str, Ending); 11] {
     ]
 }
 
-/// Returns how each call for the ranges of the tools ends, and each for errors and copies of
-/// ranges.
-fn of_tool_ranges(alloc: Global) -> [(&'static str, Ending); 13] {
+/// Returns how each call for invalid ranges, copies of sets and reports ends.
+fn of_errors_copies_and_reports(alloc: Global) -> [(&'static str, Ending); 4] {
     [
-        ("cargo_requirement", ranges::requirement(alloc)),
-        ("refused_requirements", ranges::refused_requirements(alloc)),
-        ("cargo_read", sets::of_requirement(alloc)),
-        ("refused_cargo_reads", sets::of_refused_requirements(alloc)),
-        ("npm_range", ranges::npm_range(alloc)),
-        ("refused_npm_ranges", ranges::refused_npm_ranges(alloc)),
-        ("npm_read", sets::of_npm_ranges(alloc)),
-        ("refused_npm_reads", sets::of_refused_npm_ranges(alloc)),
-        ("within_bounds", sets::within_bounds(alloc)),
-        ("refused_bounds", sets::of_refused_bounds(alloc)),
         ("refused_range_texts", ranges::refused_texts(alloc)),
-        ("range_error", ranges::range_error(alloc)),
         ("range_set_clone", ranges::clone(alloc)),
-    ]
-}
-
-/// Returns how each call that filters versions, reads or combines ranges, or makes a report ends.
-fn of_filters_and_reports(alloc: Global) -> [(&'static str, Ending); 6] {
-    [
-        ("filter", filters::filter(alloc)),
-        ("version_range", version_ranges::parse(alloc)),
-        ("combined_ranges", version_ranges::combined(alloc)),
-        ("refused_filter_texts", filters::refused_texts(alloc)),
         ("report", reports::report(alloc)),
         ("report_of_errors", reports::report_of_errors(alloc)),
-    ]
-}
-
-/// Returns how each filter of lines ends.
-fn of_lines(alloc: Global) -> [(&'static str, Ending); 8] {
-    [
-        ("copied_lines", filters::copied_lines(alloc)),
-        ("greatest_line", filters::greatest_line(alloc)),
-        ("least_line", filters::least_line(alloc)),
-        ("sorted_lines", filters::sorted_lines(alloc)),
-        ("many_sorted_lines", filters::many_sorted_lines(alloc)),
-        ("line_without_an_end", filters::line_without_an_end(alloc)),
-        ("line_of_a_file", filters::line_of_a_file(alloc)),
-        ("lines_passed_over", filters::lines_passed_over(alloc)),
-    ]
-}
-
-/// Returns how each call for sets of versions ends, except reading these two.
-fn of_sets(alloc: Global, first: &VersionSet, second: &VersionSet) -> [(&'static str, Ending); 9] {
-    [
-        ("refused_set_texts", sets::of_refused_texts(alloc)),
-        ("union", sets::union(alloc, first, second)),
-        ("intersection", sets::intersection(alloc, first, second)),
-        ("difference", sets::difference(alloc, first, second)),
-        ("least", sets::lowest(alloc, first)),
-        ("compared", sets::compared(alloc, first, second)),
-        ("release_ranges", sets::release_ranges(alloc, first)),
-        ("pre_release_ranges", sets::pre_release_ranges(alloc, first)),
-        (
-            "sets_without_requests",
-            sets::without_requests(alloc, first, second),
-        ),
     ]
 }
 

@@ -24,3 +24,5 @@ pub mod compare_ranges_main;
 pub mod replayed_cases;
 #[cfg(test)]
 pub mod library_tests;
+#[cfg(test)]
+pub mod filter_tests;

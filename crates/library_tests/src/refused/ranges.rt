@@ -5,9 +5,6 @@ use super::fixed::Fixed;
 use semver_parser::{Compat, RangeError, RangeSet};
 use std::alloc::Global;
 use std::fmt::Write as _;
-use tool_ranges::dialect::Dialect;
-use tool_ranges::refusals::refused;
-use tool_ranges::{cargo, npm};
 
 const TEXT: &str = "^1.2.3-beta.4 || 2.x";
 
@@ -34,53 +31,6 @@ fn ending(read: Result<RangeSet, RangeError>, printed: &str, compat: Compat) -> 
         Err(RangeError::OutOfMemory) => Ending::Refused,
         Err(_) => Ending::Wrong,
     }
-}
-
-/// Reads a requirement in Cargo's dialect.
-pub fn requirement(alloc: Global) -> Ending {
-    ending(
-        cargo::rewrite(alloc, "1.2, >1, <3.0.0-rc"),
-        ">=1.2.0 <2.0.0-0 >=2.0.0 <3.0.0-rc",
-        Compat::Cargo,
-    )
-}
-
-/// Requirements that are invalid by their grammar or their numbers give an error without a request.
-pub fn refused_requirements(alloc: Global) -> Ending {
-    let no_comma = cargo::rewrite(alloc, "1 2");
-    let tab = cargo::rewrite(alloc, "1,\t2");
-    let grammar_first = cargo::rewrite(alloc, "99999999999999999999, 1,");
-    let bound = cargo::rewrite(alloc, "1, >1.18446744073709551615");
-    Ending::full_if(
-        matches!(no_comma, Err(RangeError::NotARange))
-            && matches!(tab, Err(RangeError::NotARange))
-            && matches!(grammar_first, Err(RangeError::NotARange))
-            && matches!(bound, Err(RangeError::NumberTooLarge)),
-    )
-}
-
-/// Reads a range in npm's dialect.
-pub fn npm_range(alloc: Global) -> Ending {
-    ending(
-        npm::rewrite(alloc, ">1.2 <3 || v1.2.3-b"),
-        ">=1.3.0 <3.0.0-0 || =1.2.3-b",
-        Compat::Npm,
-    )
-}
-
-/// Ranges of npm that are invalid by their grammar or their numbers give an error without a
-/// request.
-pub fn refused_npm_ranges(alloc: Global) -> Ending {
-    let comma = npm::rewrite(alloc, "1, 2");
-    let character = npm::rewrite(alloc, "1 || \u{200b}2");
-    let grammar_first = npm::rewrite(alloc, "99999999999999999999 || 1,");
-    let bound = npm::rewrite(alloc, "1 || >1.18446744073709551615");
-    Ending::full_if(
-        matches!(comma, Err(RangeError::NotARange))
-            && matches!(character, Err(RangeError::NotARange))
-            && matches!(grammar_first, Err(RangeError::NotARange))
-            && matches!(bound, Err(RangeError::NumberTooLarge)),
-    )
 }
 
 /// Reads a range set by `from_str`, in Cargo mode.
@@ -119,18 +69,6 @@ pub fn refused_texts(alloc: Global) -> Ending {
         }
     }
     Ending::Full
-}
-
-/// Finds the offset of an invalid range. A valid range makes no request.
-pub fn range_error(alloc: Global) -> Ending {
-    if !matches!(refused(alloc, Dialect::Npm, "1.2 || 3"), Ok(None)) {
-        return Ending::Wrong;
-    }
-    match refused(alloc, Dialect::Cargo, "1.2 || 3") {
-        Ok(Some(refusal)) => Ending::full_if(refusal.offset == 4),
-        Ok(None) => Ending::Wrong,
-        Err(_) => Ending::Refused,
-    }
 }
 
 /// 9,999 times two bars, and one more bar: 10,000 ranges and half of a separator.

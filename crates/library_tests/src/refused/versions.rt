@@ -2,10 +2,8 @@
 
 use super::Ending;
 use super::fixed::Fixed;
-use invalid_strings::reasons::Reason;
-use invalid_strings::refusals::explain;
 use semver_parser::parser::Error;
-use semver_parser::version::{Grammar, Version};
+use semver_parser::version::Version;
 use semver_parser::{lexer, version};
 use std::alloc::Global;
 use std::fmt::Write as _;
@@ -97,20 +95,6 @@ pub fn clone(alloc: Global) -> Ending {
     }
     match cloned {
         Ok(clone) => Ending::full_if(clone == version),
-        Err(_) => Ending::Refused,
-    }
-}
-
-/// Finds the offset and the reason of an invalid version. A valid one makes no request.
-pub fn version_error(alloc: Global) -> Ending {
-    if !matches!(explain(alloc, b"1.2.3", Grammar::Cargo), Ok(None)) {
-        return Ending::Wrong;
-    }
-    match explain(alloc, b"1.2.03", Grammar::Cargo) {
-        Ok(Some(refusal)) => {
-            Ending::full_if(refusal.offset == 5 && refusal.reason == Reason::LeadingZero)
-        }
-        Ok(None) => Ending::Wrong,
         Err(_) => Ending::Refused,
     }
 }

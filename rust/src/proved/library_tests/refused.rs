@@ -6,19 +6,15 @@
 #![cfg(feature = "std")]
 
 use crate::rattle_std::prelude::*;
-mod filters;
 mod fixed;
 mod identifiers;
 mod parsers;
 mod ranges;
 mod reports;
-mod sets;
-mod version_ranges;
 mod versions;
 
 use crate::proved::semver_parser::Compat;
 use crate::rattle_std::io;
-use crate::proved::version_sets::VersionSet;
 
 /// How a call ended.
 #[derive(Clone, Copy, PartialEq, Eq)]
@@ -64,13 +60,7 @@ pub fn write_calls(rt: &HostRuntime, requests: u32) -> io::Result<()> {
     }
     tell(rt, &of_versions())?;
     tell(rt, &of_range_sets())?;
-    tell(rt, &of_tool_ranges())?;
-    tell(rt, &of_filters_and_reports())?;
-    tell(rt, &of_lines())?;
-    match sets::of_texts() {
-        Ok((first, second)) => tell(rt, &of_sets(&first, &second))?,
-        Err(ending) => tell(rt, &[("sets_of_texts", ending)])?,
-    }
+    tell(rt, &of_errors_copies_and_reports())?;
     rt.println("done")
 }
 
@@ -87,7 +77,7 @@ fn tell(rt: &impl Print, endings: &[(&'static str, Ending)]) -> io::Result<()> {
 }
 
 /// Returns how each call for tokens, versions and their identifiers ends.
-fn of_versions() -> [(&'static str, Ending); 16] {
+fn of_versions() -> [(&'static str, Ending); 15] {
     [
         ("identifier", parsers::identifier()),
         ("parser_version", parsers::version()),
@@ -107,7 +97,6 @@ fn of_versions() -> [(&'static str, Ending); 16] {
         ("version_read", versions::read_with_identifiers()),
         ("more_input", versions::more_input()),
         ("version_clone", versions::clone()),
-        ("version_error", versions::version_error()),
         ("concat_of_a_number", identifiers::concat_of_a_number()),
         ("concat_of_a_text", identifiers::concat_of_a_text()),
         ("error_text", identifiers::error_text()),
@@ -175,67 +164,13 @@ fn of_range_sets() -> [(&'static str, Ending); 11] {
     ]
 }
 
-/// Returns how each call for the ranges of the tools ends, and each for errors and copies of
-/// ranges.
-fn of_tool_ranges() -> [(&'static str, Ending); 13] {
+/// Returns how each call for invalid ranges, copies of sets and reports ends.
+fn of_errors_copies_and_reports() -> [(&'static str, Ending); 4] {
     [
-        ("cargo_requirement", ranges::requirement()),
-        ("refused_requirements", ranges::refused_requirements()),
-        ("cargo_read", sets::of_requirement()),
-        ("refused_cargo_reads", sets::of_refused_requirements()),
-        ("npm_range", ranges::npm_range()),
-        ("refused_npm_ranges", ranges::refused_npm_ranges()),
-        ("npm_read", sets::of_npm_ranges()),
-        ("refused_npm_reads", sets::of_refused_npm_ranges()),
-        ("within_bounds", sets::within_bounds()),
-        ("refused_bounds", sets::of_refused_bounds()),
         ("refused_range_texts", ranges::refused_texts()),
-        ("range_error", ranges::range_error()),
         ("range_set_clone", ranges::clone()),
-    ]
-}
-
-/// Returns how each call that filters versions, reads or combines ranges, or makes a report ends.
-fn of_filters_and_reports() -> [(&'static str, Ending); 6] {
-    [
-        ("filter", filters::filter()),
-        ("version_range", version_ranges::parse()),
-        ("combined_ranges", version_ranges::combined()),
-        ("refused_filter_texts", filters::refused_texts()),
         ("report", reports::report()),
         ("report_of_errors", reports::report_of_errors()),
-    ]
-}
-
-/// Returns how each filter of lines ends.
-fn of_lines() -> [(&'static str, Ending); 8] {
-    [
-        ("copied_lines", filters::copied_lines()),
-        ("greatest_line", filters::greatest_line()),
-        ("least_line", filters::least_line()),
-        ("sorted_lines", filters::sorted_lines()),
-        ("many_sorted_lines", filters::many_sorted_lines()),
-        ("line_without_an_end", filters::line_without_an_end()),
-        ("line_of_a_file", filters::line_of_a_file()),
-        ("lines_passed_over", filters::lines_passed_over()),
-    ]
-}
-
-/// Returns how each call for sets of versions ends, except reading these two.
-fn of_sets(first: &VersionSet, second: &VersionSet) -> [(&'static str, Ending); 9] {
-    [
-        ("refused_set_texts", sets::of_refused_texts()),
-        ("union", sets::union(first, second)),
-        ("intersection", sets::intersection(first, second)),
-        ("difference", sets::difference(first, second)),
-        ("least", sets::lowest(first)),
-        ("compared", sets::compared(first, second)),
-        ("release_ranges", sets::release_ranges(first)),
-        ("pre_release_ranges", sets::pre_release_ranges(first)),
-        (
-            "sets_without_requests",
-            sets::without_requests(first, second),
-        ),
     ]
 }
 

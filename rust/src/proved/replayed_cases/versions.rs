@@ -6,7 +6,7 @@ use crate::rattle_std::prelude::*;
 use super::parsing;
 use crate::proved::semver_parser::parser::{Error, Parser};
 use crate::proved::semver_parser::version;
-use crate::proved::semver_parser::version::{Grammar, Identifier, Version};
+use crate::proved::semver_parser::version::{Identifier, Version};
 use crate::rattle_std::io;
 use crate::rattle_std::io::Write;
 
@@ -16,40 +16,6 @@ pub fn write_version<W: Write>(answer: &Result<Version, Error<'_>>, out: &mut W)
         Ok(version) => write_fields(version, out),
         Err(error) => parsing::write_error(error, out),
     }
-}
-
-/// Writes the fields of the version that a string spells, or `none` if it spells none.
-pub fn write_read<W: Write>(text: &str, out: &mut W) -> io::Result<()> {
-    match version::read(text) {
-        Ok(Some(version)) => write_fields(&version, out),
-        Ok(None) => write!(out, "none"),
-        Err(_) => write!(out, "OutOfMemory"),
-    }
-}
-
-/// Writes the fields of the version that a string spells in a dialect, or `none` if it spells none.
-pub fn write_read_in<W: Write>(
-    text: &str,
-    grammar: Grammar,
-    out: &mut W,
-) -> io::Result<()> {
-    let Some(borrowed) = version::read_ref_in(text.as_bytes(), grammar) else {
-        return write!(out, "none");
-    };
-    match borrowed.version() {
-        Ok(version) => write_fields(&version, out),
-        Err(_) => write!(out, "OutOfMemory"),
-    }
-}
-
-/// Writes the borrowed version that a string spells, or `none` if it spells none.
-pub fn write_ref<W: Write>(text: &str, out: &mut W) -> io::Result<()> {
-    let Some(borrowed) = version::read_ref(text) else {
-        return write!(out, "none");
-    };
-    let (major, minor, patch) = (borrowed.major(), borrowed.minor(), borrowed.patch());
-    let (pre, build) = (borrowed.pre(), borrowed.build());
-    write!(out, "{major} {minor} {patch} pre[{pre}] build[{build}]")
 }
 
 fn write_fields<W: Write>(version: &Version, out: &mut W) -> io::Result<()> {

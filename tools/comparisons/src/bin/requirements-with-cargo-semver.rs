@@ -2,8 +2,8 @@
 //! is accepted, which releases satisfy its comparators, and which versions it matches: releases and
 //! pre-releases at and around the numbers that it states.
 //!
-//! `requirements-with-cargo-semver PROGRAM COUNT SEED`, where PROGRAM is the built
-//! `replayed_cases`, makes COUNT texts, by the grammar and with one change. Their numbers stay
+//! `requirements-with-cargo-semver PROGRAM COUNT SEED`, where PROGRAM is the program
+//! `layers` of rust/tests, makes COUNT texts, by the grammar and with one change. Their numbers stay
 //! small, so that none is too large. `requirements-with-cargo-semver PROGRAM --texts TEXTS
 //! VERSIONS` takes the lines of two files. It prints the first difference, and then exits with 1.
 

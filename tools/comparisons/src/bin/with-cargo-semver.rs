@@ -1,7 +1,7 @@
 //! Compares which versions a range matches here, by the default rule for pre-releases, with Cargo's
 //! `semver`.
 //!
-//! `with-cargo-semver PROGRAM COUNT SEED`: PROGRAM is the built `replayed_cases`. It makes COUNT
+//! `with-cargo-semver PROGRAM COUNT SEED`: PROGRAM is the program `layers` of rust/tests. It makes COUNT
 //! pairs of a range of one to three simple ranges, in Cargo mode, and a version near one of them.
 //! If `semver` is known to read a simple range differently, that is turned into ones that `semver`
 //! reads as it is meant here. Which pre-releases count next to these is left to

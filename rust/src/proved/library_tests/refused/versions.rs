@@ -5,10 +5,8 @@
 use crate::rattle_std::prelude::*;
 use super::Ending;
 use super::fixed::Fixed;
-use crate::proved::invalid_strings::reasons::Reason;
-use crate::proved::invalid_strings::refusals::explain;
 use crate::proved::semver_parser::parser::Error;
-use crate::proved::semver_parser::version::{Grammar, Version};
+use crate::proved::semver_parser::version::Version;
 use crate::proved::semver_parser::{lexer, version};
 use crate::rattle_std::fmt::Write as _;
 
@@ -99,20 +97,6 @@ pub fn clone() -> Ending {
     }
     match cloned {
         Ok(clone) => Ending::full_if(clone == version),
-        Err(_) => Ending::Refused,
-    }
-}
-
-/// Finds the offset and the reason of an invalid version. A valid one makes no request.
-pub fn version_error() -> Ending {
-    if !matches!(explain(b"1.2.3", Grammar::Cargo), Ok(None)) {
-        return Ending::Wrong;
-    }
-    match explain(b"1.2.03", Grammar::Cargo) {
-        Ok(Some(refusal)) => {
-            Ending::full_if(refusal.offset == 5 && refusal.reason == Reason::LeadingZero)
-        }
-        Ok(None) => Ending::Wrong,
         Err(_) => Ending::Refused,
     }
 }

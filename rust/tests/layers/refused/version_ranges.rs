@@ -1,13 +1,12 @@
 //! Functions that read and combine ranges.
 
 use super::Ending;
-use semver_parser::RangeError;
-use std::alloc::Global;
-use tool_ranges::dialect::Dialect;
-use tool_ranges::meaning::Meaning;
-use tool_ranges::range_operations::OperationError;
-use tool_ranges::version_range::VersionRange;
-use version_sets::PreReleases;
+use crate::proved::semver_parser::RangeError;
+use crate::proved::tool_ranges::dialect::Dialect;
+use crate::proved::tool_ranges::meaning::Meaning;
+use crate::proved::tool_ranges::range_operations::OperationError;
+use crate::proved::tool_ranges::version_range::VersionRange;
+use crate::proved::version_sets::PreReleases;
 
 /// Cargo's dialect, with each pre-release within the bounds.
 const CARGO: Meaning = Meaning {
@@ -16,11 +15,11 @@ const CARGO: Meaning = Meaning {
 };
 
 /// Reads a range that contains 1.9.0-rc and not 2.0.0.
-pub fn parse(alloc: Global) -> Ending {
-    match VersionRange::parse(alloc, "^1.2", CARGO) {
+pub fn parse() -> Ending {
+    match VersionRange::try_parse("^1.2", CARGO) {
         Ok(range) => Ending::full_if(
-            range.contains_bytes(b"1.9.0-rc") == Ok(true)
-                && range.contains_bytes(b"2.0.0") == Ok(false),
+            range.try_contains_bytes(b"1.9.0-rc") == Ok(true)
+                && range.try_contains_bytes(b"2.0.0") == Ok(false),
         ),
         Err(RangeError::OutOfMemory) => Ending::Refused,
         Err(_) => Ending::Wrong,
@@ -28,20 +27,20 @@ pub fn parse(alloc: Global) -> Ending {
 }
 
 /// Combines two ranges. Reading them is part of the call.
-pub fn combined(alloc: Global) -> Ending {
-    let range = match VersionRange::parse(alloc, "^1.2", CARGO) {
+pub fn combined() -> Ending {
+    let range = match VersionRange::try_parse("^1.2", CARGO) {
         Ok(range) => range,
         Err(RangeError::OutOfMemory) => return Ending::Refused,
         Err(_) => return Ending::Wrong,
     };
-    let other = match VersionRange::parse(alloc, ">=1.5, <3", CARGO) {
+    let other = match VersionRange::try_parse(">=1.5, <3", CARGO) {
         Ok(other) => other,
         Err(RangeError::OutOfMemory) => return Ending::Refused,
         Err(_) => return Ending::Wrong,
     };
-    let union = ends(range.union(alloc, &other), [true, true, true]);
-    let intersection = ends(range.intersection(alloc, &other), [false, true, false]);
-    let difference = ends(range.difference(alloc, &other), [true, false, false]);
+    let union = ends(range.union(&other), [true, true, true]);
+    let intersection = ends(range.intersection(&other), [false, true, false]);
+    let difference = ends(range.difference(&other), [true, false, false]);
     if [union, intersection, difference].contains(&Ending::Wrong) {
         return Ending::Wrong;
     }
@@ -61,7 +60,7 @@ fn ends(combined: Result<VersionRange, OperationError>, wanted: [bool; 3]) -> En
     let texts: [&[u8]; 3] = [b"1.2.0", b"1.5.0", b"2.0.0"];
     let mut is_right = true;
     for (text, is_in) in texts.iter().zip(wanted.iter()) {
-        is_right &= range.contains_bytes(text) == Ok(*is_in);
+        is_right &= range.try_contains_bytes(text) == Ok(*is_in);
     }
     Ending::full_if(is_right)
 }

@@ -1,10 +1,6 @@
-// Made by tools/erase.py from crates/library_tests/src/sets.rt; not edited by hand.
 //! Sets of the versions that satisfy a range.
-#![cfg(feature = "std")]
 
-use crate::rattle_std::prelude::*;
-use crate::proved::semver_parser::version::{self, Version};
-use crate::rattle_std::io::{self, ErrorKind};
+use crate::proved::semver_parser::version;
 use crate::proved::tool_ranges::dialect::Dialect;
 use crate::proved::tool_ranges::meaning::{self, Meaning};
 use crate::proved::version_sets::{PreReleases, VersionSet};
@@ -136,73 +132,30 @@ const COMPARED: [(&str, &str, PreReleases, [&str; 3]); 6] = [
     ),
 ];
 
-/// Writes the indices of the strings with other sets, and how many strings there were.
-pub fn write_sets(rt: &impl Print) -> io::Result<()> {
-    for (place, (range, rule, text, wanted)) in TEXTS.iter().enumerate() {
-        if is_in(range, *rule, text)? != *wanted {
-            crate::rattle_std::fallible_println!(rt; "sets: wrong at {place}")?;
-        }
+/// The sets contain these versions, and the sets of two ranges with the same versions are equal.
+pub fn contain() {
+    for (range, rule, text, wanted) in &TEXTS {
+        let version = version::parse(text).unwrap();
+        assert_eq!(set_of(range, *rule).contains(&version), *wanted, "{range}: {text}");
     }
-    for (place, (range, other)) in SAME.iter().enumerate() {
-        if set_of(range, PreReleases::Excluded)?
-            != set_of(other, PreReleases::Excluded)? {
-            crate::rattle_std::fallible_println!(rt; "same sets: wrong at {place}")?;
-        }
-    }
-    crate::rattle_std::fallible_println!(rt; "sets: {} texts", TEXTS.len())?;
-    for (place, (old, new, rule, wanted)) in COMPARED.iter().enumerate() {
-        if !is_compared(old, new, *rule, wanted)? {
-            crate::rattle_std::fallible_println!(rt; "compared sets: wrong at {place}")?;
-        }
-    }
-    crate::rattle_std::fallible_println!(rt; "compared sets: {} pairs", COMPARED.len())
-}
-
-/// Returns whether comparing the sets of two ranges gives these versions.
-fn is_compared(
-    old: &str,
-    new: &str,
-    rule: PreReleases,
-    wanted: &[&str; 3],
-) -> io::Result<bool> {
-    let answer = set_of(old, rule)?.compare(&set_of(new, rule)?);
-    let Ok(answer) = answer else {
-        return Err(io::Error::from(ErrorKind::OutOfMemory));
-    };
-    Ok(
-        is_text(&answer.lost, wanted[0])?
-            && is_text(&answer.gained, wanted[1])?
-            && is_text(&answer.shared, wanted[2])?,
-    )
-}
-
-/// Returns whether a version is printed as this string, which is empty for no version.
-fn is_text(version: &Option<Version>, wanted: &str) -> io::Result<bool> {
-    let Some(version) = version else {
-        return Ok(wanted.is_empty());
-    };
-    match version.fallible_to_string() {
-        Ok(text) => Ok(text.as_str() == wanted),
-        Err(_) => Err(io::Error::from(ErrorKind::OutOfMemory)),
+    for (range, other) in &SAME {
+        let (one, other) = (set_of(range, PreReleases::Excluded), set_of(other, PreReleases::Excluded));
+        assert!(one == other, "{range}");
     }
 }
 
-/// Returns whether a version is in the set of a range.
-fn is_in(range: &str, rule: PreReleases, text: &str) -> io::Result<bool> {
-    let Ok(version) = version::parse(text) else {
-        return Err(io::Error::from(ErrorKind::InvalidInput));
-    };
-    Ok(set_of(range, rule)?.contains(&version))
+/// Comparing the sets of two ranges gives these versions. An empty string is no version.
+pub fn compare() {
+    for (old, new, rule, wanted) in &COMPARED {
+        let found = set_of(old, *rule).compare(&set_of(new, *rule)).unwrap();
+        let shown = [found.lost, found.gained, found.shared]
+            .map(|version| version.map_or(String::new(), |it| it.to_string()));
+        assert_eq!(shown, *wanted, "{old}, {new}");
+    }
 }
 
 /// Returns the set of a range.
-fn set_of(range: &str, rule: PreReleases) -> io::Result<VersionSet> {
-    let meaning = Meaning {
-        dialect: Dialect::CrateCargo,
-        pre_releases: rule,
-    };
-    match meaning::read(meaning, range) {
-        Ok(set) => Ok(set),
-        Err(_) => Err(io::Error::from(ErrorKind::InvalidInput)),
-    }
+fn set_of(range: &str, pre_releases: PreReleases) -> VersionSet {
+    let dialect = Dialect::CrateCargo;
+    meaning::read(Meaning { dialect, pre_releases }, range).unwrap()
 }

@@ -1,11 +1,10 @@
 //! Versions in a range, given as strings.
-use std::alloc::Global;
-use std::io::{self, ErrorKind};
-use tool_ranges::dialect::Dialect;
-use tool_ranges::meaning::Meaning;
-use tool_ranges::satisfying::SatisfiesError;
-use tool_ranges::version_range::VersionRange;
-use version_sets::PreReleases;
+
+use crate::proved::tool_ranges::dialect::Dialect;
+use crate::proved::tool_ranges::meaning::Meaning;
+use crate::proved::tool_ranges::satisfying::SatisfiesError;
+use crate::proved::tool_ranges::version_range::VersionRange;
+use crate::proved::version_sets::PreReleases;
 
 /// Whether a range contains a string.
 type Contained = Result<bool, SatisfiesError>;
@@ -51,24 +50,11 @@ const TEXTS: [(&str, PreReleases, &[u8], Contained); 24] = [
     ("^1.2", PreReleases::Excluded, b" 1.9.0+b5\n", Ok(true)),
 ];
 
-/// Writes the indices of the strings with another result, and how many strings there were.
-pub fn write_reading(rt: &impl Print, alloc: Global) -> io::Result<()> {
-    for (place, (range, rule, text, wanted)) in TEXTS.iter().enumerate() {
-        if contains(alloc, range, *rule, text)? != *wanted {
-            println!(rt; "contained: wrong at {place}")?;
-        }
-    }
-    println!(rt; "contained: {} texts", TEXTS.len())
-}
-
-/// Returns whether a range contains a string.
-fn contains(alloc: Global, range: &str, rule: PreReleases, text: &[u8]) -> io::Result<Contained> {
-    let meaning = Meaning {
-        dialect: Dialect::CrateCargo,
-        pre_releases: rule,
-    };
-    match VersionRange::parse(alloc, range, meaning) {
-        Ok(range) => Ok(range.contains_bytes(text)),
-        Err(_) => Err(io::Error::from(ErrorKind::InvalidInput)),
+/// The ranges contain these strings.
+pub fn contain() {
+    for (range, pre_releases, text, wanted) in TEXTS {
+        let dialect = Dialect::CrateCargo;
+        let read = VersionRange::try_parse(range, Meaning { dialect, pre_releases }).unwrap();
+        assert_eq!(read.try_contains_bytes(text), wanted, "{range}: {}", text.escape_ascii());
     }
 }

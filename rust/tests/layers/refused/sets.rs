@@ -1,8 +1,5 @@
-// Made by tools/erase.py from crates/library_tests/src/refused/sets.rt; not edited by hand.
 //! Sets of versions.
-#![cfg(feature = "std")]
 
-use crate::rattle_std::prelude::*;
 use super::Ending;
 use crate::proved::semver_parser::{RangeError, version};
 use crate::proved::semver_texts::grammar::Digits;

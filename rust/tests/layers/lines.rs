@@ -1,11 +1,10 @@
 //! The lines of a text that comes in pieces: cut at each offset, and in pieces of equal lengths.
-use release_filter::{LineEnd, LineOptions, Lines, LinesError, Selection};
-use std::alloc::{AllocError, Global};
-use std::io;
-use tool_ranges::dialect::Dialect;
-use tool_ranges::meaning::Meaning;
-use tool_ranges::version_range::VersionRange;
-use version_sets::PreReleases;
+
+use crate::proved::release_filter::{LineEnd, LineOptions, Lines, LinesError, Selection};
+use crate::proved::tool_ranges::dialect::Dialect;
+use crate::proved::tool_ranges::meaning::Meaning;
+use crate::proved::tool_ranges::version_range::VersionRange;
+use crate::proved::version_sets::PreReleases;
 
 /// The text: a byte order mark, six versions, four of which satisfy `^1.2`, an empty line, and the
 /// second line, which is an invalid version.
@@ -149,116 +148,80 @@ const LONG_LINES: [(&str, u8, bool); 7] = [
 /// The maximum length of the text of a line that can have a version.
 const LONGEST_TEXT: usize = 1_048_576;
 
-/// Writes for which cuts of the text the output differs, and how many cuts there were.
-pub fn write_cuts(rt: &impl Print, alloc: Global) -> io::Result<()> {
-    let mut cuts = 0u32;
+/// The output is the same wherever the text is cut.
+pub fn cuts() {
     for (wanted, appended) in &APPENDED {
         for place in 0..=TEXT.len() {
             let (front, back) = TEXT.split_at(place);
-            if !appends(alloc, *wanted, &[front, back], appended)? {
-                println!(rt; "lines: wrong where the text is cut after {place} bytes")?;
-            }
-            cuts = cuts.saturating_add(1);
+            assert!(appends(*wanted, &[front, back], appended), "lines: wrong where the text is cut after {place} bytes");
         }
         for length in LENGTHS {
-            if !appends_in_pieces(alloc, *wanted, length, appended)? {
-                println!(rt; "lines: wrong in pieces of {length}")?;
-            }
-            cuts = cuts.saturating_add(1);
+            assert!(appends_in_pieces(*wanted, length, appended), "lines: wrong in pieces of {length}");
         }
     }
-    println!(rt; "lines: {cuts} cuts")
 }
 
-/// Writes for which lengths of pieces the lines don't stop at the invalid line, and how many
-/// lengths there were.
-pub fn write_strict_lines(rt: &impl Print, alloc: Global) -> io::Result<()> {
-    let mut stops = 0u32;
+/// Strict lines stop at an invalid line, whatever the lengths of the pieces are.
+pub fn strict_lines() {
     for (wanted, _) in &APPENDED {
         for length in LENGTHS {
-            if !stops_in_pieces(alloc, *wanted, length)? {
-                println!(rt; "lines: wrong where pieces of {length} have an invalid line")?;
-            }
-            stops = stops.saturating_add(1);
+            assert!(stops_in_pieces(*wanted, length), "lines: wrong where pieces of {length} have an invalid line");
         }
-        if !stops_at_the_end(alloc, *wanted)? {
-            println!(rt; "lines: wrong at an invalid last line")?;
-        }
-        stops = stops.saturating_add(1);
+        assert!(stops_at_the_end(*wanted), "lines: wrong at an invalid last line");
     }
-    println!(rt; "lines: {stops} stops")
 }
 
-/// Writes which invalid lines aren't skipped and counted, and how many there were.
-pub fn write_invalid_lines(rt: &impl Print, alloc: Global) -> io::Result<()> {
-    let mut count = 0u32;
+/// Invalid lines are skipped and counted.
+pub fn invalid_lines() {
     for line in &INVALID_LINES {
         for before in ["", "\n", "1.2.0\n"] {
             for after in ["", "\n", "\n1.9.0"] {
-                if !skips(alloc, before, line, after)? {
-                    println!(rt; "lines: wrong at {}", line.escape_ascii())?;
-                }
-                count = count.saturating_add(1);
+                assert!(skips(before, line, after), "lines: wrong at {}", line.escape_ascii());
             }
         }
     }
-    println!(rt; "lines: {count} invalid lines")
 }
 
-/// Writes which long lines are kept or counted wrongly, and how many there were. Their lengths are
-/// 4,096 bytes, the maximum length of a text that can have a version, one byte less and one byte
-/// more.
-pub fn write_long_lines(rt: &impl Print, alloc: Global) -> io::Result<()> {
-    let mut count = 0u32;
+/// Long lines are kept or counted. Their lengths are around 4,096 bytes, and around the maximum
+/// length of a text that can have a version.
+pub fn long_lines() {
     for (front, byte, is_version) in &LONG_LINES {
         for length in 4094..4100usize {
-            let line = long_line(alloc, front, *byte, length)?;
+            let line = long_line(front, *byte, length);
             for place in [0, 1, 4095, 4096, 4097, length] {
-                if !takes_long(alloc, line.as_slice(), place, *is_version)? {
-                    println!(rt; "lines: wrong at {length} bytes that begin with {front:?}")?;
-                }
-                count = count.saturating_add(1);
+                assert!(takes_long(line.as_slice(), place, *is_version), "lines: wrong at {length} bytes that begin with {front:?}");
             }
         }
     }
     for (front, byte, is_version) in [("1.2.0+", b'a', true), ("\u{FEFF}1.2.0", b' ', true)] {
         let mark = if front.starts_with('\u{FEFF}') { 3 } else { 0 };
         for length in LONGEST_TEXT - 1..LONGEST_TEXT + 2 {
-            let line = long_line(alloc, front, byte, length.saturating_add(mark))?;
+            let line = long_line(front, byte, length.saturating_add(mark));
             let is_kept = is_version && length <= LONGEST_TEXT;
             for place in [0, length - 1, length, length + 2] {
-                if !takes_long(alloc, line.as_slice(), place, is_kept)? {
-                    println!(rt; "lines: wrong at {length} bytes that begin with {front:?}")?;
-                }
-                count = count.saturating_add(1);
+                assert!(takes_long(line.as_slice(), place, is_kept), "lines: wrong at {length} bytes that begin with {front:?}");
             }
         }
     }
-    println!(rt; "lines: {count} long lines")
 }
 
-/// Writes for which prefixes the output differs, and how many pairs of prefixes there were.
-pub fn write_prefixes(rt: &impl Print, alloc: Global) -> io::Result<()> {
+/// A version begins after the first prefix with which the line begins.
+pub fn prefixes() {
     for (first, second, text, appended) in &PREFIXES {
-        let mut prefixes = Vec::new(alloc);
-        prefixes.push(first.to_string(alloc)?)?;
-        prefixes.push(second.to_string(alloc)?)?;
-        let range = releases(alloc, "^11")?;
-        let mut lines = Lines::new(alloc, range, prefixes, LineOptions::new());
-        let mut kept = Vec::new(alloc);
-        let is_taken = lines.push(alloc, text.as_bytes(), &mut kept).is_ok()
-            && lines.finish(alloc, &mut kept).is_ok();
-        if !is_taken || kept.as_slice() != appended.as_bytes() {
-            println!(rt; "lines: wrong with the prefixes {first:?} and {second:?}")?;
-        }
+        let mut prefixes = Vec::new();
+        prefixes.push(first.to_string());
+        prefixes.push(second.to_string());
+        let range = releases("^11");
+        let mut lines = Lines::new(range, prefixes, LineOptions::new());
+        let mut kept = Vec::new();
+        let is_taken = lines.push(text.as_bytes(), &mut kept).is_ok()
+            && lines.finish(&mut kept).is_ok();
+        assert!(is_taken && kept == appended.as_bytes(), "lines: wrong with the prefixes {first:?} and {second:?}");
     }
-    let count = PREFIXES.len();
-    println!(rt; "lines: {count} pairs of prefixes")
 }
 
-/// Writes for which cuts of lines in other forms the output differs, and how many cuts there were.
-pub fn write_forms(rt: &impl Print, alloc: Global) -> io::Result<()> {
-    let mut cuts = 0u32;
+/// Lines in other forms have their output wherever they are cut.
+pub fn forms() {
     for (ending, strips_prefix, wanted, prefix, text, appended) in &FORMS {
         let options = LineOptions {
             selection: *wanted,
@@ -268,85 +231,74 @@ pub fn write_forms(rt: &impl Print, alloc: Global) -> io::Result<()> {
         };
         for place in 0..=text.len() {
             let (front, back) = text.as_bytes().split_at(place);
-            let mut prefixes = Vec::new(alloc);
-            prefixes.push(prefix.to_string(alloc)?)?;
-            let range = releases(alloc, "^1.2")?;
-            let mut lines = Lines::new(alloc, range, prefixes, options);
-            let mut kept = Vec::new(alloc);
-            let is_taken = lines.push(alloc, front, &mut kept).is_ok()
-                && lines.push(alloc, back, &mut kept).is_ok()
-                && lines.finish(alloc, &mut kept).is_ok();
-            if !is_taken || kept.as_slice() != appended.as_bytes() {
-                println!(rt; "lines: wrong where {text:?} is cut after {place} bytes")?;
-            }
-            cuts = cuts.saturating_add(1);
+            let mut prefixes = Vec::new();
+            prefixes.push(prefix.to_string());
+            let range = releases("^1.2");
+            let mut lines = Lines::new(range, prefixes, options);
+            let mut kept = Vec::new();
+            let is_taken = lines.push(front, &mut kept).is_ok()
+                && lines.push(back, &mut kept).is_ok()
+                && lines.finish(&mut kept).is_ok();
+            assert!(is_taken && kept == appended.as_bytes(), "lines: wrong where {text:?} is cut after {place} bytes");
         }
     }
-    println!(rt; "lines: {cuts} cuts in other forms")
 }
 
-/// Writes for which pairs of files the output differs, and how many pairs there were.
-pub fn write_files(rt: &impl Print, alloc: Global) -> io::Result<()> {
+/// A file ends its last line.
+pub fn files() {
     for (first, second, appended) in &FILES {
-        let mut lines = lines_of(alloc, "^1.2", Selection::Each, true)?;
-        let mut kept = Vec::new(alloc);
-        let is_taken = lines.push(alloc, first.as_bytes(), &mut kept).is_ok()
-            && lines.end_file(alloc, &mut kept).is_ok()
-            && lines.push(alloc, second.as_bytes(), &mut kept).is_ok()
-            && lines.finish(alloc, &mut kept).is_ok();
+        let mut lines = lines_of("^1.2", Selection::Each, true);
+        let mut kept = Vec::new();
+        let is_taken = lines.push(first.as_bytes(), &mut kept).is_ok()
+            && lines.end_file(&mut kept).is_ok()
+            && lines.push(second.as_bytes(), &mut kept).is_ok()
+            && lines.finish(&mut kept).is_ok();
         let is_counted = lines.counts().invalid == 0 && lines.counts().empty == 0;
-        if !is_taken || !is_counted || kept.as_slice() != appended.as_bytes() {
-            println!(rt; "lines: wrong with the files {first:?} and {second:?}")?;
-        }
+        assert!(is_taken && is_counted && kept == appended.as_bytes(), "lines: wrong with the files {first:?} and {second:?}");
     }
-    if !stops_at_the_end_of_a_file(alloc)? {
-        println!(rt; "lines: wrong at an invalid last line of a file")?;
-    }
-    let count = FILES.len();
-    println!(rt; "lines: {count} pairs of files")
+    assert!(stops_at_the_end_of_a_file(), "lines: wrong at an invalid last line of a file");
 }
 
 /// Returns whether strict lines stop at the last line of a file if it is an invalid version, and
 /// count it.
-fn stops_at_the_end_of_a_file(alloc: Global) -> Result<bool, AllocError> {
-    let mut lines = lines_of(alloc, "^1.2", Selection::Each, true)?;
-    let mut kept = Vec::new(alloc);
-    let has_stopped = lines.push(alloc, b"1.4.0\nx", &mut kept).is_ok()
+fn stops_at_the_end_of_a_file() -> bool {
+    let mut lines = lines_of("^1.2", Selection::Each, true);
+    let mut kept = Vec::new();
+    let has_stopped = lines.push(b"1.4.0\nx", &mut kept).is_ok()
         && matches!(
-            lines.end_file(alloc, &mut kept),
+            lines.end_file(&mut kept),
             Err(LinesError::NoVersion(2))
         );
     let first = &lines.counts().first_invalid;
     let is_shown = first
         .as_ref()
         .is_some_and(|line| line.front.as_slice() == "x".as_bytes());
-    Ok(has_stopped && is_shown && kept.as_slice() == "1.4.0\n".as_bytes())
+    has_stopped && is_shown && kept.as_slice() == "1.4.0\n".as_bytes()
 }
 
 /// Returns whether the pieces have this output, where each kept line is appended as soon as it
 /// ends.
 fn appends(
-    alloc: Global,
     wanted: Selection,
     pieces: &[&[u8]],
     appended: &str,
-) -> Result<bool, AllocError> {
-    let mut lines = lines_of(alloc, "^1.2", wanted, false)?;
-    let mut kept = Vec::new(alloc);
+) -> bool {
+    let mut lines = lines_of("^1.2", wanted, false);
+    let mut kept = Vec::new();
     for piece in pieces {
-        if lines.push(alloc, piece, &mut kept).is_err() {
-            return Ok(false);
+        if lines.push(piece, &mut kept).is_err() {
+            return false;
         }
     }
     let so_far = kept.len();
-    if lines.finish(alloc, &mut kept).is_err() {
-        return Ok(false);
+    if lines.finish(&mut kept).is_err() {
+        return false;
     }
     let has_last = match wanted {
         Selection::Each => so_far + "1.4.0".len() == kept.len(),
         _ => so_far == 0,
     };
-    Ok(has_last && kept.as_slice() == appended.as_bytes() && are_counted(&lines))
+    has_last && kept.as_slice() == appended.as_bytes() && are_counted(&lines)
 }
 
 /// Returns whether the lines of the text were counted.
@@ -362,39 +314,38 @@ fn are_counted(lines: &Lines) -> bool {
 
 /// Returns whether pieces of this length have this output.
 fn appends_in_pieces(
-    alloc: Global,
     wanted: Selection,
     length: usize,
     appended: &str,
-) -> Result<bool, AllocError> {
-    let mut pieces = Vec::new(alloc);
+) -> bool {
+    let mut pieces = Vec::new();
     let mut rest = TEXT;
     for _ in 0..TEXT.len() {
         if rest.is_empty() {
             break;
         }
         let (piece, others) = rest.split_at(length.min(rest.len()));
-        pieces.push(piece)?;
+        pieces.push(piece);
         rest = others;
     }
-    appends(alloc, wanted, pieces.as_slice(), appended)
+    appends(wanted, pieces.as_slice(), appended)
 }
 
 /// Returns whether strict lines stop at the second line, with the output of the first, and both
 /// counted.
-fn stops_in_pieces(alloc: Global, wanted: Selection, length: usize) -> Result<bool, AllocError> {
-    let mut lines = lines_of(alloc, "^1.2", wanted, true)?;
-    let mut kept = Vec::new(alloc);
+fn stops_in_pieces(wanted: Selection, length: usize) -> bool {
+    let mut lines = lines_of("^1.2", wanted, true);
+    let mut kept = Vec::new();
     let mut rest = TEXT;
     for _ in 0..TEXT.len() {
         let (piece, others) = rest.split_at(length.min(rest.len()));
         rest = others;
-        match lines.push(alloc, piece, &mut kept) {
+        match lines.push(piece, &mut kept) {
             Ok(()) => {}
-            Err(error) => return Ok(has_stopped(&lines, wanted, &error, kept.as_slice())),
+            Err(error) => return has_stopped(&lines, wanted, &error, &kept),
         }
     }
-    Ok(false)
+    false
 }
 
 /// Returns whether this is the state after the second line.
@@ -415,100 +366,96 @@ fn has_stopped(lines: &Lines, wanted: Selection, error: &LinesError, kept: &[u8]
 
 /// Returns whether strict lines stop at a last line that is an invalid version, append nothing, and
 /// count it.
-fn stops_at_the_end(alloc: Global, wanted: Selection) -> Result<bool, AllocError> {
-    let mut lines = lines_of(alloc, "^1.2", wanted, true)?;
-    let mut kept = Vec::new(alloc);
-    let has_stopped = lines.push(alloc, b"2.0.0\n\nx", &mut kept).is_ok()
+fn stops_at_the_end(wanted: Selection) -> bool {
+    let mut lines = lines_of("^1.2", wanted, true);
+    let mut kept = Vec::new();
+    let has_stopped = lines.push(b"2.0.0\n\nx", &mut kept).is_ok()
         && matches!(
-            lines.finish(alloc, &mut kept),
+            lines.finish(&mut kept),
             Err(LinesError::NoVersion(3))
         );
     let counts = lines.counts();
-    Ok(has_stopped && kept.is_empty() && (counts.lines, counts.invalid) == (3, 1))
+    has_stopped && kept.is_empty() && (counts.lines, counts.invalid) == (3, 1)
 }
 
 /// Returns whether a line is skipped and counted, and the lines before and after it are appended.
-fn skips(alloc: Global, before: &str, line: &[u8], after: &str) -> Result<bool, AllocError> {
-    let mut lines = lines_of(alloc, "^1.2", Selection::Each, false)?;
-    let mut kept = Vec::new(alloc);
-    let mut wanted = Vec::new(alloc);
-    wanted.extend_from_slice(before.trim_start().as_bytes())?;
-    wanted.extend_from_slice(after.trim_start().as_bytes())?;
+fn skips(before: &str, line: &[u8], after: &str) -> bool {
+    let mut lines = lines_of("^1.2", Selection::Each, false);
+    let mut kept = Vec::new();
+    let mut wanted = Vec::new();
+    wanted.extend_from_slice(before.trim_start().as_bytes());
+    wanted.extend_from_slice(after.trim_start().as_bytes());
     for piece in [before.as_bytes(), line, after.as_bytes()] {
-        if lines.push(alloc, piece, &mut kept).is_err() {
-            return Ok(false);
+        if lines.push(piece, &mut kept).is_err() {
+            return false;
         }
     }
-    let has_ended = lines.finish(alloc, &mut kept).is_ok();
+    let has_ended = lines.finish(&mut kept).is_ok();
     let number = if before.is_empty() { 1 } else { 2 };
     let counts = lines.counts();
     let is_counted = counts.invalid == 1
         && counts.first_invalid.as_ref().is_some_and(|first| first.number == number
             && first.front.as_slice() == line);
-    Ok(has_ended && is_counted && kept == wanted)
+    has_ended && is_counted && kept == wanted
 }
 
 /// Returns a line of this length that begins with `front` and then repeats a byte.
-fn long_line(alloc: Global, front: &str, byte: u8, length: usize) -> Result<Vec<u8>, AllocError> {
-    let mut line = Vec::new(alloc);
-    line.extend_from_slice(front.as_bytes())?;
+fn long_line(front: &str, byte: u8, length: usize) -> Vec<u8> {
+    let mut line = Vec::new();
+    line.extend_from_slice(front.as_bytes());
     for _ in line.len()..length {
-        line.push(byte)?;
+        line.push(byte);
     }
-    Ok(line)
+    line
 }
 
 /// Returns whether a long line that is cut at an offset is kept, or otherwise counted, and the line
 /// after it is kept.
-fn takes_long(alloc: Global, line: &[u8], place: usize, is_kept: bool) -> Result<bool, AllocError> {
-    let mut lines = lines_of(alloc, "^1.2", Selection::Each, false)?;
-    let mut kept = Vec::new(alloc);
-    let mut wanted = Vec::new(alloc);
+fn takes_long(line: &[u8], place: usize, is_kept: bool) -> bool {
+    let mut lines = lines_of("^1.2", Selection::Each, false);
+    let mut kept = Vec::new();
+    let mut wanted = Vec::new();
     let text = line
         .strip_prefix(b"\xEF\xBB\xBF".as_slice())
         .unwrap_or(line);
     if is_kept {
-        wanted.extend_from_slice(text)?;
-        wanted.extend_from_slice(b"\n")?;
+        wanted.extend_from_slice(text);
+        wanted.extend_from_slice(b"\n");
     }
-    wanted.extend_from_slice(b"1.9.0")?;
+    wanted.extend_from_slice(b"1.9.0");
     let (front, back) = line.split_at(place.min(line.len()));
     for piece in [front, back, b"", b"\n", b"1.9.0"] {
-        if lines.push(alloc, piece, &mut kept).is_err() {
-            return Ok(false);
+        if lines.push(piece, &mut kept).is_err() {
+            return false;
         }
     }
-    let has_ended = lines.finish(alloc, &mut kept).is_ok();
+    let has_ended = lines.finish(&mut kept).is_ok();
     let shown = text.get(..81).unwrap_or_default();
     let is_counted = match &lines.counts().first_invalid {
         Some(first) => !is_kept && first.number == 1 && first.front.as_slice() == shown,
         None => is_kept,
     };
-    Ok(has_ended && is_counted && kept == wanted)
+    has_ended && is_counted && kept == wanted
 }
 
 /// Returns the lines of a text that a filter keeps, releases only, without a prefix.
 fn lines_of(
-    alloc: Global,
     range: &str,
     wanted: Selection,
     is_strict: bool,
-) -> Result<Lines, AllocError> {
-    let range = releases(alloc, range)?;
+) -> Lines {
+    let range = releases(range);
     let mut options = LineOptions::new();
     options.selection = wanted;
     options.is_strict = is_strict;
-    Ok(Lines::new(alloc, range, Vec::new(alloc), options))
+    Lines::new(range, Vec::new(), options)
 }
 
 /// Returns the releases in a range of the crate in Cargo mode.
-fn releases(alloc: Global, range: &str) -> Result<VersionRange, AllocError> {
+fn releases(range: &str) -> VersionRange {
     let meaning = Meaning {
         dialect: Dialect::CrateCargo,
         pre_releases: PreReleases::Excluded,
     };
-    match VersionRange::parse(alloc, range, meaning) {
-        Ok(range) => Ok(range),
-        Err(_) => Err(AllocError),
-    }
+    VersionRange::try_parse(range, meaning).unwrap()
 }

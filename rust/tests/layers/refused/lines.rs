@@ -1,44 +1,12 @@
-// Made by tools/erase.py from crates/library_tests/src/refused/filters.rt; not edited by hand.
-//! Filters of versions and lines.
-#![cfg(feature = "std")]
+//! Filters of lines.
 
-use crate::rattle_std::prelude::*;
 use super::Ending;
 use crate::proved::release_filter::{LineOptions, Lines, Selection, filter_text};
-use crate::proved::semver_parser::version::Version;
-use crate::proved::semver_parser::{Compat, RangeError, parser, version};
+use crate::proved::semver_parser::{Compat, RangeError};
 use crate::proved::tool_ranges::dialect::Dialect;
 use crate::proved::tool_ranges::meaning::Meaning;
 use crate::proved::tool_ranges::version_range::VersionRange;
 use crate::proved::version_sets::PreReleases;
-
-/// Filters five versions, one of them a pre-release, by `^0.2 || 2.x`, which keeps three. Making
-/// the list is part of the call.
-pub fn filter() -> Ending {
-    let mut versions = Vec::new();
-    for text in ["0.2.0", "0.3.0", "2.0.0-rc", "2.5.0", "2.5.0"] {
-        match version::parse(text) {
-            Ok(version) => {
-                if versions.fallible_push(version).is_err() {
-                    return Ending::Refused;
-                }
-            }
-            Err(parser::Error::OutOfMemory) => return Ending::Refused,
-            Err(_) => return Ending::Wrong,
-        }
-    }
-    match filter_text("^0.2 || 2.x", Compat::Cargo, &versions) {
-        Ok(kept) => Ending::full_if(
-            kept.len() == 3 && kept.iter().all(|version| is_wanted(version)),
-        ),
-        Err(RangeError::OutOfMemory) => Ending::Refused,
-        Err(_) => Ending::Wrong,
-    }
-}
-
-fn is_wanted(version: &Version) -> bool {
-    (version.major == 0 && version.minor == 2) || (version.major == 2 && version.minor == 5)
-}
 
 /// Two of the lines are kept, and appended as they are.
 pub fn copied_lines() -> Ending {

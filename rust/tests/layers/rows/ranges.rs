@@ -1,0 +1,51 @@
+//! Ranges as Cargo or npm itself reads them.
+
+use super::{versions_of, NOT_ALL};
+use crate::proved::semver_parser::{version, RangeError};
+use crate::proved::tool_ranges::dialect::{self, Dialect};
+use crate::proved::tool_ranges::meaning::{self, Meaning};
+use crate::proved::tool_ranges::refusals;
+
+/// Returns the comparators of a range in a dialect, or the word for its error.
+pub fn rewritten(text: &str, tool: Dialect) -> String {
+    match dialect::rewrite(tool, text) {
+        Ok(set) => set.to_string(),
+        Err(error) => word(error),
+    }
+}
+
+/// Returns the versions of a list that satisfy a range, or the word for its error. What checking one
+/// version against the range says otherwise follows it.
+pub fn meant(text: &str, tool: Meaning, list: &str) -> String {
+    let Some(versions) = versions_of(list) else {
+        return NOT_ALL.into();
+    };
+    let set = match meaning::read(tool, text) {
+        Ok(set) => set,
+        Err(error) => return word(error),
+    };
+    let mut shown = String::from("means");
+    for (version, item) in versions.iter().zip(list.split(' ')) {
+        let is_meant = set.contains(version);
+        if is_meant {
+            shown += &format!(" {version}");
+        }
+        let borrowed = version::read_ref_in(item.as_bytes(), tool.dialect.grammar());
+        if borrowed.map(|it| meaning::satisfies(&it, text, tool)) != Some(Ok(is_meant)) {
+            shown += &format!(", but asked of {version} it says the other");
+        }
+    }
+    shown
+}
+
+/// Returns the offset and the reason of a range's error, or that it is valid.
+pub fn refused(text: &str, dialect: Dialect) -> String {
+    match refusals::refused(dialect, text).unwrap() {
+        None => "a range".into(),
+        Some(it) => format!("{}: {}, {}", it.offset, it.error, it.reason.name()),
+    }
+}
+
+fn word(error: RangeError) -> String {
+    error.to_string().replace(' ', "-")
+}
