@@ -19,13 +19,13 @@ UNKNOWN = {'unsafe', 'extern', 'static', 'macro_rules', 'async', 'await', 'isize
 CALLS = {'parse :: < u32'} | set('''
     alloc all and_then any as_mut_slice as_ref as_slice by_ref bytes chars checked_add
     checked_ilog10 checked_mul clear clone cmp copied copy_from_slice ends_with enumerate escape_ascii
-    extend_from_slice get get_mut into is_ascii is_ascii_alphanumeric is_ascii_digit
+    extend_from_slice get get_mut is_ascii is_ascii_alphanumeric is_ascii_digit
     is_char_boundary is_eq is_err is_ge is_gt is_le is_lt is_ne is_none is_ok is_ok_and
-    is_some is_some_and is_terminal iter last len lines map map_err map_or min ok
+    is_some is_some_and is_terminal iter last len lines map map_err map_or min
     partition_point println push_reserved push_str read reader reserve_exact reverse
-    rsplit_once saturating_add saturating_mul saturating_sub skip sort_unstable_by split_at
+    saturating_add saturating_mul saturating_sub skip sort_unstable_by split_at
     split_first split_last split_once starts_with stderr stdin stdout strip_prefix strip_suffix
-    take_while then then_some to_string transpose trim_start trim_start_matches truncate unwrap_or
+    take_while then then_some to_string transpose trim_start_matches truncate unwrap_or
     unwrap_or_default valid_up_to wrapping_add write_all zip
 '''.split())
 

@@ -12,13 +12,13 @@ SAME_FUNCTIONS = set('''Vec::new String::new str::from_utf8 io::writer
 SAME_CALLS = set('''
     all and_then any as_bytes as_mut_slice as_ref as_slice as_str by_ref bytes chars checked_add
     checked_ilog10 checked_mul clear cmp copied copy_from_slice count enumerate escape_ascii
-    first flush from get get_mut into is_ascii is_ascii_alphanumeric is_ascii_digit
+    first flush from get get_mut is_ascii is_ascii_alphanumeric is_ascii_digit
     is_char_boundary is_empty is_eq is_err is_ge is_gt is_le is_lt is_ne is_none is_ok is_ok_and
     is_some is_some_and is_terminal iter kind last len lines map_err map_or min new
-    next ok parse partition_point println push_reserved read reader reverse rsplit_once
+    next parse partition_point println push_reserved read reader reverse
     saturating_add saturating_mul saturating_sub skip sort_unstable_by split split_at
     split_first split_last split_once starts_with stderr stdin stdout strip_prefix strip_suffix
-    take take_while then then_some transpose trim_start trim_start_matches truncate unwrap_or
+    take take_while then then_some transpose trim_start_matches truncate unwrap_or
     unwrap_or_default valid_up_to wrapping_add write write_all write_str zip'''.split())
 MODULES = set('alloc as cmp env fmt fs io iter marker mem process rt self str'.split())
 SAME_MACROS, SAME_ATTRIBUTES = {'matches', 'unreachable', 'write'}, {'derive', 'inline', 'must_use', 'non_exhaustive'}

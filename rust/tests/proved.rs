@@ -1,7 +1,7 @@
-//! The test programs of `crates/`, erased, and `layers`, the tests of what is beyond the port: their
-//! tables of rows, their other tests, and each of their requests for memory refused in turn. The
-//! generated code is compiled into this test itself, so that they reach what isn't public. Each run
-//! is this test once more, with the name of a program.
+//! The test programs of `crates/`, erased, and `layers`, the tests of what is beyond the port:
+//! their tables of rows, their other tests, and each of their requests for memory refused in turn.
+//! The generated code is compiled into this test itself, so that they reach what isn't public. Each
+//! run is this test once more, with the name of a program.
 
 extern crate alloc;
 

@@ -29,18 +29,8 @@ const LENGTHS: [usize; 5] = [1, 2, 3, 7, 64];
 /// Lines with two prefixes, and the lines that `^11` keeps: the first prefix that is followed by a
 /// version decides.
 const PREFIXES: [(&str, &str, &str, &str); 6] = [
-    (
-        "v",
-        "",
-        "v11.2.0\n11.4.0\nw11.5.0\nvv11.6.0\n",
-        "v11.2.0\n11.4.0\n",
-    ),
-    (
-        "",
-        "v",
-        "v11.2.0\n11.4.0\nw11.5.0\nvv11.6.0\n",
-        "v11.2.0\n11.4.0\n",
-    ),
+    ("v", "", "v11.2.0\n11.4.0\nw11.5.0\nvv11.6.0\n", "v11.2.0\n11.4.0\n"),
+    ("", "v", "v11.2.0\n11.4.0\nw11.5.0\nvv11.6.0\n", "v11.2.0\n11.4.0\n"),
     ("1", "", "11.2.0\n111.2.0\n", "111.2.0\n"),
     ("", "1", "11.2.0\n111.2.0\n", "11.2.0\n"),
     ("v", "vv", "vv11.2.0\nv11.2.0", "vv11.2.0\nv11.2.0"),
@@ -58,70 +48,14 @@ const FORMS: [(LineEnd, bool, Selection, &str, &str, &str); 9] = [
         "v1.4.0\0v1.2.0\n\0v1.9.0",
         "v1.4.0\0v1.2.0\n\0v1.9.0",
     ),
-    (
-        LineEnd::ZeroByte,
-        true,
-        Selection::Each,
-        "a\nb",
-        "a\nb1.4.0\0a\n1.4.0\0",
-        "1.4.0\0",
-    ),
-    (
-        LineEnd::ZeroByte,
-        false,
-        Selection::Sorted,
-        "v",
-        "v1.4.0\0v1.2.0",
-        "v1.2.0\0v1.4.0\0",
-    ),
-    (
-        LineEnd::ZeroByte,
-        false,
-        Selection::Lowest,
-        "",
-        "1.4.0\0\u{0}1.2.0\0",
-        "1.2.0\0",
-    ),
-    (
-        LineEnd::LineFeed,
-        false,
-        Selection::Each,
-        "",
-        "1.4.0\0\n1.2.0\r\n",
-        "1.2.0\r\n",
-    ),
-    (
-        LineEnd::LineFeed,
-        true,
-        Selection::Each,
-        "v",
-        "v1.4.0\r\n1.4.0\nv1.2.0",
-        "1.4.0\r\n1.2.0",
-    ),
-    (
-        LineEnd::LineFeed,
-        true,
-        Selection::Each,
-        "\u{FEFF}",
-        "\u{FEFF}\u{FEFF}1.4.0\n",
-        "1.4.0\n",
-    ),
-    (
-        LineEnd::LineFeed,
-        true,
-        Selection::Sorted,
-        "v",
-        "v1.4.0\nv1.2.0",
-        "1.2.0\n1.4.0\n",
-    ),
-    (
-        LineEnd::LineFeed,
-        true,
-        Selection::Highest,
-        "v",
-        "v1.4.0\nv1.9.0+b\nv1.2.0",
-        "1.9.0+b\n",
-    ),
+    (LineEnd::ZeroByte, true, Selection::Each, "a\nb", "a\nb1.4.0\0a\n1.4.0\0", "1.4.0\0"),
+    (LineEnd::ZeroByte, false, Selection::Sorted, "v", "v1.4.0\0v1.2.0", "v1.2.0\0v1.4.0\0"),
+    (LineEnd::ZeroByte, false, Selection::Lowest, "", "1.4.0\0\u{0}1.2.0\0", "1.2.0\0"),
+    (LineEnd::LineFeed, false, Selection::Each, "", "1.4.0\0\n1.2.0\r\n", "1.2.0\r\n"),
+    (LineEnd::LineFeed, true, Selection::Each, "v", "v1.4.0\r\n1.4.0\nv1.2.0", "1.4.0\r\n1.2.0"),
+    (LineEnd::LineFeed, true, Selection::Each, "\u{FEFF}", "\u{FEFF}\u{FEFF}1.4.0\n", "1.4.0\n"),
+    (LineEnd::LineFeed, true, Selection::Sorted, "v", "v1.4.0\nv1.2.0", "1.2.0\n1.4.0\n"),
+    (LineEnd::LineFeed, true, Selection::Highest, "v", "v1.4.0\nv1.9.0+b\nv1.2.0", "1.9.0+b\n"),
 ];
 
 /// Two files, and the output of `^1.2` for them.
@@ -153,10 +87,16 @@ pub fn cuts() {
     for (wanted, appended) in &APPENDED {
         for place in 0..=TEXT.len() {
             let (front, back) = TEXT.split_at(place);
-            assert!(appends(*wanted, &[front, back], appended), "lines: wrong where the text is cut after {place} bytes");
+            assert!(
+                appends(*wanted, &[front, back], appended),
+                "lines: wrong where the text is cut after {place} bytes"
+            );
         }
         for length in LENGTHS {
-            assert!(appends_in_pieces(*wanted, length, appended), "lines: wrong in pieces of {length}");
+            assert!(
+                appends_in_pieces(*wanted, length, appended),
+                "lines: wrong in pieces of {length}"
+            );
         }
     }
 }
@@ -165,7 +105,10 @@ pub fn cuts() {
 pub fn strict_lines() {
     for (wanted, _) in &APPENDED {
         for length in LENGTHS {
-            assert!(stops_in_pieces(*wanted, length), "lines: wrong where pieces of {length} have an invalid line");
+            assert!(
+                stops_in_pieces(*wanted, length),
+                "lines: wrong where pieces of {length} have an invalid line"
+            );
         }
         assert!(stops_at_the_end(*wanted), "lines: wrong at an invalid last line");
     }
@@ -189,7 +132,10 @@ pub fn long_lines() {
         for length in 4094..4100usize {
             let line = long_line(front, *byte, length);
             for place in [0, 1, 4095, 4096, 4097, length] {
-                assert!(takes_long(line.as_slice(), place, *is_version), "lines: wrong at {length} bytes that begin with {front:?}");
+                assert!(
+                    takes_long(line.as_slice(), place, *is_version),
+                    "lines: wrong at {length} bytes that begin with {front:?}"
+                );
             }
         }
     }
@@ -199,7 +145,10 @@ pub fn long_lines() {
             let line = long_line(front, byte, length.saturating_add(mark));
             let is_kept = is_version && length <= LONGEST_TEXT;
             for place in [0, length - 1, length, length + 2] {
-                assert!(takes_long(line.as_slice(), place, is_kept), "lines: wrong at {length} bytes that begin with {front:?}");
+                assert!(
+                    takes_long(line.as_slice(), place, is_kept),
+                    "lines: wrong at {length} bytes that begin with {front:?}"
+                );
             }
         }
     }
@@ -208,15 +157,15 @@ pub fn long_lines() {
 /// A version begins after the first prefix with which the line begins.
 pub fn prefixes() {
     for (first, second, text, appended) in &PREFIXES {
-        let mut prefixes = Vec::new();
-        prefixes.push(first.to_string());
-        prefixes.push(second.to_string());
-        let range = releases("^11");
-        let mut lines = Lines::new(range, prefixes, LineOptions::new());
+        let prefixes = vec![first.to_string(), second.to_string()];
+        let mut lines = Lines::new(releases("^11"), prefixes, LineOptions::new());
         let mut kept = Vec::new();
-        let is_taken = lines.push(text.as_bytes(), &mut kept).is_ok()
-            && lines.finish(&mut kept).is_ok();
-        assert!(is_taken && kept == appended.as_bytes(), "lines: wrong with the prefixes {first:?} and {second:?}");
+        let is_taken =
+            lines.push(text.as_bytes(), &mut kept).is_ok() && lines.finish(&mut kept).is_ok();
+        assert!(
+            is_taken && kept == appended.as_bytes(),
+            "lines: wrong with the prefixes {first:?} and {second:?}"
+        );
     }
 }
 
@@ -231,15 +180,16 @@ pub fn forms() {
         };
         for place in 0..=text.len() {
             let (front, back) = text.as_bytes().split_at(place);
-            let mut prefixes = Vec::new();
-            prefixes.push(prefix.to_string());
-            let range = releases("^1.2");
-            let mut lines = Lines::new(range, prefixes, options);
+            let prefixes = vec![prefix.to_string()];
+            let mut lines = Lines::new(releases("^1.2"), prefixes, options);
             let mut kept = Vec::new();
             let is_taken = lines.push(front, &mut kept).is_ok()
                 && lines.push(back, &mut kept).is_ok()
                 && lines.finish(&mut kept).is_ok();
-            assert!(is_taken && kept == appended.as_bytes(), "lines: wrong where {text:?} is cut after {place} bytes");
+            assert!(
+                is_taken && kept == appended.as_bytes(),
+                "lines: wrong where {text:?} is cut after {place} bytes"
+            );
         }
     }
 }
@@ -254,7 +204,10 @@ pub fn files() {
             && lines.push(second.as_bytes(), &mut kept).is_ok()
             && lines.finish(&mut kept).is_ok();
         let is_counted = lines.counts().invalid == 0 && lines.counts().empty == 0;
-        assert!(is_taken && is_counted && kept == appended.as_bytes(), "lines: wrong with the files {first:?} and {second:?}");
+        assert!(
+            is_taken && is_counted && kept == appended.as_bytes(),
+            "lines: wrong with the files {first:?} and {second:?}"
+        );
     }
     assert!(stops_at_the_end_of_a_file(), "lines: wrong at an invalid last line of a file");
 }
@@ -265,24 +218,15 @@ fn stops_at_the_end_of_a_file() -> bool {
     let mut lines = lines_of("^1.2", Selection::Each, true);
     let mut kept = Vec::new();
     let has_stopped = lines.push(b"1.4.0\nx", &mut kept).is_ok()
-        && matches!(
-            lines.end_file(&mut kept),
-            Err(LinesError::NoVersion(2))
-        );
+        && matches!(lines.end_file(&mut kept), Err(LinesError::NoVersion(2)));
     let first = &lines.counts().first_invalid;
-    let is_shown = first
-        .as_ref()
-        .is_some_and(|line| line.front.as_slice() == "x".as_bytes());
+    let is_shown = first.as_ref().is_some_and(|line| line.front.as_slice() == "x".as_bytes());
     has_stopped && is_shown && kept.as_slice() == "1.4.0\n".as_bytes()
 }
 
 /// Returns whether the pieces have this output, where each kept line is appended as soon as it
 /// ends.
-fn appends(
-    wanted: Selection,
-    pieces: &[&[u8]],
-    appended: &str,
-) -> bool {
+fn appends(wanted: Selection, pieces: &[&[u8]], appended: &str) -> bool {
     let mut lines = lines_of("^1.2", wanted, false);
     let mut kept = Vec::new();
     for piece in pieces {
@@ -308,16 +252,14 @@ fn are_counted(lines: &Lines) -> bool {
         && counts.kept == 4
         && counts.empty == 1
         && counts.invalid == 1
-        && counts.first_invalid.as_ref().is_some_and(|line| line.number == 2
-            && line.front.as_slice() == "x".as_bytes())
+        && counts
+            .first_invalid
+            .as_ref()
+            .is_some_and(|line| line.number == 2 && line.front.as_slice() == "x".as_bytes())
 }
 
 /// Returns whether pieces of this length have this output.
-fn appends_in_pieces(
-    wanted: Selection,
-    length: usize,
-    appended: &str,
-) -> bool {
+fn appends_in_pieces(wanted: Selection, length: usize, appended: &str) -> bool {
     let mut pieces = Vec::new();
     let mut rest = TEXT;
     for _ in 0..TEXT.len() {
@@ -358,10 +300,7 @@ fn has_stopped(lines: &Lines, wanted: Selection, error: &LinesError, kept: &[u8]
     matches!(error, LinesError::NoVersion(2))
         && kept == appended.as_bytes()
         && (counts.lines, counts.kept, counts.invalid) == (2, 1, 1)
-        && counts
-            .first_invalid
-            .as_ref()
-            .is_some_and(|line| line.number == 2)
+        && counts.first_invalid.as_ref().is_some_and(|line| line.number == 2)
 }
 
 /// Returns whether strict lines stop at a last line that is an invalid version, append nothing, and
@@ -370,10 +309,7 @@ fn stops_at_the_end(wanted: Selection) -> bool {
     let mut lines = lines_of("^1.2", wanted, true);
     let mut kept = Vec::new();
     let has_stopped = lines.push(b"2.0.0\n\nx", &mut kept).is_ok()
-        && matches!(
-            lines.finish(&mut kept),
-            Err(LinesError::NoVersion(3))
-        );
+        && matches!(lines.finish(&mut kept), Err(LinesError::NoVersion(3)));
     let counts = lines.counts();
     has_stopped && kept.is_empty() && (counts.lines, counts.invalid) == (3, 1)
 }
@@ -394,8 +330,10 @@ fn skips(before: &str, line: &[u8], after: &str) -> bool {
     let number = if before.is_empty() { 1 } else { 2 };
     let counts = lines.counts();
     let is_counted = counts.invalid == 1
-        && counts.first_invalid.as_ref().is_some_and(|first| first.number == number
-            && first.front.as_slice() == line);
+        && counts
+            .first_invalid
+            .as_ref()
+            .is_some_and(|first| first.number == number && first.front.as_slice() == line);
     has_ended && is_counted && kept == wanted
 }
 
@@ -415,9 +353,7 @@ fn takes_long(line: &[u8], place: usize, is_kept: bool) -> bool {
     let mut lines = lines_of("^1.2", Selection::Each, false);
     let mut kept = Vec::new();
     let mut wanted = Vec::new();
-    let text = line
-        .strip_prefix(b"\xEF\xBB\xBF".as_slice())
-        .unwrap_or(line);
+    let text = line.strip_prefix(b"\xEF\xBB\xBF".as_slice()).unwrap_or(line);
     if is_kept {
         wanted.extend_from_slice(text);
         wanted.extend_from_slice(b"\n");
@@ -439,11 +375,7 @@ fn takes_long(line: &[u8], place: usize, is_kept: bool) -> bool {
 }
 
 /// Returns the lines of a text that a filter keeps, releases only, without a prefix.
-fn lines_of(
-    range: &str,
-    wanted: Selection,
-    is_strict: bool,
-) -> Lines {
+fn lines_of(range: &str, wanted: Selection, is_strict: bool) -> Lines {
     let range = releases(range);
     let mut options = LineOptions::new();
     options.selection = wanted;
@@ -453,9 +385,6 @@ fn lines_of(
 
 /// Returns the releases in a range of the crate in Cargo mode.
 fn releases(range: &str) -> VersionRange {
-    let meaning = Meaning {
-        dialect: Dialect::CrateCargo,
-        pre_releases: PreReleases::Excluded,
-    };
+    let meaning = Meaning { dialect: Dialect::CrateCargo, pre_releases: PreReleases::Excluded };
     VersionRange::try_parse(range, meaning).unwrap()
 }

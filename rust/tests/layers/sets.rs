@@ -18,54 +18,19 @@ const TEXTS: [(&str, PreReleases, &str, bool); 24] = [
     ("^1.2.3-beta.4", PreReleases::Included, "2.0.0-alpha", false),
     (">=1.2.3 <1.2.4-rc", PreReleases::Default, "1.2.4-a", true),
     ("=2.0.1-a || >=2.0.0", PreReleases::Default, "2.0.1-a", true),
-    (
-        "=2.0.1-a || >=2.0.0",
-        PreReleases::Default,
-        "2.0.1-b",
-        false,
-    ),
+    ("=2.0.1-a || >=2.0.0", PreReleases::Default, "2.0.1-b", false),
     ("1.2.3-a - 2", PreReleases::Default, "1.2.3-b", true),
     ("1.2.3-a - 2", PreReleases::Default, "2.0.0-b", false),
     (">1.2.3-a", PreReleases::Included, "1.2.3-a", false),
     (">1.2.3-a", PreReleases::Included, "1.2.3-a.0", true),
     (">1.2.3", PreReleases::Included, "1.2.4-0", true),
     (">1.2.3", PreReleases::Included, "1.2.3-z", false),
-    (
-        "=1.2.18446744073709551615",
-        PreReleases::Included,
-        "1.2.18446744073709551615",
-        true,
-    ),
-    (
-        "=1.2.18446744073709551615",
-        PreReleases::Included,
-        "1.3.0-0",
-        false,
-    ),
-    (
-        "<1.2.0 || 2.x || >=4.0.0",
-        PreReleases::Excluded,
-        "0.0.0",
-        true,
-    ),
-    (
-        "<1.2.0 || 2.x || >=4.0.0",
-        PreReleases::Excluded,
-        "2.9.9+b5",
-        true,
-    ),
-    (
-        "<1.2.0 || 2.x || >=4.0.0",
-        PreReleases::Excluded,
-        "3.0.0",
-        false,
-    ),
-    (
-        "<1.2.0 || 2.x || >=4.0.0",
-        PreReleases::Excluded,
-        LAST,
-        true,
-    ),
+    ("=1.2.18446744073709551615", PreReleases::Included, "1.2.18446744073709551615", true),
+    ("=1.2.18446744073709551615", PreReleases::Included, "1.3.0-0", false),
+    ("<1.2.0 || 2.x || >=4.0.0", PreReleases::Excluded, "0.0.0", true),
+    ("<1.2.0 || 2.x || >=4.0.0", PreReleases::Excluded, "2.9.9+b5", true),
+    ("<1.2.0 || 2.x || >=4.0.0", PreReleases::Excluded, "3.0.0", false),
+    ("<1.2.0 || 2.x || >=4.0.0", PreReleases::Excluded, LAST, true),
     (">2.0.0 <1.0.0", PreReleases::Included, "1.5.0", false),
     (
         "=18446744073709551615.18446744073709551615.18446744073709551615",
@@ -85,51 +50,18 @@ const TEXTS: [(&str, PreReleases, &str, bool); 24] = [
 const SAME: [(&str, &str); 3] = [
     (">=1.0.0 <2.0.0 || >=2.0.0 <3.0.0", ">=1.0.0 <3.0.0"),
     (">=1.0.0-rc", ">=1.0.0"),
-    (
-        "<0.0.0",
-        ">18446744073709551615.18446744073709551615.18446744073709551615",
-    ),
+    ("<0.0.0", ">18446744073709551615.18446744073709551615.18446744073709551615"),
 ];
 
 /// Two ranges in Cargo mode, a rule, and the lowest versions that are lost, gained and shared if
 /// the second replaces the first. An empty string means that there is none.
 const COMPARED: [(&str, &str, PreReleases, [&str; 3]); 6] = [
-    (
-        "^1.2.0",
-        ">=1.4.0",
-        PreReleases::Excluded,
-        ["1.2.0", "2.0.0", "1.4.0"],
-    ),
-    (
-        "^1.2",
-        "~1.2",
-        PreReleases::Excluded,
-        ["1.3.0", "", "1.2.0"],
-    ),
-    (
-        "=1.0.0",
-        "=2.0.0",
-        PreReleases::Excluded,
-        ["1.0.0", "2.0.0", ""],
-    ),
-    (
-        ">1.2.3-a",
-        ">=1.2.3-a",
-        PreReleases::Included,
-        ["", "1.2.3-a", "1.2.3-a.0"],
-    ),
-    (
-        ">=1.2.3-rc",
-        ">=1.2.3",
-        PreReleases::Default,
-        ["1.2.3-rc", "", "1.2.3"],
-    ),
-    (
-        "<0.0.0",
-        "<0.0.0-0",
-        PreReleases::Included,
-        ["0.0.0-0", "", ""],
-    ),
+    ("^1.2.0", ">=1.4.0", PreReleases::Excluded, ["1.2.0", "2.0.0", "1.4.0"]),
+    ("^1.2", "~1.2", PreReleases::Excluded, ["1.3.0", "", "1.2.0"]),
+    ("=1.0.0", "=2.0.0", PreReleases::Excluded, ["1.0.0", "2.0.0", ""]),
+    (">1.2.3-a", ">=1.2.3-a", PreReleases::Included, ["", "1.2.3-a", "1.2.3-a.0"]),
+    (">=1.2.3-rc", ">=1.2.3", PreReleases::Default, ["1.2.3-rc", "", "1.2.3"]),
+    ("<0.0.0", "<0.0.0-0", PreReleases::Included, ["0.0.0-0", "", ""]),
 ];
 
 /// The sets contain these versions, and the sets of two ranges with the same versions are equal.
@@ -139,7 +71,8 @@ pub fn contain() {
         assert_eq!(set_of(range, *rule).contains(&version), *wanted, "{range}: {text}");
     }
     for (range, other) in &SAME {
-        let (one, other) = (set_of(range, PreReleases::Excluded), set_of(other, PreReleases::Excluded));
+        let (one, other) =
+            (set_of(range, PreReleases::Excluded), set_of(other, PreReleases::Excluded));
         assert!(one == other, "{range}");
     }
 }

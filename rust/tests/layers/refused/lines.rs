@@ -1,7 +1,7 @@
 //! Filters of lines.
 
 use super::Ending;
-use crate::proved::release_filter::{LineOptions, Lines, Selection, filter_text};
+use crate::proved::release_filter::{filter_text, LineOptions, Lines, Selection};
 use crate::proved::semver_parser::{Compat, RangeError};
 use crate::proved::tool_ranges::dialect::Dialect;
 use crate::proved::tool_ranges::meaning::Meaning;
@@ -55,8 +55,7 @@ pub fn line_of_a_file() -> Ending {
     };
     let mut lines = Lines::new(range, Vec::new(), LineOptions::new());
     let mut kept = Vec::new();
-    if lines.push(b"1.2.0-rc.b", &mut kept).is_err()
-        || lines.end_file(&mut kept).is_err() {
+    if lines.push(b"1.2.0-rc.b", &mut kept).is_err() || lines.end_file(&mut kept).is_err() {
         return Ending::refused_if(kept.is_empty() && lines.counts().lines == 0);
     }
     Ending::full_if(kept.as_slice() == "1.2.0-rc.b\n".as_bytes())
@@ -73,10 +72,7 @@ const LINES: &str = "1.2.0-rc.b\n2.1.0-rc.a\n2.0.0\n1.9.0+build\n";
 
 /// Returns the range `<2` of the crate in Cargo mode, with its pre-releases.
 fn below_two() -> Result<VersionRange, Ending> {
-    let meaning = Meaning {
-        dialect: Dialect::CrateCargo,
-        pre_releases: PreReleases::Included,
-    };
+    let meaning = Meaning { dialect: Dialect::CrateCargo, pre_releases: PreReleases::Included };
     match VersionRange::try_parse("<2", meaning) {
         Ok(range) => Ok(range),
         Err(RangeError::OutOfMemory) => Err(Ending::Refused),
@@ -96,8 +92,7 @@ fn ends(wanted: Selection, text: &str, appended: &str) -> Ending {
     options.selection = wanted;
     let mut lines = Lines::new(range, Vec::new(), options);
     let mut kept = Vec::new();
-    if lines.push(text.as_bytes(), &mut kept).is_err()
-        || lines.finish(&mut kept).is_err() {
+    if lines.push(text.as_bytes(), &mut kept).is_err() || lines.finish(&mut kept).is_err() {
         let are_counted = match wanted {
             Selection::Each => lines.counts().kept == count_of_ends(kept.as_slice()),
             _ => kept.is_empty(),

@@ -1,7 +1,7 @@
-//! Calls the functions beyond the port that allocate, and checks that each call returns its result or
-//! out of memory, and then leaves everything as its contract says. With enough memory every call has
-//! to return its result. Otherwise the one request that fails has to be made by exactly one call,
-//! which is named.
+//! Calls the functions beyond the port that allocate, and checks that each call returns its result
+//! or out of memory, and then leaves everything as its contract says. With enough memory every call
+//! has to return its result. Otherwise the one request that fails has to be made by exactly one
+//! call, which is named.
 
 mod lines;
 mod ranges;
@@ -110,9 +110,6 @@ fn of_sets(first: &VersionSet, second: &VersionSet) -> [(&'static str, Ending); 
         ("compared", sets::compared(first, second)),
         ("release_ranges", sets::release_ranges(first)),
         ("pre_release_ranges", sets::pre_release_ranges(first)),
-        (
-            "sets_without_requests",
-            sets::without_requests(first, second),
-        ),
+        ("sets_without_requests", sets::without_requests(first, second)),
     ]
 }

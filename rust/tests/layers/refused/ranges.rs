@@ -40,11 +40,7 @@ pub fn refused_requirements() -> Ending {
 
 /// Reads a range in npm's dialect.
 pub fn npm_range() -> Ending {
-    ending(
-        npm::rewrite(">1.2 <3 || v1.2.3-b"),
-        ">=1.3.0 <3.0.0-0 || =1.2.3-b",
-        Compat::Npm,
-    )
+    ending(npm::rewrite(">1.2 <3 || v1.2.3-b"), ">=1.3.0 <3.0.0-0 || =1.2.3-b", Compat::Npm)
 }
 
 /// Ranges of npm that are invalid by their grammar or their numbers give an error without a

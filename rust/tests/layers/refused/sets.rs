@@ -1,27 +1,21 @@
 //! Sets of versions.
 
 use super::Ending;
-use crate::proved::semver_parser::{RangeError, version};
+use crate::proved::semver_parser::{version, RangeError};
 use crate::proved::semver_texts::grammar::Digits;
-use crate::rattle_std::AllocError;
 use crate::proved::tool_ranges::dialect::Dialect;
 use crate::proved::tool_ranges::meaning::{self, Meaning};
 use crate::proved::version_sets::{PreReleases, SetRanges, VersionSet};
+use crate::rattle_std::AllocError;
 
 /// Returns the meaning of a dialect with the pre-releases that count by default.
 fn by_default(dialect: Dialect) -> Meaning {
-    Meaning {
-        dialect,
-        pre_releases: PreReleases::Default,
-    }
+    Meaning { dialect, pre_releases: PreReleases::Default }
 }
 
 /// Returns the meaning of a dialect with each pre-release within the bounds.
 fn within(dialect: Dialect) -> Meaning {
-    Meaning {
-        dialect,
-        pre_releases: PreReleases::Included,
-    }
+    Meaning { dialect, pre_releases: PreReleases::Included }
 }
 
 /// Returns the sets for the calls below: that of `>=1.2.0-b.c` by default, and that of `<2.0.0`
@@ -66,10 +60,7 @@ pub fn of_requirement() -> Ending {
 /// Invalid requirements give an error without a request.
 pub fn of_refused_requirements() -> Ending {
     let not_a_range = meaning::read(by_default(Dialect::Cargo), "1.2.3-a, >=1 <2");
-    let too_large = meaning::read(
-        by_default(Dialect::Cargo),
-        "1.2.3-a, >1.18446744073709551615",
-    );
+    let too_large = meaning::read(by_default(Dialect::Cargo), "1.2.3-a, >1.18446744073709551615");
     Ending::full_if(
         matches!(not_a_range, Err(RangeError::NotARange))
             && matches!(too_large, Err(RangeError::NumberTooLarge)),
@@ -97,10 +88,7 @@ pub fn of_npm_ranges() -> Ending {
 /// Invalid ranges of npm give an error without a request.
 pub fn of_refused_npm_ranges() -> Ending {
     let not_a_range = meaning::read(by_default(Dialect::Npm), "1.2.3-a || >=1, <2");
-    let too_large = meaning::read(
-        by_default(Dialect::Npm),
-        "1.2.3-a || >1.18446744073709551615",
-    );
+    let too_large = meaning::read(by_default(Dialect::Npm), "1.2.3-a || >1.18446744073709551615");
     Ending::full_if(
         matches!(not_a_range, Err(RangeError::NotARange))
             && matches!(too_large, Err(RangeError::NumberTooLarge)),
@@ -117,9 +105,9 @@ pub fn within_bounds() -> Ending {
     };
     let is_begun = has_stated(&requirement, "1.2.0-a") && !has_stated(&requirement, "1.5.0-c");
     match meaning::read(within(Dialect::Npm), "1.2.3 - 2 || ~3.1") {
-        Ok(set) => Ending::full_if(
-            is_begun && has_stated(&set, "1.2.3-a") && !has_stated(&set, "3.1.0-a"),
-        ),
+        Ok(set) => {
+            Ending::full_if(is_begun && has_stated(&set, "1.2.3-a") && !has_stated(&set, "3.1.0-a"))
+        }
         Err(RangeError::OutOfMemory) => Ending::Refused,
         Err(_) => Ending::Wrong,
     }
@@ -129,10 +117,7 @@ pub fn within_bounds() -> Ending {
 pub fn of_refused_bounds() -> Ending {
     let not_a_range = meaning::read(within(Dialect::Cargo), "1.2.3-a, >=1 <2");
     let no_npm_range = meaning::read(within(Dialect::Npm), "1.2 || >=1, <2");
-    let bound = meaning::read(
-        within(Dialect::Cargo),
-        "1.2, >1.18446744073709551615",
-    );
+    let bound = meaning::read(within(Dialect::Cargo), "1.2, >1.18446744073709551615");
     let too_large = meaning::read(within(Dialect::Npm), "1 - 1.18446744073709551615");
     Ending::full_if(
         matches!(not_a_range, Err(RangeError::NotARange))
@@ -145,9 +130,9 @@ pub fn of_refused_bounds() -> Ending {
 /// The union contains both sets, and its lowest release is 0.0.0, which is in the second.
 pub fn union(first: &VersionSet, second: &VersionSet) -> Ending {
     match first.union(second) {
-        Ok(set) => Ending::full_if(
-            is_within(first, &set) && is_within(second, &set) && begins_at(&set, 0),
-        ),
+        Ok(set) => {
+            Ending::full_if(is_within(first, &set) && is_within(second, &set) && begins_at(&set, 0))
+        }
         Err(_) => Ending::Refused,
     }
 }
@@ -155,9 +140,9 @@ pub fn union(first: &VersionSet, second: &VersionSet) -> Ending {
 /// The intersection is a subset of both sets, and its lowest release is 1.2.0.
 pub fn intersection(first: &VersionSet, second: &VersionSet) -> Ending {
     match first.intersection(second) {
-        Ok(set) => Ending::full_if(
-            is_within(&set, first) && is_within(&set, second) && begins_at(&set, 1),
-        ),
+        Ok(set) => {
+            Ending::full_if(is_within(&set, first) && is_within(&set, second) && begins_at(&set, 1))
+        }
         Err(_) => Ending::Refused,
     }
 }
@@ -188,12 +173,8 @@ pub fn compared(first: &VersionSet, second: &VersionSet) -> Ending {
         return Ending::Refused;
     };
     let is_lost = answer.lost.is_some_and(|lost| lost.major == 2);
-    let is_gained = answer
-        .gained
-        .is_some_and(|gained| gained.major == 0 && gained.pre.len() == 1);
-    let is_shared = answer
-        .shared
-        .is_some_and(|shared| shared.minor == 2 && shared.pre.len() == 2);
+    let is_gained = answer.gained.is_some_and(|gained| gained.major == 0 && gained.pre.len() == 1);
+    let is_shared = answer.shared.is_some_and(|shared| shared.minor == 2 && shared.pre.len() == 2);
     Ending::full_if(is_lost && is_gained && is_shared)
 }
 
@@ -234,8 +215,7 @@ pub fn without_requests(first: &VersionSet, second: &VersionSet) -> Ending {
         Ok(answer) => answer.shared.is_none(),
         Err(_) => false,
     };
-    let is_shown = has_no_range(empty.release_ranges())
-        && has_no_range(empty.pre_release_ranges());
+    let is_shown = has_no_range(empty.release_ranges()) && has_no_range(empty.pre_release_ranges());
     Ending::full_if(
         is_told && has_both && has_one && is_lowest && nothing && is_compared && is_shown,
     )
@@ -277,6 +257,5 @@ fn is_within(set: &VersionSet, other: &VersionSet) -> bool {
 
 /// Returns whether the lowest release of a set has this major number.
 fn begins_at(set: &VersionSet, major: u64) -> bool {
-    set.lowest_release()
-        .is_some_and(|release| release.major == major)
+    set.lowest_release().is_some_and(|release| release.major == major)
 }

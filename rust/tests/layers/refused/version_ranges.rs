@@ -9,10 +9,7 @@ use crate::proved::tool_ranges::version_range::VersionRange;
 use crate::proved::version_sets::PreReleases;
 
 /// Cargo's dialect, with each pre-release within the bounds.
-const CARGO: Meaning = Meaning {
-    dialect: Dialect::Cargo,
-    pre_releases: PreReleases::Included,
-};
+const CARGO: Meaning = Meaning { dialect: Dialect::Cargo, pre_releases: PreReleases::Included };
 
 /// Reads a range that contains 1.9.0-rc and not 2.0.0.
 pub fn parse() -> Ending {

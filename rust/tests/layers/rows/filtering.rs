@@ -98,5 +98,9 @@ fn appended(lines: &mut Lines, text: &str, length: usize) -> (Vec<u8>, usize) {
 /// Returns a remark if a text appends something different in pieces of one byte.
 fn in_bytes(lines: &mut Lines, text: &str, kept: &[u8]) -> &'static str {
     let is_same = appended(lines, text, 1) == (kept.to_vec(), 0);
-    if is_same { "" } else { ", and something else in bytes" }
+    if is_same {
+        ""
+    } else {
+        ", and something else in bytes"
+    }
 }

@@ -1,7 +1,7 @@
 //! Replays the table in `tests/layers`. Each line of `stdin` has a name, a call and a string,
-//! separated by tabs, and for some calls versions, another range, or both. Each line of `stdout` has
-//! the name and what the call returned, or after `sum-of-` the length and the checksum of that. The
-//! wanted lines come from brute force, from the tools themselves, and from the published rules
+//! separated by tabs, and for some calls versions, another range, or both. Each line of `stdout`
+//! has the name and what the call returned, or after `sum-of-` the length and the checksum of that.
+//! The wanted lines come from brute force, from the tools themselves, and from the published rules
 //! (`docs/TESTED.md`). The calls of the port, which other tables have, are answered, too.
 
 mod filtering;
@@ -80,8 +80,8 @@ fn answer_in(call: &str, tool: &str, text: &str, steps: &str) -> String {
     }
 }
 
-/// Returns what a call returns by a rule for pre-releases in a mode of the crate, which are the last
-/// two words of its name, such as `pair-stated-npm`. Any other call is one of the port.
+/// Returns what a call returns by a rule for pre-releases in a mode of the crate, which are the
+/// last two words of its name, such as `pair-stated-npm`. Any other call is one of the port.
 fn answer_by_rule(call: &str, text: &str, steps: &str) -> String {
     let words: Vec<&str> = call.rsplitn(3, '-').collect();
     let dialect = match words[0] {

@@ -14,8 +14,8 @@ pub fn rewritten(text: &str, tool: Dialect) -> String {
     }
 }
 
-/// Returns the versions of a list that satisfy a range, or the word for its error. What checking one
-/// version against the range says otherwise follows it.
+/// Returns the versions of a list that satisfy a range, or the word for its error. What checking
+/// one version against the range says otherwise follows it.
 pub fn meant(text: &str, tool: Meaning, list: &str) -> String {
     let Some(versions) = versions_of(list) else {
         return NOT_ALL.into();

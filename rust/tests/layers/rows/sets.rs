@@ -27,8 +27,8 @@ pub fn set(meaning: Meaning, text: &str, list: &str) -> String {
     )
 }
 
-/// Returns how the sets of two ranges compare, or the error of a range. After the second range there
-/// may be a semicolon and versions: for each of them, the sets that contain it follow.
+/// Returns how the sets of two ranges compare, or the error of a range. After the second range
+/// there may be a semicolon and versions: for each of them, the sets that contain it follow.
 pub fn pair(meaning: Meaning, text: &str, steps: &str) -> String {
     let (other, list) = steps.split_once(';').unwrap_or((steps, ""));
     let parts = match Parts::of(meaning, text, other) {
@@ -60,8 +60,8 @@ pub fn whole(meaning: Meaning, text: &str) -> String {
     }
 }
 
-/// Returns what the second of two ranges loses, gains and shares compared with the first, as ranges,
-/// or the error of a range.
+/// Returns what the second of two ranges loses, gains and shares compared with the first, as
+/// ranges, or the error of a range.
 pub fn whole_pair(meaning: Meaning, text: &str, other: &str) -> String {
     match Parts::of(meaning, text, other) {
         Ok(it) => format!(

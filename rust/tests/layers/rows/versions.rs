@@ -8,7 +8,8 @@ pub fn read(text: &str) -> String {
     fields(version::read(text).unwrap())
 }
 
-/// Returns the fields of the version that a string spells in a dialect, or `none` if it spells none.
+/// Returns the fields of the version that a string spells in a dialect, or `none` if it spells
+/// none.
 pub fn read_in(text: &str, grammar: Grammar) -> String {
     let borrowed = version::read_ref_in(text.as_bytes(), grammar);
     fields(borrowed.map(|it| it.version().unwrap()))
