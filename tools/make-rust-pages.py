@@ -58,7 +58,7 @@ PASSAGES = {
         ("Two laws of `semver_texts` relate the dialects.", "Two laws, which are proved, relate the dialects."),
         ("The function `invalid_strings::refusals::explain` returns an offset and a reason:",
          "An [`Error`](crate::Error) of a version has an offset and a reason:"),
-        ("The function `tool_ranges::refusals::refused` returns three things for a string: its error, a reason",
+        ("The function `invalid_ranges::refusals::refused` returns three things for a string: its error, a reason",
          "An [`Error`](crate::Error) of a range has three parts: its kind, a reason"),
         ("([the list](../crates/invalid_strings/specs/ReasonTable.antt))", "([`Reason`](crate::Reason))"),
         (" The definition finds that term by counting. It counts the terms before that one that state a number, and"

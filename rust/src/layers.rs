@@ -1,10 +1,10 @@
 //! Functions for the C and JavaScript layers. Their errors are plain values and copy no string.
 
-use crate::proved::{invalid_strings, tool_ranges};
+use crate::proved::{invalid_ranges, invalid_strings, tool_ranges};
 use crate::{AllocError, Dialect, Meaning, PartialVersion, PreReleases, RangeError, RangeSet, Terms};
 
+pub use crate::proved::invalid_ranges::refusals::Refusal as RangeRefusal;
 pub use crate::proved::invalid_strings::refusals::Refusal as VersionRefusal;
-pub use crate::proved::tool_ranges::refusals::Refusal as RangeRefusal;
 pub use crate::proved::tool_ranges::satisfying::SatisfiesError;
 
 /// Returns where and why bytes are an invalid version in a dialect, or `None` if they are valid.
@@ -43,7 +43,7 @@ pub fn explain_version(
 /// # Ok::<(), semver_parser::AllocError>(())
 /// ```
 pub fn explain_range(range: &str, dialect: Dialect) -> Result<Option<RangeRefusal>, AllocError> {
-    tool_ranges::refusals::refused(dialect, range)
+    invalid_ranges::refusals::refused(dialect, range)
 }
 
 /// Returns whether a version satisfies a range. It does not allocate.

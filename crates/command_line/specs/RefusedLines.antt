@@ -5,7 +5,7 @@ use Rattle.semver_parser.specs.declared.RangeError.{RangeError}
 use Rattle.semver_parser.specs.declared.RangeError.TheVariants.{NotARange, NumberTooLarge}
 use Rattle.semver_parser.specs.declared.RangeError.TheVariants.{OutOfMemory}
 use Rattle.invalid_strings.specs.ReasonTable.{sentence_of}
-use Rattle.tool_ranges.specs.declared.refusals.Refusal.{Refusal}
+use Rattle.invalid_ranges.specs.declared.refusals.Refusal.{Refusal}
 
 -- the kind of the error
 abbrev pub words_of : RangeError → Text

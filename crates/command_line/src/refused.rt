@@ -2,15 +2,15 @@
 //! with a caret below it, and the reason.
 
 ghost use Rattle.std.specs.Prelude.{◌≡◌, ◌++◌, IfOk, Option, length, string_bytes};
-ghost use Rattle.tool_ranges.specs.Refusals.{IsRefusalAs};
-ghost use Rattle.tool_ranges.specs.declared.refusals.Refusal.{Refusal as SomeRefusal};
+ghost use Rattle.invalid_ranges.specs.Refusals.{IsRefusalAs};
+ghost use Rattle.invalid_ranges.specs.declared.refusals.Refusal.{Refusal as SomeRefusal};
 ghost use Rattle.command_line.specs.RefusedLines.{line_of, place_of, why_of, words_of};
 
 use crate::excerpt::Excerpt;
+use invalid_ranges::refusals::{Refusal, refused};
 use semver_parser::RangeError;
 use std::alloc::{AllocError, Global};
 use tool_ranges::dialect::Dialect;
-use tool_ranges::refusals::{Refusal, refused};
 
 /// Returns the message for an error: the error and the range, and two more lines with the offset
 /// and the reason. A long string is shortened. `Err` means out of memory.

@@ -6,12 +6,12 @@ use Rattle.semver_parser.specs.declared.RangeError.TheVariants.{NotARange, Numbe
 use Rattle.invalid_strings.specs.Prefixes.{IsLongestPrefix}
 use Rattle.invalid_strings.specs.Reasons.{byte_at}
 use Rattle.invalid_strings.specs.declared.reasons.Reason.{Reason}
-use Rattle.tool_ranges.specs.Prefixes.{BeginsAs}
-use Rattle.tool_ranges.specs.RangeReasons.{IsReasonAs}
-use Rattle.tool_ranges.specs.TooLarge.{IsLimitOffset, limit_reason}
-use Rattle.tool_ranges.specs.Refusals.{IsRefusalAs}
+use Rattle.invalid_ranges.specs.Prefixes.{BeginsAs}
+use Rattle.invalid_ranges.specs.RangeReasons.{IsReasonAs}
+use Rattle.invalid_ranges.specs.TooLarge.{IsLimitOffset, limit_reason}
+use Rattle.invalid_ranges.specs.Refusals.{IsRefusalAs}
 use Rattle.tool_ranges.specs.declared.dialect.Dialect.{Dialect}
-use Rattle.tool_ranges.specs.declared.refusals.Refusal.{Refusal}
+use Rattle.invalid_ranges.specs.declared.refusals.Refusal.{Refusal}
 
 -- two errors are equal if their parts are
 same : (r s : Refusal) → r.error ≡ s.error → r.offset ≡ s.offset → r.reason ≡ s.reason → r ≡ s

@@ -10,16 +10,7 @@ mod NpmMeanings
 mod MatchedMeanings
 mod CheckedEvents
 pub mod ReadingLaws
-mod Places
-mod RangeErrors
-mod RangeReasons
-mod TooLargeTerms
-mod RangeLeaves
-mod PartialCompletions
-mod WordCompletions
-mod RangeCompletions
-mod CargoCompletions
-pub mod ReadingCompletions
+mod FittingTerms
 mod SatisfiesErrors
 mod HighestMembers
 mod HighestStrings

@@ -9,12 +9,9 @@ pub mod NpmTable
 pub mod IncludedTable
 pub mod Steps
 pub mod Dialects
+pub mod FittingTerms
 pub mod DialectTable
-pub mod Prefixes
-pub mod TooLarge
 pub mod Meanings
-pub mod RangeReasons
-pub mod Refusals
 pub mod Satisfying
 pub mod VersionRanges
 pub mod Highest

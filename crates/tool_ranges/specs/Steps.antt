@@ -5,6 +5,5 @@ pub mod Matching
 pub mod Building
 pub mod CargoReading
 pub mod NpmReading
-pub mod Places
 pub mod Printed
 pub mod SameRanges

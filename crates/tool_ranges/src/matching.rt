@@ -13,7 +13,7 @@ ghost use Rattle.version_sets.specs.PreReleaseRules.{numbers_fit};
 ghost use Rattle.version_sets.specs.Steps.Cuts.{is_in_interval};
 ghost use Rattle.tool_ranges.specs.Dialects.{RefusesAs, SpellsAs, TreeOf, grammar_of};
 ghost use Rattle.tool_ranges.specs.Meanings.{meant_by};
-ghost use Rattle.tool_ranges.specs.TooLarge.{stating, term_fits_as, terms_as};
+ghost use Rattle.tool_ranges.specs.FittingTerms.{stating, term_fits_as, terms_as};
 ghost use Rattle.tool_ranges.specs.Steps.Matching.{Says, begun, counts, ended, lower_of, plain_of};
 ghost use Rattle.tool_ranges.specs.Steps.Matching.{said, states_at, taken, takes_all, term_fits};
 ghost use Rattle.tool_ranges.specs.Steps.Matching.{term_met};
@@ -287,8 +287,10 @@ pub(crate) fn check(range: &str, dialect: Dialect) -> Result<(), RangeError>
     Ok(())
 }
 
+// Determined by: equation.
 /// Returns how many terms with a number come before the first term that doesn't fit.
-pub(crate) fn fitting(range: &str, dialect: Dialect) -> u128
+#[must_use]
+pub fn fitting(range: &str, dialect: Dialect) -> u128
     ensures { (tree : TreeOf dialect) → SpellsAs dialect tree range.now
         → result ≡ prefix_len (term_fits_as dialect) (stating (terms_as dialect tree)) }
 {

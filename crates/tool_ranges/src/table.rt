@@ -253,9 +253,11 @@ pub(crate) fn fits(simple: &Simple<'_>, dialect: Dialect) -> bool
     partial.states_at_most(most) & may_rise(partial, lower, most) & may_rise(partial, upper, most)
 }
 
+// Determined by: equation.
 /// Returns the highest number that a dialect allows.
+#[must_use]
 #[inline(always)]
-pub(crate) fn limit(dialect: Dialect) -> u64
+pub fn limit(dialect: Dialect) -> u64
     ensures { result ≡ limit dialect }
 {
     match dialect {

@@ -11,6 +11,7 @@ pub mod semver_ranges;
 pub mod semver_parser;
 pub mod version_sets;
 pub mod tool_ranges;
+pub mod invalid_ranges;
 pub mod range_terms;
 pub mod release_filter;
 pub mod command_line;

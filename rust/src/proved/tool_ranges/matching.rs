@@ -214,7 +214,8 @@ pub(crate) fn check(range: &str, dialect: Dialect) -> Result<(), RangeError> {
 }
 
 /// Returns how many terms with a number come before the first term that doesn't fit.
-pub(crate) fn fitting(range: &str, dialect: Dialect) -> u128 {
+#[must_use]
+pub fn fitting(range: &str, dialect: Dialect) -> u128 {
     let grammar = dialect.grammar();
     let Ok(mut cursor) = Cursor::new(range, dialect, LowerBounds::Stated) else {
         return 0;

@@ -167,8 +167,9 @@ pub(crate) fn fits(simple: &Simple<'_>, dialect: Dialect) -> bool {
 }
 
 /// Returns the highest number that a dialect allows.
+#[must_use]
 #[inline(always)]
-pub(crate) fn limit(dialect: Dialect) -> u64 {
+pub fn limit(dialect: Dialect) -> u64 {
     match dialect {
         Dialect::Npm => MAX_SAFE_INTEGER,
         Dialect::Cargo | Dialect::CrateCargo | Dialect::CrateNpm => u64::MAX,

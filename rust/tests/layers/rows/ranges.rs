@@ -4,7 +4,7 @@ use super::{versions_of, NOT_ALL};
 use crate::proved::semver_parser::{version, RangeError};
 use crate::proved::tool_ranges::dialect::{self, Dialect};
 use crate::proved::tool_ranges::meaning::{self, Meaning};
-use crate::proved::tool_ranges::refusals;
+use crate::proved::invalid_ranges::refusals;
 
 /// Returns the comparators of a range in a dialect, or the word for its error.
 pub fn rewritten(text: &str, tool: Dialect) -> String {

@@ -4,11 +4,11 @@ use Rattle.semver_ranges.proofs.StatedNumbers.{states_kind}
 use Rattle.tool_ranges.specs.Dialects.{grammar_of}
 use Rattle.tool_ranges.specs.Steps.Cursors.{GivesNext, HasLeftIn}
 use Rattle.tool_ranges.specs.Steps.Matching.{term_fits}
-use Rattle.tool_ranges.specs.TooLarge.{term_fits_as, terms_as}
+use Rattle.tool_ranges.specs.FittingTerms.{term_fits_as, terms_as}
 use Rattle.tool_ranges.proofs.FitCells.{read_fits}
 use Rattle.tool_ranges.proofs.MatchedEvents.{FirstTerm, first_term}
 use Rattle.tool_ranges.proofs.ReadTrees.{complete_as}
-use Rattle.tool_ranges.proofs.TooLargeTerms.{count_all, count_end, count_more, count_none, fitting, text_terms}
+use Rattle.tool_ranges.proofs.FittingTerms.{count_all, count_end, count_more, count_none, fitting, text_terms}
 use Rattle.tool_ranges.proofs.matching.fitting.Goals as goal
 use Rattle.tool_ranges.proofs.matching.fitting.Goals.{In-Simple}
 

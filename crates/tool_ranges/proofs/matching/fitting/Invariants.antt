@@ -4,7 +4,7 @@ use Rattle.semver_ranges.specs.Steps.RangeEvents.{Event}
 use Rattle.tool_ranges.specs.Dialects.{grammar_of}
 use Rattle.tool_ranges.specs.Steps.Cursors.{HasLeftIn, size_of, text_events}
 use Rattle.tool_ranges.specs.Steps.Matching.{term_fits}
-use Rattle.tool_ranges.proofs.TooLargeTerms.{counted}
+use Rattle.tool_ranges.proofs.FittingTerms.{counted}
 use Rattle.tool_ranges.proofs.matching.fitting.Given as goal
 
 abbrev pub invariant-loop-event : goal.invariant-loop-event

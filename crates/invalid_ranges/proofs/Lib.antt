@@ -1,0 +1,10 @@
+mod Places
+mod RangeErrors
+mod RangeReasons
+mod TooLargeWords
+mod RangeLeaves
+mod PartialCompletions
+mod WordCompletions
+mod RangeCompletions
+mod CargoCompletions
+mod ReadingCompletions

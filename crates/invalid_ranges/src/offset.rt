@@ -1,0 +1,120 @@
+//! The offset of the error in an invalid range string: the end of the longest prefix with which
+//! some range begins. It is found by trying, with the dialect's own reader, whether a completion
+//! makes a prefix a range, so there is no second grammar.
+
+ghost use Rattle.std.specs.Prelude.{◌≡◌, ◌≢◌, ◌↔◌, IfErr, IfOk, IsTrue};
+ghost use Rattle.invalid_strings.specs.Prefixes.{IsLongestPrefix};
+ghost use Rattle.tool_ranges.specs.Dialects.{IsTextAs, RefusesAs};
+ghost use Rattle.invalid_ranges.specs.Prefixes.{BeginsAs};
+
+use invalid_strings::longest::{Language, longest_prefix};
+use semver_ranges::RangeError;
+use std::alloc::{AllocError, Global};
+use tool_ranges::dialect::Dialect;
+use tool_ranges::meaning::{self, Meaning};
+use version_sets::PreReleases;
+
+/// The strings that complete a prefix. Which one does depends on the end of the prefix:
+/// - After a number nothing is missing.
+/// - After a dot, an operator or a space: a wildcard.
+/// - After a hyphen or a plus, and after digits with a leading zero: a letter.
+/// - After a bar: another bar.
+/// - After the hyphen of a hyphen range: a space and a wildcard.
+/// - If Cargo allows no wildcard: a number.
+const COMPLETIONS: [&str; 6] = ["", "*", "a", "|", " *", "0"];
+
+/// The range strings of a dialect.
+#[derive(Clone, Copy)]
+struct RangeTexts {
+    dialect: Dialect,
+}
+
+impl Language for RangeTexts {
+    ghost use Rattle.std.specs.Prelude.{◌<◌, length};
+    ghost use Rattle.tool_ranges.specs.Dialects.{IsTextAs};
+    ghost use Rattle.invalid_ranges.specs.Steps.Places.{range_completions};
+
+    ghost is_text = { λ texts. IsTextAs texts.dialect };
+
+    ghost completions = { λ texts. range_completions };
+
+    fn contains(&self, text: &str) -> bool {
+        is_range(self.dialect, text)
+    }
+
+    fn all_completions(&self) -> &[&str] {
+        &COMPLETIONS
+    }
+
+    /// Nothing is missing after a number, an identifier or two bars, also if one more space
+    /// follows. After a single bar the second one is missing, and otherwise a number is.
+    fn likely(&self, prefix: &str) -> usize {
+        match prefix.as_bytes() {
+            [.., b'|', b'|'] => 0,
+            [.., b'|'] => 3,
+            [.., last] | [.., last, b' '] if may_end(*last) => 0,
+            _ => 5,
+        }
+    }
+}
+
+/// Returns whether a range string may end in a byte.
+fn may_end(byte: u8) -> bool {
+    byte.is_ascii_alphanumeric() || matches!(byte, b'*' | b'|')
+}
+
+// Determined by: law result_laws::ranges::one_error_offset.
+/// Returns the byte offset of the first error in an invalid range string: no range in the dialect
+/// begins with a longer prefix of the string. It is 4 in `1.2 || 3` in Cargo's dialect. It is the
+/// length of the string if something is missing at the end, as in `>=`, or if the only error is a
+/// number that is too large.
+///
+/// It takes O(n log n) time for n bytes. If the string is not a range, it allocates one buffer of n
+/// + 8 bytes.
+///
+/// # Errors
+///
+/// `AllocError` if the allocation of the buffer fails.
+pub fn error_offset(alloc: Global, dialect: Dialect, text: &str) -> Result<usize, AllocError>
+    // Some range begins with what is before the offset, and none begins with a longer prefix.
+    ensures offset { IfOk result (λ offset. IsLongestPrefix (BeginsAs dialect) text.now offset) }
+    ensures out_of_memory { IfErr result (λ _. ¬ (IsTextAs dialect text.now)) }
+{
+    if is_range(dialect, text) {
+        return Ok(text.len());
+    }
+    prefix_end(alloc, dialect, text)
+}
+
+/// Returns the end of the longest prefix of a string with which some range begins.
+pub(crate) fn prefix_end(alloc: Global, dialect: Dialect, text: &str) -> Result<usize, AllocError>
+    ensures { IfOk result (λ offset. IsLongestPrefix (BeginsAs dialect) text.now offset) }
+{
+    longest_prefix(alloc, &RangeTexts { dialect }, text)
+}
+
+// Determined by: equation.
+/// Returns whether a string is a range in a dialect, even if one of its numbers is too large.
+/// `1.2 || 3` is one in npm's dialect, but not in Cargo's. It does not allocate.
+pub fn is_range(dialect: Dialect, text: &str) -> bool
+    ensures { IsTrue result ↔ IsTextAs dialect text.now }
+{
+    match check(dialect, text) {
+        Ok(()) => true,
+        Err(RangeError::NumberTooLarge) => true,
+        Err(RangeError::NotARange) => false,
+        Err(RangeError::OutOfMemory) => false,
+    }
+}
+
+/// Returns the error with which a dialect rejects a string, if it does.
+pub(crate) fn check(dialect: Dialect, text: &str) -> Result<(), RangeError>
+    ensures refusals { RefusesAs dialect text.now result }
+    ensures no_memory { result ≢ Err RangeError.OutOfMemory }
+{
+    let meaning = Meaning {
+        dialect,
+        pre_releases: PreReleases::Default,
+    };
+    meaning::check(meaning, text)
+}

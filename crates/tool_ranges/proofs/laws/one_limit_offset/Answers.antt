@@ -1,5 +1,0 @@
-use Rattle.tool_ranges.proofs.Places.{one_limit}
-use Rattle.tool_ranges.proofs.laws.one_limit_offset.Goals as goal
-
-pub returns : goal.returns
-returns c = record { same_offset = one_limit }

@@ -1,5 +1,0 @@
-use Rattle.tool_ranges.proofs.RangeReasons.{one_reason}
-use Rattle.tool_ranges.proofs.laws.one_reason.Goals as goal
-
-pub returns : goal.returns
-returns c = record { same_reason = one_reason }

@@ -1,0 +1,96 @@
+// Made by tools/erase.py from crates/invalid_ranges/src/offset.rt; not edited by hand.
+//! The offset of the error in an invalid range string: the end of the longest prefix with which
+//! some range begins. It is found by trying, with the dialect's own reader, whether a completion
+//! makes a prefix a range, so there is no second grammar.
+
+use crate::rattle_std::prelude::*;
+use crate::proved::invalid_strings::longest::{Language, longest_prefix};
+use crate::proved::semver_ranges::RangeError;
+use crate::rattle_std::AllocError;
+use crate::proved::tool_ranges::dialect::Dialect;
+use crate::proved::tool_ranges::meaning::{self, Meaning};
+use crate::proved::version_sets::PreReleases;
+
+/// The strings that complete a prefix. Which one does depends on the end of the prefix:
+/// - After a number nothing is missing.
+/// - After a dot, an operator or a space: a wildcard.
+/// - After a hyphen or a plus, and after digits with a leading zero: a letter.
+/// - After a bar: another bar.
+/// - After the hyphen of a hyphen range: a space and a wildcard.
+/// - If Cargo allows no wildcard: a number.
+const COMPLETIONS: [&str; 6] = ["", "*", "a", "|", " *", "0"];
+
+/// The range strings of a dialect.
+#[derive(Clone, Copy)]
+struct RangeTexts {
+    dialect: Dialect,
+}
+
+impl Language for RangeTexts {
+    fn contains(&self, text: &str) -> bool {
+        is_range(self.dialect, text)
+    }
+
+    fn all_completions(&self) -> &[&str] {
+        &COMPLETIONS
+    }
+
+    /// Nothing is missing after a number, an identifier or two bars, also if one more space
+    /// follows. After a single bar the second one is missing, and otherwise a number is.
+    fn likely(&self, prefix: &str) -> usize {
+        match prefix.as_bytes() {
+            [.., b'|', b'|'] => 0,
+            [.., b'|'] => 3,
+            [.., last] | [.., last, b' '] if may_end(*last) => 0,
+            _ => 5,
+        }
+    }
+}
+
+/// Returns whether a range string may end in a byte.
+fn may_end(byte: u8) -> bool {
+    byte.is_ascii_alphanumeric() || matches!(byte, b'*' | b'|')
+}
+
+/// Returns the byte offset of the first error in an invalid range string: no range in the dialect
+/// begins with a longer prefix of the string. It is 4 in `1.2 || 3` in Cargo's dialect. It is the
+/// length of the string if something is missing at the end, as in `>=`, or if the only error is a
+/// number that is too large.
+///
+/// It takes O(n log n) time for n bytes. If the string is not a range, it allocates one buffer of n
+/// + 8 bytes.
+///
+/// # Errors
+///
+/// `AllocError` if the allocation of the buffer fails.
+pub fn error_offset(dialect: Dialect, text: &str) -> Result<usize, AllocError> {
+    if is_range(dialect, text) {
+        return Ok(text.len());
+    }
+    prefix_end(dialect, text)
+}
+
+/// Returns the end of the longest prefix of a string with which some range begins.
+pub(crate) fn prefix_end(dialect: Dialect, text: &str) -> Result<usize, AllocError> {
+    longest_prefix(&RangeTexts { dialect }, text)
+}
+
+/// Returns whether a string is a range in a dialect, even if one of its numbers is too large.
+/// `1.2 || 3` is one in npm's dialect, but not in Cargo's. It does not allocate.
+pub fn is_range(dialect: Dialect, text: &str) -> bool {
+    match check(dialect, text) {
+        Ok(()) => true,
+        Err(RangeError::NumberTooLarge) => true,
+        Err(RangeError::NotARange) => false,
+        Err(RangeError::OutOfMemory) => false,
+    }
+}
+
+/// Returns the error with which a dialect rejects a string, if it does.
+pub(crate) fn check(dialect: Dialect, text: &str) -> Result<(), RangeError> {
+    let meaning = Meaning {
+        dialect,
+        pre_releases: PreReleases::Default,
+    };
+    meaning::check(meaning, text)
+}
