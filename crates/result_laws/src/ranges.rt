@@ -4,13 +4,13 @@ ghost use Rattle.std.specs.Prelude.{◌≡◌, alloc_error};
 ghost use Rattle.semver_parser.specs.RangeViews.{set_of};
 ghost use Rattle.result_laws.specs.OneResult.{AreOne, itself};
 
+use invalid_ranges::laws::{one_limit_offset, one_offset, one_reason};
 use invalid_ranges::offset::error_offset;
 use invalid_ranges::refusals::{Refusal, refused};
 use range_terms::terms::Terms;
 use semver_parser::{Compat, RangeError, RangeSet};
 use std::alloc::{AllocError, Global};
 use tool_ranges::dialect::{self, Dialect};
-use tool_ranges::laws::{one_limit_offset, one_offset, one_reason};
 use tool_ranges::{cargo, npm};
 
 /// Two results of `RangeSet::parse`, or of a function below, for the same inputs.
