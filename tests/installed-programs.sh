@@ -1,10 +1,9 @@
 #!/bin/sh
-# Tests the Makefile and ./semver-parser. Needs cargo, gcc and python3.
+# Tests the Makefile. Needs cargo, gcc and python3.
 #
 # - When they build, and when they report an error instead.
 # - A build that fails or is stopped leaves nothing.
 # - What is installed works without anything else, and can be uninstalled.
-# - ./semver-parser passes on input, arguments and the status of the program.
 set -eu
 unset CDPATH
 cd "$(dirname "$0")/.."
@@ -263,114 +262,6 @@ refused_arguments() {
     [ ! -e "$work/one" ] || fail 'something is installed before an error'
 }
 
-# ---- when ./semver-parser proves
-
-# leaves_nothing COMMAND..: runs a command and returns its status, or 99 if it leaves a temporary
-# file.
-leaves_nothing() {
-    mkdir -p "$work/temporary"
-    left=0
-    TMPDIR=$work/temporary "$@" || left=$?
-    [ -z "$(ls -A "$work/temporary")" ] || left=99
-    return "$left"
-}
-
-# stopped_by SIGNAL: a proof that takes ten minutes is stopped by the signal, without waiting for
-# it.
-stopped_by() {
-    rm -rf "$work/temporary" "$work/half"
-    mkdir "$work/temporary"
-    stub rt "echo \$\$ > '$work/half'; exec sleep 600"
-    TMPDIR=$work/temporary env --default-signal="$1" "$small/semver-parser" 1.2.3 > "$work/stdout" 2> "$work/stderr" &
-    script=$! status=0
-    until [ -s "$work/half" ]; do sleep 0.05; done
-    sent=$(date +%s)
-    kill -s "$1" "$script"
-    wait "$script" 2> /dev/null || status=$?
-    [ $(($(date +%s) - sent)) -lt 600 ] || fail "stopped by $1: it waits for the proof"
-    [ "$(kill -l "$status")" = "$1" ] || fail "stopped by $1: status $status"
-    [ -z "$(ls -A "$work/temporary")" ] || fail "stopped by $1: something is left"
-    ! kill -0 "$(cat "$work/half")" 2> /dev/null || fail "stopped by $1: the proof goes on"
-}
-
-# proves COUNT: ./semver-parser has to run, and this many proofs have to have been made so far.
-proves() {
-    ends 7 leaves_nothing "$small/semver-parser" 'a b'
-    has '<a b>' stdout
-    [ "$(wc -l < "$work/proofs")" = "$1" ] || fail "$(wc -l < "$work/proofs") proofs instead of $1"
-    sleep 0.1
-}
-
-# ./semver-parser lets the kit prove and build it if any source is newer. In this small repository,
-# the kit makes a program that prints its argument and exits with 7.
-when_it_proves() {
-    small="$work/in small"
-    proved="$small/crates/semver_parser_main"
-    mkdir -p "$proved/src" "$proved/specs" "$proved/proofs/deep"
-    : > "$proved/proofs/deep/Answers.antt"
-    : > "$small/crates.txt"
-    cp -R tools semver-parser "$small"
-    : > "$work/proofs"
-    proving="[ \"\$*\" = 'run -- 1.2.3' ] && echo proved >> '$work/proofs'
-mkdir -p out && printf '#!/bin/sh\necho \"<\$1>\"\nexit 7\n' > out/semver_parser_main && chmod +x out/semver_parser_main"
-    stub rt "$proving"
-    proves 1
-    proves 1
-    touch "$small/crates.txt"
-    proves 2
-    touch "$proved/proofs/deep/Answers.antt"
-    proves 3
-}
-
-# While the kit proves, standard error names the crates of the program, each when its proof begins:
-# one line for each, and on a terminal one line that is rewritten.
-what_it_proves() {
-    printf '# what\na: thiserror\nb: a\nsemver_parser_main: a\n' > "$small/crates.txt"
-    mkdir -p "$small/crates/a"
-    stub rt "shows() {
-    for turn in \$(seq 300); do ! grep -q \"\$1\" '$work/stdout' '$work/stderr' || return 0; sleep 0.1; done
-}
-sleep 0.1 # So that its time differs from that of the beginning.
-mkdir -p ../a/out && : > ../a/out/begun && shows 'crate 1 of 2: a'
-echo 'so far: 2 of 3 functions checked'
-[ -z \"\$AT_TERMINAL\" ] || shows '2 of 3'
-mkdir -p out && : > out/begun && shows 'crate 2 of 2'
-echo 'so far: 4 of 9 functions checked; the verdict comes last'
-[ -z \"\$AT_TERMINAL\" ] || shows '4 of 9'
-$proving"
-    export AT_TERMINAL=''
-    : > "$work/proofs"
-    proves 1
-    has 'proving semver-parser, which takes several minutes
-crate 1 of 2: a
-crate 2 of 2: semver_parser_main' stderr
-    command -v script > /dev/null || { echo 'installed programs: no script, so no terminal is tested' && return; }
-    touch "$small/crates.txt"
-    rm -r "$small"/crates/*/out
-    AT_TERMINAL=yes
-    ends 7 script -qec "'$small/semver-parser' 'a b' 2>&1" /dev/null
-    tr '\r' '\n' < "$work/stdout" | sed 's/\x1b\[K//' | grep -v '^$' | uniq > "$work/lines"
-    has 'proving semver-parser, which takes several minutes
-crate 1 of 2: a
-crate 1 of 2: a, 2 of 3 functions checked
-crate 2 of 2: semver_parser_main
-crate 2 of 2: semver_parser_main, 4 of 9 functions checked
-<a b>' lines
-}
-
-# After a failed proof it says why, and runs nothing. If it is stopped, it ends by the signal.
-when_a_proof_fails() {
-    touch "$small/crates.txt"
-    stub rt 'echo "not proved"; exit 1'
-    # Even if it fails before the display of progress has begun to wait.
-    for turn in $(seq 30); do ends 2 leaves_nothing timeout 60 "$small/semver-parser" 1.2.3; done
-    grep -qx 'not proved' "$work/stderr" && [ ! -s "$work/stdout" ] || fail 'a program runs that is not proved'
-    for signal in HUP INT TERM; do stopped_by $signal; done
-    stub rt "$proving"
-    : > "$work/proofs"
-    proves 1
-}
-
 # ---- where nothing may be built
 
 # as_another COMMAND..: runs a command as a user who may not write to the checkout. Anyone except
@@ -379,53 +270,37 @@ as_another() {
     if [ "$(id -u)" = 0 ]; then setpriv --reuid=65534 --regid=65534 --clear-groups "$@"; else "$@"; fi
 }
 
-# In a checkout without write permission, what is built runs, and what isn't built is an error.
+# In a checkout without write permission, what is built serves.
 where_nothing_may_be_written() {
-    [ "$(id -u)" = 0 ] || chmod -R a-w "$small" "$checkout"
+    [ "$(id -u)" = 0 ] || chmod -R a-w "$checkout"
     stub cargo 'exit 1'
     stub rustc 'echo /toolchain'
     ends 0 as_another make
-    ends 7 as_another "$small/semver-parser" 1.2.3
-    [ "$(id -u)" = 0 ] || chmod u+w "$small/crates.txt"
-    touch "$small/crates.txt"
-    refuses "semver-parser: semver-parser isn't built, and cannot be: $small may not be written to" as_another "$small/semver-parser" 1.2.3
-    [ "$(id -u)" = 0 ] || chmod -R u+w "$small" "$checkout"
+    [ "$(id -u)" = 0 ] || chmod -R u+w "$checkout"
 }
 
-# In a checkout of another user root builds nothing, but runs and installs what is built there.
+# In a checkout of another user root builds nothing, but installs what is built there.
 where_root_may_not_build() {
     [ "$(id -u)" = 0 ] || { echo 'installed programs: not as root, so what root may not do is not tested' && return; }
-    chown 65534 "$small" "$checkout"
-    root="root builds nothing in a checkout of another user: run make as its owner, then sudo make install"
-    refuses "semver-parser: semver-parser isn't built, and $root" "$small/semver-parser" 1.2.3
+    chown 65534 "$checkout"
     ends 0 make install PREFIX="$work/one"
     ends 0 make uninstall PREFIX="$work/one"
     touch "$checkout/rust/src/lib.rs"
-    refuses "make: the Rust crate isn't built, and $root" make install PREFIX="$work/one"
+    refuses "make: the Rust crate isn't built, and root builds nothing in a checkout of another user: run make as its owner, then sudo make install" make install PREFIX="$work/one"
+    chown 0 "$checkout"
 }
 
-# Without the kit, ./semver-parser runs what cargo builds, and says so.
-where_no_kit_is() {
-    rm "$work/bin/rt"
-    building="mkdir -p out/cargo/release && printf '#!/bin/sh\necho \"<\$1>\"\nexit 7\n' > out/cargo/release/semver-parser
-chmod +x out/cargo/release/semver-parser"
-    stub cargo "cd '$small' && $building"
+# Without cargo, or with one that is too old, what isn't built is an error.
+where_no_cargo_is() {
+    needs='make: needs the command cargo, 1.79 or later (rustup, or from Debian 13 on: apt-get install cargo)'
+    stub cargo 'echo "cargo 1.65.0 (x)"'
+    refuses "$needs" make -s out/cargo/release/semver-parser
+    rm "$work/bin/cargo" "$work/bin/rustc"
     mkdir "$work/tools"
-    for tool in sh dirname readlink id find sed tr date nproc uname make env mktemp rm mkdir chmod; do
+    for tool in sh dirname readlink id find sed tr date nproc uname make env mktemp rm mkdir; do
         ln -s "$(command -v "$tool")" "$work/tools/$tool"
     done
-    [ "$(id -u)" != 0 ] || chown 0 "$small" "$checkout"
-    ends 7 env PATH="$work/bin:$work/tools" "$small/semver-parser" 'a b'
-    has '<a b>' stdout
-    has 'semver-parser: there is no command rt, so nothing is proved, and cargo builds it' stderr
-}
-
-# Without cargo and `rt`, what isn't built is an error.
-where_no_tool_is() {
-    rm "$work/bin/cargo" "$work/bin/rustc"
-    refuses "make: needs the command cargo, 1.79 or later (rustup, or from Debian 13 on: apt-get install cargo)" env PATH="$work/tools" make -s out/cargo/release/semver-parser
-    refuses "semver-parser: semver-parser isn't built, and cannot be: there is no command rt (README names the kit that has it), and no cargo, which builds it unproved" \
-        env PATH="$work/tools" "$small/semver-parser" 1.2.3
+    refuses "$needs" env PATH="$work/tools" make -s out/cargo/release/semver-parser
 }
 
 for tool in cargo cc python3; do
@@ -437,11 +312,7 @@ installed_elsewhere
 sonames
 installed_for_python
 refused_arguments
-when_it_proves
-what_it_proves
-when_a_proof_fails
 where_nothing_may_be_written
 where_root_may_not_build
-where_no_kit_is
-where_no_tool_is
+where_no_cargo_is
 echo 'installed programs: passed'

@@ -3,7 +3,7 @@
 # elsewhere.
 unset CDPATH
 # The directory for temporary files, a file that isn't complete yet, and whether a command runs in
-# the background.
+# a session of its own.
 work='' half='' running=''
 
 # refuse WHY..: prints why in one line, and exits with 2.
@@ -15,22 +15,74 @@ refuse() {
 # begin: makes the directory `work`. It is removed when the script ends or is stopped.
 begin() {
     trap let_go EXIT
-    for signal in HUP INT PIPE TERM; do
-        trap "let_go; trap - EXIT $signal; kill -s $signal $$" "$signal"
+    for signal in HUP INT PIPE QUIT TERM; do
+        trap "trap '' HUP INT PIPE QUIT TERM
+            stop; when_stopped; let_go; trap - EXIT $signal; kill -s $signal $$" "$signal"
     done
     work=$(mktemp -d) || refuse 'cannot make a directory for temporary files'
 }
 
+# What a script does when a signal has stopped it. It may define this anew.
+when_stopped() {
+    :
+}
+
 let_go() {
-    [ -z "$running" ] || { kill "$!" && wait "$!"; } 2> /dev/null || :
+    stop
     rm -rf -- "$half" "$work" 2> /dev/null || rm -rf -- "$half" "$work"
 }
 
-# beside COMMAND..: runs a command without input, so that a signal to the script ends both.
+# start COMMAND..: starts a command without input in a session of its own. Ctrl-C at a terminal
+# doesn't reach that, but `stop` ends all of it.
+start() {
+    running=yes
+    setsid "$@" < /dev/null &
+    running=$!
+}
+
+# stop: ends what `start` began, and all that this began, within two seconds. Most of that is for
+# `rt`, which cleans up after SIGINT only.
+stop() {
+    [ "$running" ] || return 0
+    left=${!-}
+    end_by INT 10 || end_by TERM 3 || end_by KILL 3 || :
+    wait "${!-}" 2> /dev/null || :
+    running=''
+}
+
+# end_by SIGNAL TENTHS: sends a signal to the processes in `left` and all that these began. Returns
+# whether they end within some tenths of a second.
+end_by() {
+    left=$(begun_by $left)
+    kill -s "$1" $left 2> /dev/null || :
+    for tenth in $(seq "$2"); do
+        left=$(begun_by $left)
+        [ "$left" ] || return 0
+        sleep 0.1
+    done
+    return 1
+}
+
+# begun_by PROCESS..: prints these processes, those in their sessions, and all that these began, as
+# far as they haven't ended.
+begun_by() {
+    sed 's/^\([0-9]*\) (.*) /\1 /' /proc/[0-9]*/stat 2> /dev/null | awk -v numbers="$*" '
+        BEGIN { split(numbers, list); for (at in list) wanted[list[at]] }
+        $2 != "Z" { parent[$1] = $3; if ($1 in wanted || $5 in wanted) found[$1] }
+        END {
+            do {
+                more = 0
+                for (it in parent) if (!(it in found) && parent[it] in found) more = found[it] = 1
+            } while (more)
+            for (it in found) print it
+        }'
+}
+
+# beside COMMAND..: runs a command as `start` does, and waits for it.
 beside() {
-    running=yes beside=0
-    "$@" < /dev/null &
-    wait "$!" || beside=$?
+    beside=0
+    start "$@"
+    wait "$running" || beside=$?
     running=''
     return "$beside"
 }
@@ -46,8 +98,9 @@ is_built() {
         -type f ! -name Cargo.lock -newer "$1" -print 2> /dev/null) && [ -z "$newer" ]
 }
 
-# build ARGUMENT..: runs cargo build with the arguments. The files that it makes don't contain the
-# paths of the repository and of the toolchain, so they don't depend on these.
+# build ARGUMENT..: runs cargo build with the arguments, and returns 2 if it fails. The files that
+# it makes don't contain the paths of the repository and of the toolchain, so they don't depend on
+# these.
 build() {
     may_ask || return 0
     may_cargo
@@ -55,11 +108,19 @@ build() {
     flags=$(printf '%s\037' ${RUSTFLAGS-} "--remap-path-prefix=$top=." \
         "--remap-path-prefix=$(rustc --print sysroot)/lib/rustlib/src/rust=/rust")
     beside env -u RUSTFLAGS CARGO_ENCODED_RUSTFLAGS="${flags%?}" cargo build --quiet --release \
-        --offline --manifest-path "$top/Cargo.toml" --target-dir "$top/out/cargo" "$@" || exit 2
+        --offline --manifest-path "$top/Cargo.toml" --target-dir "$top/out/cargo" "$@" || return 2
 }
 
 may_cargo() {
-    command -v cargo > /dev/null || refuse 'needs the command cargo, 1.79 or later (rustup, or from Debian 13 on: apt-get install cargo)'
+    has_cargo || refuse 'needs the command cargo, 1.79 or later (rustup, or from Debian 13 on:' \
+        'apt-get install cargo)'
+}
+
+# has_cargo: returns whether there is a cargo that isn't too old.
+has_cargo() {
+    command -v cargo > /dev/null || return
+    minor=$(cargo --version 2> /dev/null | sed -n 's/^cargo 1\.\([0-9]*\)\..*/\1/p')
+    [ "${minor:-79}" -ge 79 ]
 }
 
 # may_ask: returns whether cargo may write to the repository. If not, and if something isn't built,
