@@ -114,8 +114,7 @@ ends 0
 all=$(grep -c '^ran ' "$work/said")
 SKIPPING='serde.sh documents.py'
 ends 0
-skips 'serde.sh: no tool, so nothing is tested' 'documents.py: no tool, so nothing is tested' \
-    'documents.py: no tool, so nothing is tested'
+skips 'serde.sh: no tool, so nothing is tested' 'documents.py: no tool, so nothing is tested'
 SKIPPING=''
 FAILING='rust-crate.sh c-header.py js-package.sh packages.sh release-filter-runs.sh'
 ends 1
@@ -132,7 +131,7 @@ ends 1
 names_failed programs_were_built
 FAILING='gate.sh documents.py python.sh release.sh' BUILDS_NOTHING=''
 ends 1 all
-runs $((all + 6))
+runs $((all + 9))
 names_failed tests/gate.sh tests/documents.py 'tests/documents.py --must-fail' \
     tests/parallel/python.sh tests/parallel/release.sh
 

@@ -2,7 +2,7 @@
 # Tests the Rust crate in rust/ with cargo:
 #
 # - rust/src/proved is what tools/erase.py writes, byte for byte, and has the tokens of crates/.
-# - tools/erase.py stops at what it doesn't know, and at what it would write wrongly.
+# - tools/erase.py stops at what it doesn't know.
 # - docs/ERASURE.md has each call of std.
 # - cargo's tests pass, with and without the feature std.
 # - The programs write what the kit's build writes.
@@ -138,7 +138,6 @@ packed_by_itself() {
 
 made_anew
 tests/erased.py
-tests/eraser-attacks.py
 tests/std-calls.py
 stops_at_what_it_does_not_know
 cargo_tests
