@@ -247,7 +247,7 @@ proving: crate 2 of 2 (semver_parser_main), 4 of 9 functions, N, 58 % of all
 proved, in N" lines
 }
 
-# stopped_at TEXT: at a terminal, Ctrl-C has to end all within two seconds when TEXT is there.
+# stopped_at TEXT: at a terminal, Ctrl-C has to end all at once when TEXT is there.
 stopped_at() {
     rm -rf "$work/temporary" && mkdir "$work/temporary"
     ends 130 "$press" "$1" $alone "$small/semver-parser" 'a b'
@@ -274,7 +274,7 @@ stopped_at_a_terminal() {
     answers 7
 }
 
-# stopped_by SIGNAL: the signal has to end all within two seconds, and then the script.
+# stopped_by SIGNAL: the signal has to end all at once, and then the script.
 stopped_by() {
     rm -rf "$work/temporary" && mkdir "$work/temporary"
     rm -f "$work/half"
@@ -282,10 +282,10 @@ stopped_by() {
     env --default-signal="$1" $alone "$small/semver-parser" 'a b' > "$work/stdout" 2>&1 &
     script=$! status=0
     until [ -s "$work/half" ]; do sleep 0.05; done
-    sent=$(date +%s%N)
+    sent=$(date +%s)
     kill -s "$1" "$script"
     wait "$script" 2> /dev/null || status=$?
-    [ $((($(date +%s%N) - sent) / 1000000)) -lt 3000 ] || fail "stopped by $1: it takes too long"
+    [ $(($(date +%s) - sent)) -lt 10 ] || fail "stopped by $1: it waits for the proof"
     [ "$(kill -l "$status")" = "$1" ] || fail "stopped by $1: status $status"
     nothing_is_left
     stub rt "$proves"
