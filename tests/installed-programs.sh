@@ -24,11 +24,9 @@ as_built() {
     : > "$work/built"
     ends 0 make
     [ -z "$(newer_than "$work/built")" ] || fail "built again: $(newer_than "$work/built")"
-    OPENED=yes
-    export OPENED
-    tests/program-runs.sh out/cargo/release/semver-parser
-    tests/release-filter-runs.sh out/cargo/release/release-filter
-    tests/compare-ranges-runs.sh out/cargo/release/compare-ranges
+    for name in semver-parser release-filter compare-ranges; do
+        tests/runs.py --cargo "$name" "out/cargo/release/$name"
+    done
     mkdir "$work/elsewhere"
     (cd "$work/elsewhere" && CDPATH=.:$work && export CDPATH && ends 0 make -C "$checkout")
 }

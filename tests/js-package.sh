@@ -61,7 +61,7 @@ done
 node --test package.test.mjs > "$work/log" 2>&1 || { cat "$work/log" && fail 'its tests fail'; }
 passed=$(sed -n 's/^# pass //p' "$work/log")
 cp "$top/docs/examples/js/raise-requirement.cjs" .
-"$top/tests/raise-runs.sh" node raise-requirement.cjs
+"$top/tests/runs.py" raise-requirement node "$PWD/raise-requirement.cjs"
 types='no tsc (Debian: apt-get install node-typescript), so its types are not checked'
 if command -v tsc > /dev/null; then
     cp "$top/js/tests/types.ts" types.mts

@@ -99,10 +99,10 @@ stops_at_what_it_does_not_know() {
 programs_run() {
     quietly 'the programs' cargo build --quiet --release --bins --examples
     programs=${CARGO_TARGET_DIR:-target}/release
-    OPENED=yes tests/program-runs.sh "$programs/semver-parser"
-    OPENED=yes tests/release-filter-runs.sh "$programs/release-filter"
-    OPENED=yes tests/compare-ranges-runs.sh "$programs/compare-ranges"
-    tests/raise-runs.sh "$programs/examples/raise-requirement"
+    for name in semver-parser release-filter compare-ranges; do
+        tests/runs.py --cargo "$name" "$programs/$name"
+    done
+    tests/runs.py raise-requirement "$programs/examples/raise-requirement"
     tools/draw-boundaries.py "$programs/compare-ranges" | cmp - docs/boundaries.svg
 }
 

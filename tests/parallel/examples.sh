@@ -70,6 +70,6 @@ same 'Python, no line' 0 /dev/null /dev/null /dev/null $in_python
 echo 'the output can'"'"'t be written: No space left on device' > "$work/no-output"
 same 'C, no output of a raised requirement' 2 /dev/null /dev/null "$work/no-output" \
     sh -c 'exec "$@" > /dev/full' - c/out/raise-requirement ^1.2 2.5.1
-"$top/tests/raise-runs.sh" c/out/raise-requirement
-"$top/tests/raise-runs.sh" python3 python/raise_requirement.py
+"$top/tests/runs.py" raise-requirement c/out/raise-requirement
+"$top/tests/runs.py" raise-requirement python3 "$PWD/python/raise_requirement.py"
 echo 'examples: passed'

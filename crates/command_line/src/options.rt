@@ -57,7 +57,7 @@ impl MeaningOptions {
         }
     }
 
-    // Determined by: free, UnknownDialect or Unreadable: ../../tests/release-filter-runs.sh.
+    // Determined by: free, UnknownDialect or Unreadable: ../../tests/runs/release-filter.
     /// Takes an argument. Returns whether it is one of these options, or the name after `--dialect`
     /// or `--as`. Other arguments are left to the program.
     ///
