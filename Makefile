@@ -44,9 +44,12 @@ begin = self=make top=$$PWD && . tools/built.sh && begin && umask 022; \
 	case $$PREFIX in '') refuse 'PREFIX is empty' ;; /*) ;; *) PREFIX=$$PWD/$$PREFIX ;; esac; \
 	PREFIX=$${PREFIX%/} to=$${DESTDIR-}$${PREFIX%/}
 
-all: $(built)/semver-parser out/lib/$(shared) out/lib/libsemver_parser.a
+built_files := $(built)/semver-parser out/lib/$(shared) out/lib/libsemver_parser.a
+all: $(built_files)
+	printf 'built %s\n' $(programs:%=$(built)/%) $(filter out/lib/%,$^)
 clean:
 	rm -rf out/cargo out/lib out/man
+	echo 'removed out/cargo, out/lib and out/man'
 
 # cargo is always called, and determines what is out of date. It doesn't touch what it doesn't
 # rebuild.
@@ -90,7 +93,7 @@ out/man/made: $(capi)/include/semver_parser.h $(types) tools/make-manuals.py VER
 	: > $@
 
 # Installs below DESTDIR and PREFIX.
-stage stage-python: all out/man/made
+stage stage-python: $(built_files) out/man/made
 	$(begin)
 	install -D -t "$$to/bin" $(programs:%=$(built)/%)
 	install -D -m 644 -t "$$to/include" $(capi)/include/semver_parser.h

@@ -21,6 +21,11 @@ newer_than() {
 # `cd` elsewhere.
 as_built() {
     ends 0 make
+    has 'built out/cargo/release/semver-parser
+built out/cargo/release/release-filter
+built out/cargo/release/compare-ranges
+built out/lib/libsemver_parser.so.1.0.0
+built out/lib/libsemver_parser.a' stdout
     : > "$work/built"
     ends 0 make
     [ -z "$(newer_than "$work/built")" ] || fail "built again: $(newer_than "$work/built")"
