@@ -293,17 +293,24 @@ where_root_may_not_build() {
     chown 0 "$checkout"
 }
 
-# Without cargo, or with one that is too old, what isn't built is an error.
-where_no_cargo_is() {
-    needs='make: needs the command cargo, 1.79 or later (rustup, or from Debian 13 on: apt-get install cargo)'
-    stub cargo 'echo "cargo 1.65.0 (x)"'
-    refuses "$needs" make -s out/cargo/release/semver-parser
-    rm "$work/bin/cargo" "$work/bin/rustc"
+# cannot_make WHY: make names a tool that is missing or too old before anything is built.
+cannot_make() {
+    refuses "make: needs $1" env -u CARGO_HOME HOME="$work" PATH="$work/bin:$work/tools" \
+        make -s out/cargo/release/semver-parser
+}
+
+# Without a linker, with a cargo that is too old, and without cargo, what isn't built is an error.
+where_no_tool_is() {
+    from='(rustup; Debian 12: apt-get install cargo-web; from Debian 13 on: apt-get install cargo)'
     mkdir "$work/tools"
-    for tool in sh dirname readlink id find sed tr date nproc uname make env mktemp rm mkdir; do
+    for tool in sh dirname readlink id find sed tr date nproc uname make env mktemp rm mkdir grep; do
         ln -s "$(command -v "$tool")" "$work/tools/$tool"
     done
-    refuses "$needs" env PATH="$work/tools" make -s out/cargo/release/semver-parser
+    cannot_make 'a linker, the command cc (Debian: apt-get install gcc libc6-dev)'
+    stub cargo 'echo cargo 1.78.0'
+    cannot_make "cargo 1.79 or later, and the command cargo is 1.78.0 $from"
+    rm "$work/bin/cargo" "$work/bin/rustc"
+    cannot_make "the command cargo, 1.79 or later $from"
 }
 
 for tool in cargo cc python3; do
@@ -317,5 +324,5 @@ installed_for_python
 refused_arguments
 where_nothing_may_be_written
 where_root_may_not_build
-where_no_cargo_is
+where_no_tool_is
 echo 'installed programs: passed'

@@ -104,6 +104,7 @@ is_built() {
 build() {
     may_ask || return 0
     may_cargo
+    may_link
     unset MAKEFLAGS MFLAGS
     flags=$(printf '%s\037' ${RUSTFLAGS-} "--remap-path-prefix=$top=." \
         "--remap-path-prefix=$(rustc --print sysroot)/lib/rustlib/src/rust=/rust")
@@ -111,16 +112,34 @@ build() {
         --offline --manifest-path "$top/Cargo.toml" --target-dir "$top/out/cargo" "$@" || return 2
 }
 
+# may_cargo: exits if there is no cargo, or one that is too old.
 may_cargo() {
-    has_cargo || refuse 'needs the command cargo, 1.79 or later (rustup, or from Debian 13 on:' \
-        'apt-get install cargo)'
+    from='(rustup; Debian 12: apt-get install cargo-web; from Debian 13 on: apt-get install cargo)'
+    command -v cargo > /dev/null || refuse "needs the command cargo, $(oldest) or later $from"
+    has_cargo ||
+        refuse "needs cargo $(oldest) or later, and the command cargo is $found $from"
 }
 
-# has_cargo: returns whether there is a cargo that isn't too old.
+# has_cargo: returns whether there is a cargo that isn't too old. `found` is its version.
 has_cargo() {
     command -v cargo > /dev/null || return
-    minor=$(cargo --version 2> /dev/null | sed -n 's/^cargo 1\.\([0-9]*\)\..*/\1/p')
-    [ "${minor:-79}" -ge 79 ]
+    found=$(cargo --version 2> /dev/null | sed -n 's/^cargo \([^ ]*\).*/\1/p')
+    minor=$(echo "$found" | sed -n 's/^1\.\([0-9]*\)\..*/\1/p')
+    [ -z "$minor" ] || [ "$minor" -ge "$(oldest | sed 's/1\.//')" ]
+}
+
+# oldest: prints the oldest cargo that can build everything, as cargo itself reads it.
+oldest() {
+    sed -n 's/^rust-version = "\(.*\)"$/\1/p' "$top/rust/capi/Cargo.toml"
+}
+
+# may_link: exits if rustc would find no linker. It runs cc, unless a variable or a setting of cargo
+# names another command.
+may_link() {
+    settings=${CARGO_HOME:-${HOME-}/.cargo}
+    command -v cc > /dev/null || env | grep -q 'LINKER=\|linker=' ||
+        grep -qs '^ *linker' "$settings/config.toml" "$settings/config" ||
+        refuse 'needs a linker, the command cc (Debian: apt-get install gcc libc6-dev)'
 }
 
 # may_ask: returns whether cargo may write to the repository. If not, and if something isn't built,

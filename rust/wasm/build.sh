@@ -10,12 +10,8 @@ set -eu
 # What make sets for its own has rustc warn.
 unset MAKEFLAGS MFLAGS
 wasm=$(dirname -- "$(readlink -f -- "$0")")
-target=wasm32-unknown-unknown
-
-refuse() {
-    echo "rust/wasm/build.sh: $*" >&2
-    exit 2
-}
+top=${wasm%/rust/wasm} self=rust/wasm/build.sh target=wasm32-unknown-unknown
+. "$top/tools/built.sh"
 
 # has COMPILER: whether it has a standard library for the target, or the sources of one.
 has() {
@@ -25,10 +21,11 @@ has() {
     [ -d "$library/$target/lib" ] || [ -d "$sources/core" ]
 }
 
-command -v cargo > /dev/null || refuse 'needs the command cargo (Debian: apt-get install cargo-web)'
+may_cargo
 for compiler in "${RUSTC:-rustc}" /usr/bin/rustc ''; do
     [ "$compiler" ] || refuse "needs a standard library for $target (rustup target add $target;" \
-        'Debian: apt-get install rustc-web rust-web-src lld)'
+        'Debian 12: apt-get install rustc-web rust-web-src lld;' \
+        'from Debian 13 on: apt-get install libstd-rust-dev-wasm32 lld)'
     ! has "$compiler" || break
 done
 export RUSTC="$compiler"

@@ -158,15 +158,27 @@ described_by_setuptools() {
     is_described_alike "$wheel" "$work"/by-setuptools/*.whl
 }
 
-# ends_without_cargo: without cargo, pip prints one sentence that says so.
-ends_without_cargo() {
+# pip_says WHY: with only the commands in `tools`, pip prints one sentence that says what is wrong.
+pip_says() {
     status=0
-    env PATH=/nowhere "$work/environment/bin/python" -m pip --isolated --disable-pip-version-check \
-        wheel --no-index --no-cache-dir --wheel-dir "$work/none" "$top" > "$work/told" 2>&1 ||
-        status=$?
-    why="the library is built by the command cargo, 1\.79 or later, which isn't there"
-    [ "$status" = 1 ] && grep -q "^ *semver-parser-proved: $why" "$work/told" &&
-        grep -q '\[1 lines of output\]' "$work/told" || refuse "without cargo: $(cat "$work/told")"
+    env -u CARGO_HOME HOME="$work" PATH="$work/tools" "$work/environment/bin/python" -m pip \
+        --isolated --disable-pip-version-check wheel --no-index --no-cache-dir \
+        --wheel-dir "$work/none" "$top" > "$work/told" 2>&1 || status=$?
+    [ "$status" = 1 ] && grep -q "^ *semver-parser-proved: the library is $1" "$work/told" &&
+        grep -q '\[1 lines of output\]' "$work/told" || refuse "instead of $1: $(cat "$work/told")"
+}
+
+# ends_without_tools: without cargo, with one that is too old, and without a linker.
+ends_without_tools() {
+    mkdir "$work/tools"
+    pip_says "built by the command cargo, 1\.79 or later, which isn't there"
+    for tool in cargo rustc; do
+        printf '#!/bin/sh\necho cargo 1.78.0\n' > "$work/tools/$tool"
+        chmod +x "$work/tools/$tool"
+    done
+    pip_says 'built by cargo 1\.79 or later, and the command cargo is 1\.78\.0'
+    printf '#!/bin/sh\necho cargo 1.79.0\n' > "$work/tools/cargo"
+    pip_says "linked by the command cc, which isn't there"
 }
 
 if ! "$python" -c 'import ensurepip' 2> /dev/null; then
@@ -189,7 +201,7 @@ grep -q "^ *semver_parser/libsemver_parser\.so\.[0-9.]*$" "$work/lines" || refus
 "$work/environment/bin/python" -c 'from importlib.metadata import requires
 assert requires("semver-parser-proved") == ["PyYAML; extra == \"pnpm\""], requires("semver-parser-proved")'
 passes_with "$(find "$work/environment" -name 'libsemver_parser.so.*')"
-ends_without_cargo
+ends_without_tools
 
 # The archive of sources, made twice, and the wheel that is built from it.
 for directory in sources sources-again; do

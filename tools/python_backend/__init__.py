@@ -6,20 +6,21 @@ import tempfile
 from pathlib import Path
 
 from . import archives
-from .library import CannotBuild, build, require_cargo
+from .library import CannotBuild, build, require_tools
 from .project import info_directory, info_files, read_project
 
 
-def needs_cargo(config_settings=None):
-    """Returns what pip has to install for a build, which is nothing. Exits if there is no cargo."""
+def needed(config_settings=None):
+    """Returns what pip has to install for a build, which is nothing. Exits if a tool is missing that
+    pip can't install."""
     try:
-        require_cargo()
+        require_tools()
     except CannotBuild as error:
         sys.exit(f"semver-parser-proved: {error}")
     return []
 
 
-get_requires_for_build_wheel = get_requires_for_build_editable = needs_cargo
+get_requires_for_build_wheel = get_requires_for_build_editable = needed
 
 
 def get_requires_for_build_sdist(config_settings=None):

@@ -43,6 +43,10 @@ OLDEST_MACOS = {"x86_64": (10, 12), "arm64": (11, 0)}
 
 DYNAMIC, NEEDED = 6, 1
 
+WHERE_CARGO_IS = (
+    "(rustup; Debian 12: apt-get install cargo-web; from Debian 13 on: apt-get install cargo)"
+)
+
 
 class CannotBuild(Exception):
     """Why there is no library, in one sentence."""
@@ -51,14 +55,42 @@ class CannotBuild(Exception):
 # ---- building it
 
 
-def require_cargo():
-    """Raises an error if cargo or rustc isn't there."""
+def require_tools():
+    """Raises an error if cargo, rustc or a linker isn't there, or if cargo is too old."""
+    oldest = oldest_cargo()
     for name in ("cargo", "rustc"):
         if shutil.which(command_of(name)) is None:
             raise CannotBuild(
-                f"the library is built by the command {name}, 1.79 or later, which isn't there "
-                "(get it by rustup, or from Debian 13 on: apt-get install cargo)"
+                f"the library is built by the command {name}, {oldest} or later, which isn't there "
+                f"{WHERE_CARGO_IS}"
             )
+    run = subprocess.run([command_of("cargo"), "--version"], capture_output=True, check=False)
+    found = re.match(rb"cargo (1\.(\d+)\S*)", run.stdout)
+    if found and int(found[2]) < int(oldest.split(".")[1]):
+        raise CannotBuild(
+            f"the library is built by cargo {oldest} or later, and the command cargo is "
+            f"{found[1].decode()} {WHERE_CARGO_IS}"
+        )
+    if sys.platform == "linux" and shutil.which("cc") is None and not has_other_linker():
+        raise CannotBuild(
+            "the library is linked by the command cc, which isn't there "
+            "(Debian: apt-get install gcc libc6-dev)"
+        )
+
+
+def oldest_cargo():
+    """Returns the oldest version of cargo that can build the library, as cargo itself reads it."""
+    manifest = (TOP / "rust/capi/Cargo.toml").read_text(encoding="utf-8")
+    return re.findall(r'^rust-version = "(.*)"$', manifest, re.M)[0]
+
+
+def has_other_linker():
+    """Returns whether a variable or a setting of cargo names a linker."""
+    home = Path(os.environ.get("CARGO_HOME") or Path.home() / ".cargo")
+    files = [it for it in (home / "config.toml", home / "config") if it.is_file()]
+    settings = [it.read_text(encoding="utf-8") for it in files]
+    variables = [f"{name}={value}" for name, value in os.environ.items()]
+    return bool(re.search("^ *linker|LINKER=|linker=", "\n".join(settings + variables), re.M))
 
 
 def command_of(name):
@@ -69,7 +101,7 @@ def command_of(name):
 def build(directory):
     """Builds the library with cargo from a copy of its sources in an empty directory, so that
     nothing is written to the repository. Returns the path of the library."""
-    require_cargo()
+    require_tools()
     for name in SOURCES:
         if (TOP / name).is_dir():
             shutil.copytree(TOP / name, directory / name, ignore=shutil.ignore_patterns(*LEFT_OUT))
