@@ -27,8 +27,8 @@
 # - semver-suite: the tests of Cargo's crate semver 1.0.14, run with rust/ and Dialect::Cargo by a
 #   shim with semver's names: which assertions fail (cargo, python3 and librust-semver-dev)
 # - targets: the rows, the library tests and the tests of failing allocations of rust/ on i686, and
-#   on aarch64 with qemu, and cargo check for each other target that is installed (cargo, Debian's
-#   rustc-web, its std for these, gcc for both, libc6-i386 and qemu-user)
+#   on aarch64 and s390x with qemu, and cargo check for each other target that is installed (cargo,
+#   Debian's rustc-web, its std for these, gcc for all three, libc6-i386 and qemu-user)
 # - js: node-semver as npm ships it, each of its calls that the JavaScript package has (npm, and
 #   what rust/wasm/build.sh needs)
 # - node-suite [--show]: the tests of node-semver 7.6.1, run with the JavaScript package by a shim

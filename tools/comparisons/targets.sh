@@ -1,7 +1,9 @@
 # Tests rust/ for other processors; sourced by tools/compare.sh. It runs the rows, the library tests
 # and the tests of failing allocations, with overflow checks and Debian's std, for i686, which this
-# processor runs, and for aarch64 with qemu. It runs `cargo check` for each other target that has a
-# std. The packages are unpacked into a temporary directory.
+# processor runs, and with qemu for aarch64 and for s390x, which is big-endian. It skips s390x if its
+# compiler isn't installed, or if Debian has no std for it in the version of rustc-web: Debian 12 has
+# one for rustc-web 1.85, but not for the later versions. It runs `cargo check` for each other target
+# that has a std. The packages are unpacked into a temporary directory.
 for tool in /usr/bin/rustc=rustc-web aarch64-linux-gnu-gcc=gcc-aarch64-linux-gnu \
     i686-linux-gnu-gcc=gcc-i686-linux-gnu qemu-aarch64=qemu-user /lib/ld-linux.so.2=libc6-i386; do
     command -v "${tool%=*}" > /dev/null || {
@@ -27,11 +29,12 @@ apt_of() {
         -o Dir::Cache="$folder/$architecture" -o APT::Sandbox::User=root "$@"
 }
 
-# unpack ARCHITECTURE TARGET: puts the std for a target next to this machine's.
+# unpack ARCHITECTURE TARGET: puts the std for a target next to this machine's. Returns whether Debian
+# has it. If a list can't be updated, the others are used.
 unpack() {
-    apt_of "$1" update
-    (cd "$folder" && apt_of "$1" download "libstd-rust-web-dev=$version")
-    dpkg -x "$folder"/libstd-rust-web-dev_*_"$1".deb "$folder/sysroot-$2"
+    apt_of "$1" update || :
+    (cd "$folder" && apt_of "$1" download "libstd-rust-web-dev=$version") &&
+        dpkg -x "$folder"/libstd-rust-web-dev_*_"$1".deb "$folder/sysroot-$2"
 }
 
 # pass TARGET COMPILER [RUNNER..]: runs all tests of the crate.
@@ -48,6 +51,13 @@ unpack i386 i686-unknown-linux-gnu
 pass i686-unknown-linux-gnu i686-linux-gnu-gcc env
 unpack arm64 aarch64-unknown-linux-gnu
 pass aarch64-unknown-linux-gnu aarch64-linux-gnu-gcc qemu-aarch64 -L /usr/aarch64-linux-gnu
+if ! command -v s390x-linux-gnu-gcc > /dev/null; then
+    echo 'compare: no s390x-linux-gnu-gcc (Debian: gcc-s390x-linux-gnu), so s390x is skipped'
+elif unpack s390x s390x-unknown-linux-gnu; then
+    pass s390x-unknown-linux-gnu s390x-linux-gnu-gcc qemu-s390x -L /usr/s390x-linux-gnu
+else
+    echo "compare: Debian has no libstd-rust-web-dev $version for s390x, so s390x is skipped"
+fi
 unset RUSTC
 here=$(rustc -vV | sed -n 's/^host: //p')
 for target in "$(rustc --print sysroot)"/lib/rustlib/*-*-*/lib; do
