@@ -2,8 +2,8 @@
 # Tests each command with which README installs something, for a user who has cargo, Python and the
 # system, but no kit, nothing installed and no variable set, and no network if the system can hide
 # it. `URL` in the commands is a clone of the files that git lists, as they are now, and `REV` is
-# its commit. Needs cargo, git and python3. Skips what needs pre-commit, PyYAML or ensurepip if that
-# is missing.
+# its commit. Needs cargo, git and python3. Skips what needs pipx, pre-commit, PyYAML or ensurepip if
+# that is missing.
 set -eu
 unset CDPATH
 cd "$(dirname "$0")/.."
@@ -87,19 +87,67 @@ block_after() {
         here { print substr($0, 5) }' "$top/README.md"
 }
 
+# The pages and debian/control name the oldest cargo that can build everything, and README the oldest
+# Rust for the crate, as cargo reads them.
+the_oldest_cargo() {
+    : > "$work/log"
+    oldest=$(sed -n 's/^rust-version = "\(.*\)"$/\1/p' rust/capi/Cargo.toml)
+    for page in README.md python/README.md; do
+        tr '\n' ' ' < "$page" | grep -q "cargo $oldest or later" ||
+            fails "$page has another version of cargo than rust/capi/Cargo.toml"
+    done
+    grep -q "cargo (>= $oldest), .*rustc (>= $oldest)" debian/control ||
+        fails 'debian/control has another version of cargo than rust/capi/Cargo.toml'
+    oldest=$(sed -n 's/^rust-version = "\(.*\)"$/\1/p' rust/Cargo.toml)
+    grep -q "Rust $oldest is enough" README.md && grep -q "Rust $oldest or later" rust/README.md ||
+        fails 'README.md or rust/README.md has another version of Rust than rust/Cargo.toml'
+}
+
+# has_ensurepip: returns whether python3 can make an environment.
+has_ensurepip() {
+    command -v "$python" > /dev/null && alone "$python" -c 'import ensurepip' 2> /dev/null && return
+    echo 'installs: no ensurepip (Debian: python3-venv), so pip is not tested'
+    return 1
+}
+
+# The first commands of README, pasted into a shell: they install the programs and the checkers.
+first_commands() {
+    has_ensurepip || return 0
+    awk '/^    cargo install --git URL/ { here = 1 }
+        here && !/^    / { exit }
+        here { print substr($0, 5) }' README.md | sed "s|URL|file://$address|" > "$work/pasted"
+    [ "$(wc -l < "$work/pasted")" = 4 ] || fails 'README has other first commands'
+    echo 'PATH=$HOME/.cargo/bin:$PATH; cd "$1"; compare-ranges 1.2; check-lock-file' >> "$work/pasted"
+    mkdir "$work/elsewhere"
+    (cd "$work/elsewhere" && ends 1 sh -e "$work/pasted" "$work/monorepo")
+    { block_after 'compare-ranges 1.2' && cat "$work/found"; } > "$work/wanted"
+    sed -n '/^cargo: /,$p' "$work/output" > "$work/last"
+    lists last wanted
+}
+
 # Python: installs the package with its library and the checkers, by the URL and in the clone.
 for_python() {
-    command -v "$python" > /dev/null && alone "$python" -c 'import ensurepip' 2> /dev/null ||
-        { echo 'installs: no ensurepip (Debian: python3-venv), so pip is not tested' && return; }
-    for command in "$(as_written 'pip install git+URL')" "$(as_written 'pip install .')"; do
+    has_ensurepip || return 0
+    for command in '.venv/bin/pip install git+URL' '.venv/bin/pip install .'; do
         rm -rf "$work/environment"
-        ends 0 python3 -m venv "$work/environment"
-        (cd "$clone" && ends 0 sh -c ". '$work/environment/bin/activate' && $command")
+        ends 0 sh -c "$(as_written 'python3 -m venv .venv' | sed "s|\.venv|$work/environment|")"
+        (cd "$clone" && ends 0 sh -c "$(as_written "$command" | sed "s|\.venv|$work/environment|")")
         (cd "$work/monorepo" && ends 1 "$work/environment/bin/check-lock-file")
         lists output found
         [ -z "$(git -C "$clone" status --short --ignored | grep -v __pycache__)" ] ||
             fails "$command leaves something in the clone"
     done
+}
+
+# The checkers by pipx, from the clone's path, since pipx accepts no URL with file://. pipx first
+# makes an environment of its own, and tries to update pip there.
+for_pipx() {
+    alone sh -c 'command -v pipx' > /dev/null ||
+        { echo 'installs: no pipx (Debian: pipx), so it is not tested' && return; }
+    as_written 'pipx install git+URL' > /dev/null
+    ends 0 env PIP_RETRIES=0 pipx install "$clone"
+    (cd "$work/monorepo" && ends 1 "$work/home/.local/bin/check-lock-file")
+    lists output found
 }
 
 # The wheel by its URL and SHA-256, as in README: pip installs it, and rejects any other sum.
@@ -242,7 +290,10 @@ for_github() {
 }
 
 make_clone
+the_oldest_cargo
+first_commands
 for_python
+for_pipx
 for_python_by_a_sum
 for_cargo
 for_pre_commit

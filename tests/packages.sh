@@ -230,6 +230,22 @@ packages_serve() {
     try_python "$whole" "$whole/lib/$triplet"
 }
 
+# apt would install the packages by the command of README, and refuses one alone that needs another.
+apt_installs_all() {
+    grep -qF '`apt install ../*semver-parser*.deb`' "$top/README.md" ||
+        fail 'README has another command for apt'
+    dpkg -s libc6 libgcc-s1 python3 > /dev/null 2>&1 ||
+        { echo "packages: Debian's python3 is not installed, so apt is not asked" && return; }
+    ends 0 apt-get --simulate install "$packages"/*semver-parser*.deb
+    sed -n 's/^Inst \([^ ]*\) .*/\1/p' "$work/stdout" | LC_ALL=C sort > "$work/list"
+    has 'libsemver-parser-dev
+libsemver-parser1
+python3-semver-parser
+semver-parser-checkers
+semver-parser-proved' list
+    ends 100 apt-get --simulate install "$packages/$checkers"
+}
+
 # lintian, if it is installed, has nothing to report that isn't explained in a comment. What looks
 # like a misspelt word in the code of a program isn't one.
 lint() {
@@ -269,6 +285,7 @@ if dpkg-checkbuilddeps -d "$(sed -n 's/^Build-Depends: //p' debian/control | sed
     packages_made_twice
     packages_have
     packages_serve
+    apt_installs_all
     lint
 else
     echo "packages: what debian/control builds with is missing, so Debian's packages are not tested"
