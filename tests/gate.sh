@@ -55,9 +55,6 @@ make_copy() {
     for script in $(grep -o 'tests/[a-z-]*\.[a-z]*' test) rust/wasm/build.sh; do
         stub "$copy/$script" ''
     done
-    for script in program-runs release-filter-runs compare-ranges-runs; do
-        stub "$copy/tests/$script.sh" ''
-    done
     for script in c.sh python.sh examples.sh checkers.sh release.sh audit.py; do
         stub "$copy/tests/parallel/$script" ''
     done
@@ -224,12 +221,16 @@ SKIPPING='serde.sh documents.py'
 ends 0
 skips 'serde.sh: no tool, so nothing is tested' 'documents.py: no tool, so nothing is tested'
 SKIPPING=''
-FAILING='rust-crate.sh c-header.py js-package.sh packages.sh release-filter-runs.sh'
+FAILING='rust-crate.sh c-header.py js-package.sh packages.sh runs.py'
 ends 1
 runs "$all"
 names_failed tests/rust-crate.sh tests/c-header.py tests/js-package.sh tests/packages.sh \
-    'tests/release-filter-runs.sh crates/release_filter_main/out/release_filter_main' \
-    'tests/release-filter-runs.sh crates/release_filter_main/out/release_filter_main.by-rattle'
+    'tests/runs.py semver-parser crates/semver_parser_main/out/semver_parser_main' \
+    'tests/runs.py semver-parser crates/semver_parser_main/out/semver_parser_main.by-rattle' \
+    'tests/runs.py release-filter crates/release_filter_main/out/release_filter_main' \
+    'tests/runs.py release-filter crates/release_filter_main/out/release_filter_main.by-rattle' \
+    'tests/runs.py compare-ranges crates/compare_ranges_main/out/compare_ranges_main' \
+    'tests/runs.py compare-ranges crates/compare_ranges_main/out/compare_ranges_main.by-rattle'
 FAILING=rt
 ends 1
 names_failed 'rt ci' refuse_each_request
@@ -255,7 +256,7 @@ if PATH=$tools command -v rt > /dev/null; then
 else
     ends 2
     runs $((all - 8))
-    ! grep -q '^ran .*\(rt\|runs.sh\)' "$work/said" || fail 'something of the kit runs'
+    ! grep -q '^ran .*\(rt\|runs.py\)' "$work/said" || fail 'something of the kit runs'
     tail -n 1 "$work/said" | grep -q '^test: there is no command rt, so these were not run: the ' ||
         fail 'it does not say what was not run'
     ends 2 all
