@@ -81,14 +81,13 @@ out/lib/$(shared) out/lib/libsemver_parser.a &: $(built)/libsemver_parser.a \
 		-Wl,-z,defs,-z,text,-z,noexecstack,-z,relro,-z,now semver_parser.o
 	mv $(shared) libsemver_parser.a "$$top/out/lib"
 
-# A manual page for each function and each type of the header.
-types := $(wildcard docs/man/semver_parser_*.3)
-out/man/made: $(capi)/include/semver_parser.h $(types) tools/make-manuals.py VERSION \
-		debian/changelog
+# All manual pages.
+out/man/made: $(wildcard docs/manual/*.md) docs/RANGES.md $(capi)/include/semver_parser.h \
+		tools/make-manuals.py tools/roff.py VERSION debian/changelog
 	$(begin)
 	command -v python3 > /dev/null || refuse 'needs the command python3'
 	rm -rf out/man
-	python3 tools/make-manuals.py $(version) $(date) "$$work/man" $(types) < $<
+	python3 tools/make-manuals.py $(version) $(date) "$$work/man"
 	mkdir -p out && mv "$$work/man" out/man
 	: > $@
 
@@ -99,8 +98,7 @@ stage stage-python: $(built_files) out/man/made
 	install -D -m 644 -t "$$to/include" $(capi)/include/semver_parser.h
 	install -D -m 644 -t "$$to/$(LIBDIR)" out/lib/$(shared) out/lib/libsemver_parser.a
 	for name in $(soname) libsemver_parser.so; do ln -sf $(shared) "$$to/$(LIBDIR)/$$name"; done
-	mkdir -p "$$to/$(LIBDIR)/pkgconfig" "$$to/share/man/man1" \
-		"$$to/share/man/man3" "$$to/share/man/man7"
+	mkdir -p "$$to/$(LIBDIR)/pkgconfig" "$$to/share/man/man3"
 	prefix=$$(printf '%s\n' "$$PREFIX" | sed 's/[ \\$$"'\'']/\\&/g')
 	printf '%s\n' "prefix=$$prefix" 'libdir=$${prefix}/$(LIBDIR)' 'includedir=$${prefix}/include' \
 		'Name: semver_parser' 'Version: $(version)' 'Libs: -L$${libdir} -lsemver_parser' \
@@ -118,12 +116,10 @@ stage stage-python: $(built_files) out/man/made
 			chmod 755 "$$to/bin/$$name"
 		done
 	fi
-	for page in $(programs:%=%.1) semver_parser.3 semver-ranges.7 \
-			$(if $(filter %-python,$@),$(checkers:%=%.1)); do
-		sed 's/@VERSION@/$(version)/; s/@DATE@/$(date)/' docs/man/$$page \
-			> "$$to/share/man/man$${page##*.}/$$page"
-	done
+	install -D -m 644 -t "$$to/share/man/man1" $(programs:%=out/man/%.1) \
+		$(if $(filter %-python,$@),$(checkers:%=out/man/%.1))
 	cp -P out/man/*.3 "$$to/share/man/man3"
+	install -D -m 644 -t "$$to/share/man/man7" out/man/semver-ranges.7
 	for name in $(filter-out semver-parser,$(programs)) $(if $(filter %-python,$@),$(checkers)); do
 		install -D -m 644 tools/completions/$$name.bash "$$to/share/bash-completion/completions/$$name"
 		install -D -m 644 tools/completions/_$$name "$$to/$(ZSHDIR)/_$$name"

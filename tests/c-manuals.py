@@ -1,10 +1,10 @@
 #!/usr/bin/env python3
 """Checks that the manuals of the C library and its header agree.
 
-- Each type of the header is in the NAME section of exactly one page docs/man/semver_parser_*.3.
-  That page has all sections, takes the declarations and constants of its types from the header, and
-  has a program with its output.
-- semver_parser.3 lists each type and each function once.
+- Each type of the header is in the section Name of exactly one page of docs/manual. That page has
+  all sections, takes the declarations and constants of its types from the header, and has a program
+  with its output.
+- semver_parser.3.md lists each type and each function once.
 - tools/make-manuals.py makes a page for each of them, and for each page that another one names.
 
 Prints what differs, and exits with 1 if anything does.
@@ -22,9 +22,9 @@ import tempfile
 
 TOP = os.path.dirname(os.path.dirname(os.path.abspath(__file__)))
 OVERVIEW = 'semver_parser'
+HEADER = 'rust/capi/include/semver_parser.h'
 SECTIONS = [
-    'NAME', 'LIBRARY', 'SYNOPSIS', 'DESCRIPTION', 'RETURN VALUE', 'ERRORS', 'EXAMPLES', 'SEE ALSO']
-ESCAPES = (r'\(ha', '^'), (r'\(ti', '~'), (r'\(aq', "'"), (r'\-', '-'), (r'\e', '\\')
+    'Name', 'Library', 'Synopsis', 'Description', 'Return value', 'Errors', 'Examples', 'See also']
 
 
 def read(path):
@@ -34,9 +34,9 @@ def read(path):
 
 def by_hand():
     """Returns the pages that are written by hand, by name."""
-    files = os.listdir(os.path.join(TOP, 'docs/man'))
-    names = sorted(name[:-2] for name in files if name.startswith('semver_parser'))
-    return {name: read(f'docs/man/{name}.3') for name in names}
+    files = os.listdir(os.path.join(TOP, 'docs/manual'))
+    names = sorted(name[:-5] for name in files if name.startswith('semver_parser'))
+    return {name: read(f'docs/manual/{name}.3.md') for name in names}
 
 
 def types_of(header):
@@ -51,78 +51,70 @@ def functions_of(header):
 
 
 def names_of(page):
-    """Returns the names in the section NAME."""
-    found = re.search(r'^\.SH NAME\n(.*?) \\-', page, re.M | re.S)
+    """Returns the names in the section Name."""
+    found = re.search(r'^## Name\n\n(.*?) - ', page, re.M | re.S)
     return re.split(r',\s*', found[1]) if found else []
 
 
 def named_in(page):
     """Returns the pages of section 3 that a page names."""
-    return re.findall(r'(\w+)(?: \(3\)|" \(3\))', page)
-
-
-def plain(text):
-    """Returns the lines of an example without escapes."""
-    for escape, sign in ESCAPES:
-        text = text.replace(escape, sign)
-    return text
+    return re.findall(r'(?:\\fB|`|\[)(\w+)(?:\\fR|`)?\(3\)', page)
 
 
 def examples_of(page):
-    """Returns the blocks of the section EXAMPLES: a program and its output."""
-    section = page.split('.SH EXAMPLES\n', 1)[-1].split('\n.SH ', 1)[0]
-    return [plain(block) for block in re.findall(r'^\.EX\n(.*?)^\.EE$', section, re.M | re.S)]
+    """Returns the blocks of the section Examples: a program and its output."""
+    section = page.split('## Examples\n', 1)[-1].split('\n## ', 1)[0]
+    return re.findall(r'^```text\n(.*?)^```$', section, re.M | re.S)
 
 
 def errors_of_page(name, page, types):
     """Yields what is wrong with the page of a type."""
     if names_of(page)[:1] != [name]:
         yield f'{name}.3 has another name'
-    if [it for it in re.findall(r'^\.SH (.*)$', page, re.M) if it in SECTIONS] != SECTIONS:
+    if [it for it in re.findall(r'^## (.*)$', page, re.M) if it in SECTIONS] != SECTIONS:
         yield f'{name}.3 lacks a section, or has them in another order'
-    if page.count('\n.SH SYNOPSIS\n.\\" DECLARATIONS\n') != 1:
+    if page.count(f'\n## Synopsis\n\n[Declarations in semver_parser.h](../../{HEADER})\n') != 1:
         yield f"{name}.3 doesn't take its declarations from the header"
     constants = [it for it in names_of(page) if types.get(it)]
-    if sorted(re.findall(r'^\.\\" CONSTANTS (\w+)$', page, re.M)) != sorted(constants):
+    if sorted(re.findall(r'^\[Constants of (\w+)\]\(.*\)$', page, re.M)) != sorted(constants):
         yield f'{name}.3 has the constants of other types than its own'
     if len(examples_of(page)) != 2:
         yield f'{name}.3 has no program with what it prints'
-    if f'.BR {OVERVIEW} (3),' not in page.split('.SH SEE ALSO')[-1]:
+    if f'[{OVERVIEW}(3)]' not in page.split('## See also')[-1]:
         yield f"{name}.3 doesn't name {OVERVIEW}(3)"
 
 
 def errors_of_made(header, pages):
-    """Yields what is wrong with the pages that are generated from the pages by hand."""
+    """Yields what is wrong with the pages that are made from the header and the pages by hand."""
     with tempfile.TemporaryDirectory() as work:
-        paths = []
-        for name, page in pages.items():
-            if name != OVERVIEW:
-                paths.append(os.path.join(work, f'{name}.3'))
-                with open(paths[-1], 'w', encoding='utf-8') as file:
-                    file.write(page)
-        command = [os.path.join(TOP, 'tools/make-manuals.py'), '1', '2026-01-01', f'{work}/made']
-        made = subprocess.run([*command, *paths], input=header, capture_output=True, text=True)
+        texts = {f'docs/manual/{name}.3.md': page for name, page in pages.items()}
+        tools = {name: read(name) for name in ('tools/make-manuals.py', 'tools/roff.py')}
+        for path, text in {HEADER: header, **texts, **tools}.items():
+            os.makedirs(os.path.dirname(os.path.join(work, path)), exist_ok=True)
+            with open(os.path.join(work, path), 'w', encoding='utf-8') as file:
+                file.write(text)
+        command = [sys.executable, f'{work}/tools/make-manuals.py', '1', '2026-01-01', f'{work}/made']
+        made = subprocess.run(command, capture_output=True, text=True, check=False)
         if made.returncode != 0:
             yield made.stderr.strip().split('\n')[-1]
             return
-        there = {name[:-2] for name in os.listdir(os.path.join(work, 'made'))}
-        for name in sorted({*types_of(header), *functions_of(header)} ^ there):
+        there = {name[:-2] for name in os.listdir(f'{work}/made')}
+        for name in sorted({OVERVIEW, *types_of(header), *functions_of(header)} ^ there):
             yield f'{name} has no page, or its page is of nothing in the header'
         for name in sorted(there):
-            with open(os.path.join(work, 'made', f'{name}.3'), encoding='utf-8') as file:
+            with open(f'{work}/made/{name}.3', encoding='utf-8') as file:
                 yield from errors_of_links(name, file.read(), there)
-        yield from errors_of_links(OVERVIEW, pages[OVERVIEW], there)
 
 
 def errors_of_links(name, page, there):
     for other in named_in(page):
-        if other != OVERVIEW and other not in there and other != 'memset':
+        if other not in there and other != 'memset':
             yield f'{name}.3 names {other}(3), which does not exist'
 
 
 def errors_of_overview(header, page):
-    """Yields the types and functions that the section DESCRIPTION doesn't list exactly once."""
-    listed = named_in(page.split('.SS Types', 1)[-1].split('.SH RETURN VALUE', 1)[0])
+    """Yields the types and functions that the section Description doesn't list exactly once."""
+    listed = named_in(page.split('### Types', 1)[-1].split('## Return value', 1)[0])
     for name in sorted({*listed, *types_of(header), *functions_of(header)}):
         if listed.count(name) != 1:
             yield f'{OVERVIEW}.3 lists {name} {listed.count(name)} times'
@@ -137,7 +129,7 @@ def errors(header, pages):
     for name in sorted({*named, *types}):
         if (named.count(name), name in types) != (1, True):
             what = 'a type' if name in types else 'no type'
-            yield f'{name} is in the NAME of {named.count(name)} pages, and is {what}'
+            yield f'{name} is in the section Name of {named.count(name)} pages, and is {what}'
     for name, page in of_types.items():
         yield from errors_of_page(name, page, types)
     yield from errors_of_overview(header, pages[OVERVIEW])
@@ -150,16 +142,16 @@ PLANTED = [
     ('header', '} semver_parser_version;', '} semver_parser_parts;'),
     ('header', 'semver_parser_check_range(', 'semver_parser_check_ranges('),
     ('header', '    /* An allocation failed. */\n', ''),
-    ('semver_parser_error', 'semver_parser_reason \\-', 'semver_parser_reasons \\-'),
-    ('semver_parser_error', '.\\" CONSTANTS semver_parser_reason\n', ''),
-    ('semver_parser_error', '.BR semver_parser_status_name (3)\n', '.BR semver_parser_names (3)\n'),
-    ('semver_parser_range', '.SH ERRORS\n', '.SH STATUS\n'),
-    ('semver_parser_range', '.\\" DECLARATIONS', '.B "typedef struct range semver_parser_range;"'),
-    ('semver_parser_options', 'It prints:\n.PP\n.EX', 'It prints:\n.PP\n.nf'),
-    ('semver_parser_options', '.BR semver_parser (3),\n', ''),
-    ('semver_parser', '.BR semver_parser_free (3),\n', ''),
-    ('semver_parser', '.BR semver_parser_version (3)\n',
-     '.BR semver_parser_version (3), " semver_parser_range" (3)\n'),
+    ('semver_parser_error', 'semver_parser_reason - ', 'semver_parser_reasons - '),
+    ('semver_parser_error', '[Constants of semver_parser_reason]', '[Constant of semver_parser_reason]'),
+    ('semver_parser_error', '`semver_parser_status_name`(3)', '`semver_parser_names`(3)'),
+    ('semver_parser_error', 'which string or range', 'which `string or range'),
+    ('semver_parser_range', '## Errors\n', '## Status\n'),
+    ('semver_parser_range', '[Declarations in semver_parser.h]', '[semver_parser.h]'),
+    ('semver_parser_options', 'It prints:\n\n```text', 'It prints:\n\n```c'),
+    ('semver_parser_options', '[semver_parser(3)](semver_parser.3.md), ', ''),
+    ('semver_parser', '`semver_parser_free`(3), ', ''),
+    ('semver_parser', '`semver_parser_free`(3), ', '`semver_parser_free`(3), `semver_parser_free`(3) '),
 ]
 
 
@@ -185,7 +177,7 @@ def write_examples(pages, to):
 
 
 def main():
-    header, pages = read('rust/capi/include/semver_parser.h'), by_hand()
+    header, pages = read(HEADER), by_hand()
     if sys.argv[1:2] == ['--examples']:
         write_examples(pages, sys.argv[2])
         return 0

@@ -11,10 +11,8 @@ checkout="$work/a checkout"
 
 copy_checkout() {
     mkdir -p "$checkout" "$work/bin"
-    cp -R Cargo.toml crates.txt VERSION LICENSE-APACHE LICENSE-MIT Makefile debian pyproject.toml semver-parser python \
-        rust tests tools "$checkout"
-    mkdir "$checkout/docs"
-    cp -R docs/man docs/examples "$checkout/docs"
+    cp -R Cargo.toml crates.txt VERSION LICENSE-APACHE LICENSE-MIT Makefile debian docs pyproject.toml semver-parser \
+        python rust tests tools "$checkout"
 }
 
 # stub COMMAND BODY: from now on, the command is a script with this body.

@@ -7,7 +7,7 @@
   that the comment names exists.
 - The example in Rattle in docs/COMING_FROM.md is crates/library_tests/src/example.rt.
 - What is generated is up to date: docs/PROOFS.md from the sources, docs/CRATES.md from crates.txt,
-  docs/manual from docs/man, and rust/src/docs from docs/.
+  and rust/src/docs from docs/.
 - Each file of lemmas begins with what its lemmas show, and each lemma is cited.
 - The Rust crate has the licences, and docs/ERASURE.md counts the lines by hand.
 
@@ -47,12 +47,8 @@ MOST_EDITS = 24
 # The pages of the Rust crate's documentation, which are generated from pages in docs/.
 RUST_PAGES = tuple(f'rust/src/docs/{name}.md' for name in ('ranges', 'meaning', 'grammar', 'original_crate'))
 
-# The pages in docs/manual, which are generated from docs/man.
-MANUAL_PAGES = tuple(
-    f'docs/manual/{name}.md' for name in sorted(os.listdir(os.path.join(TOP, 'docs/man'))) if name != 'semver-ranges.7')
-
 # All pages that are generated.
-MADE = ('docs/PROOFS.md', 'docs/CRATES.md', *RUST_PAGES, *MANUAL_PAGES)
+MADE = ('docs/PROOFS.md', 'docs/CRATES.md', *RUST_PAGES)
 
 
 def read(path):
@@ -385,11 +381,10 @@ def errors_of_the_example():
 
 
 def pages():
-    """Yields the pages and manuals that are written by hand, each with its text."""
-    written = [page for page in documents() if page not in MADE]
-    written += [os.path.join('docs/man', name) for name in sorted(os.listdir(os.path.join(TOP, 'docs/man')))]
-    for page in written:
-        yield page, read(page)
+    """Yields the pages that are written by hand, each with its text."""
+    for page in documents():
+        if page not in MADE:
+            yield page, read(page)
 
 
 def errors_of_paths():
@@ -418,23 +413,9 @@ def errors_of_the_readme():
         yield 'README.md has another example in Rust than rust/README.md'
 
 
-def errors_of_ranges():
-    """Checks that the manual semver-ranges(7) is generated from docs/RANGES.md."""
-    made = subprocess.run(
-        [os.path.join(TOP, 'tools/make-ranges-manual.py')], input=read('docs/RANGES.md'), capture_output=True, text=True, check=True)
-    if made.stdout != read('docs/man/semver-ranges.7'):
-        yield 'docs/man/semver-ranges.7 is not what tools/make-ranges-manual.py makes from docs/RANGES.md'
-
-
-def errors_of_made_pages():
-    """Checks that the pages for the Rust crate are generated from docs/, and docs/manual from
-    docs/man."""
-    yield from errors_of_made('tools/make-rust-pages.py', 'rust/src/docs', RUST_PAGES)
-    yield from errors_of_made('tools/make-manual-pages.py', 'docs/manual', MANUAL_PAGES)
-
-
-def errors_of_made(tool, directory, made_pages):
-    """Checks that a directory has exactly the pages that a tool writes into another one."""
+def errors_of_made():
+    """Checks that the pages for the Rust crate are generated from docs/."""
+    tool, directory = 'tools/make-rust-pages.py', 'rust/src/docs'
     with tempfile.TemporaryDirectory() as folder:
         made = subprocess.run([os.path.join(TOP, tool), folder], capture_output=True, text=True, check=False)
         if made.returncode:
@@ -442,7 +423,7 @@ def errors_of_made(tool, directory, made_pages):
             return
         if sorted(os.listdir(folder)) != sorted(os.listdir(os.path.join(TOP, directory))):
             yield f'{directory} has other files than {tool} makes'
-        for page in made_pages:
+        for page in RUST_PAGES:
             if read(page) != read(os.path.join(folder, os.path.basename(page))):
                 yield f'{page} is not what {tool} makes'
 
@@ -470,7 +451,7 @@ def errors_of_licences():
 def errors():
     for check in (
         errors_of_links, errors_of_files, errors_of_promises, errors_of_proofs, errors_of_results, errors_of_clauses,
-        errors_of_the_example, errors_of_paths, errors_of_the_readme, errors_of_ranges, errors_of_made_pages, errors_of_crates,
+        errors_of_the_example, errors_of_paths, errors_of_the_readme, errors_of_made, errors_of_crates,
         errors_of_lemmas, errors_of_citations, errors_of_licences, errors_of_lines_by_hand,
     ):
         yield from check()
@@ -487,9 +468,7 @@ EDITS = [
     ('rust/src/sets.rs', 'use crate::', 'use core::fmt;\nuse crate::'),
     ('docs/RANGES.md', '| =1.2 |', '| =1.3 |'),
     ('rust/src/docs/grammar.md', '| `1.2.3-01` |', '| `1.2.3-02` |'),
-    ('docs/manual/compare-ranges.1.md', '## Exit status', '## Status'),
-    ('docs/man/release-filter.1', '.B \\-\\-lowest\n', '.B \\-\\-least\n'),
-    ('docs/man/semver_parser.3', '.SH LIBRARY', '.Sh LIBRARY'),
+    ('docs/manual/release-filter.1.md', '](../RANGES.md)', '](../RANGE.md)'),
     ('docs/GRAMMAR.md', '## Requirements of Cargo\n', '## Requirements of Cargo\n\nTheir definition is in `specs/CargoGrammar.antt`.\n'),
     ('docs/COMING_FROM.md', '3.x', '4.x'),
     ('crates/semver_texts/proofs/Joins.antt', '-- Lemmas for loops that write the items of a list one after the other.\n', ''),

@@ -150,8 +150,7 @@ try_example() {
 
 # mandoc and groff lay out each page without a warning, and each has the version.
 try_pages() {
-    grep -qF "$(cat VERSION)" "$prefix/share/man/man3/semver_parser.3" || fail 'a page has another version'
-    ! grep @VERSION@ "$prefix"/share/man/man?/* || fail 'a page lacks the version'
+    ! grep -LF "\"semver\\-parser $(cat VERSION)\"" "$prefix"/share/man/man?/* | grep . || fail 'a page lacks the version'
     same_options release-filter
     same_options compare-ranges
     command -v groff > /dev/null || { echo 'installed programs: no groff, so the pages are not laid out' && return; }
@@ -170,7 +169,7 @@ try_manuals() {
     [ "$(readlink "$prefix/share/man/man3/semver_parser_range_lowest_of.3")" = semver_parser_range_highest_of.3 ] || fail 'a page is not a link'
     of_type=$prefix/share/man/man3/semver_parser_status.3
     [ "$(readlink "$of_type")" = semver_parser_error.3 ] || fail 'the page of a type is not a link'
-    grep -q 'SEMVER_PARSER_DIFFERENT_DIALECTS " (6)"' "$of_type" ||
+    grep -q 'SEMVER_PARSER_DIFFERENT_DIALECTS.* (6)' "$of_type" ||
         fail 'a page lacks the constants of its type'
 }
 

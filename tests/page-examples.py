@@ -35,28 +35,19 @@ def of_page(text: str) -> Iterator[Tuple[str, str]]:
     """Yields the commands in the indented and fenced blocks of a page."""
     for block in re.findall(r'(?:^    .*\n)+', text, re.M):
         yield from shown([line[4:] for line in block.splitlines()])
-    for block in re.findall(r'^```text\n(.*?)^```', text, re.M | re.S):
-        yield from shown(block.splitlines())
-
-
-def of_manual(text: str) -> Iterator[Tuple[str, str]]:
-    """Yields the commands in the examples of a manual."""
-    for block in re.findall(r'^\.EX\n(.*?)^\.EE', text, re.M | re.S):
-        for escaped, plain in ((r'\(ha', '^'), (r'\(ti', '~'), (r'\(aq', "'"), (r'\-', '-'), (r'\e', '\\')):
-            block = block.replace(escaped, plain)
-        yield from shown(block.splitlines())
+    for indent, block in re.findall(r'^( *)```text\n(.*?)^\1```', text, re.M | re.S):
+        yield from shown([line[len(indent):] for line in block.splitlines()])
 
 
 def examples() -> Iterator[Tuple[str, str, str]]:
     """Yields the commands of the programs, each with its page and its output."""
-    manuals = [os.path.join('docs/man', name) for name in sorted(os.listdir(os.path.join(TOP, 'docs/man')))]
-    pages = [os.path.join('docs', name) for name in sorted(os.listdir(os.path.join(TOP, 'docs'))) if name.endswith('.md')]
-    for page in ('README.md', 'rust/README.md', *pages, *manuals):
+    pages = [os.path.join(directory, name) for directory in ('docs', 'docs/manual')
+             for name in sorted(os.listdir(os.path.join(TOP, directory))) if name.endswith('.md')]
+    for page in ('README.md', 'rust/README.md', *pages):
         with open(os.path.join(TOP, page), encoding='utf-8') as file:
-            found = of_page(file.read()) if page.endswith('.md') else of_manual(file.read())
-        for command, output in found:
-            if re.search(rf'(?<![\w-])({"|".join(PROGRAMS)}) ', command):
-                yield page, command, output
+            for command, output in of_page(file.read()):
+                if re.search(rf'(?<![\w-])({"|".join(PROGRAMS)}) ', command):
+                    yield page, command, output
 
 
 def main() -> int:

@@ -1,4 +1,4 @@
-"""Tests that the library returns what the tables of docs/man/semver-ranges.7 say."""
+"""Tests that the library returns what the tables of the manual, docs/RANGES.md, say."""
 
 import re
 import unittest
@@ -7,20 +7,17 @@ from typing import List
 
 from semver_parser import Dialect, PreReleases, Range, RangeError, Version, VersionError
 
-MANUAL = Path(__file__).resolve().parents[2] / "docs" / "man" / "semver-ranges.7"
+MANUAL = Path(__file__).resolve().parents[2] / "docs" / "RANGES.md"
 DIALECTS = (Dialect.CARGO, Dialect.NPM, Dialect.CRATE_CARGO, Dialect.CRATE_NPM)
 RULES = (PreReleases.DEFAULT, PreReleases.INCLUDED)
 
 
 def table(head: str) -> List[List[str]]:
-    """Returns the rows of the table in the manual whose first cell is `head`."""
-    text = MANUAL.read_text()
-    for escaped, plain in ((r"\(ha", "^"), (r"\(ti", "~"), (r"\-", "-")):
-        text = text.replace(escaped, plain)
-    text = re.sub(r"\\f[BPR]", "", text)
-    found = re.search(rf"^{re.escape(head)}\t[^\n]*\n(.*?)^\.TE", text, re.M | re.S)
+    """Returns the rows of the table in the manual that begins with the cells `head`."""
+    found = re.search(rf"^\| {re.escape(head)} \|.*\n.*\n((?:\|.*\n)*)", MANUAL.read_text(), re.M)
     assert found, head
-    return [line.split("\t") for line in found[1].splitlines()]
+    rows = [re.split(r" (?<!\\)\| ", line[2:-2]) for line in found[1].splitlines()]
+    return [[re.sub(r"\\(.)|`", r"\1", cell) for cell in row] for row in rows]
 
 
 def releases(string: str, dialect: Dialect) -> str:
@@ -66,7 +63,7 @@ class Manual(unittest.TestCase):
                 self.assertEqual(found, expected(cells, string), string)
 
     def test_pre_releases(self) -> None:
-        rows = table("range\tversion")
+        rows = table("range | version")
         self.assertGreater(len(rows), 4)
         for string, version, *wanted in rows:
             for dialect in DIALECTS:

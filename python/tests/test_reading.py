@@ -266,7 +266,7 @@ class Ranges(unittest.TestCase):
             self.assertIs(type(comparators), Comparators)
 
     def test_dialects(self) -> None:
-        """What docs/man/semver-ranges.7 says about each range, with exact bounds."""
+        """What docs/RANGES.md says about each range, with exact bounds."""
         for text, wanted in DIALECTS:
             for dialect, set_text in zip(Dialect, wanted):
                 with self.subTest(text=text, dialect=dialect):

@@ -47,7 +47,7 @@ ORDERED = [
 DIALECTS = (Dialect.CARGO, Dialect.NPM, Dialect.CRATE_CARGO, Dialect.CRATE_NPM)
 RULES = (PreReleases.EXCLUDED, PreReleases.DEFAULT, PreReleases.INCLUDED)
 
-# From docs/man/semver-ranges.7 and docs/MEANING.md: a range, a version, and whether it satisfies
+# From docs/RANGES.md and docs/MEANING.md: a range, a version, and whether it satisfies
 # the range in each dialect, in the order above, by the default rule. None if the string isn't a
 # range.
 BY_DIALECT = [
@@ -69,7 +69,7 @@ BY_DIALECT = [
     ("^1.2.3-beta", "1.3.0-rc", (False, False, False, False)),
 ]
 
-# From docs/man/semver-ranges.7 and docs/MEANING.md ("Pre-releases"): a range, a version, and by
+# From docs/RANGES.md and docs/MEANING.md ("Pre-releases"): a range, a version, and by
 # which rules it satisfies the range.
 THREE_RULES = [
     ("^1.2.3-beta.4", "1.9.0", (True, True, True)),

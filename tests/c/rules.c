@@ -1,6 +1,6 @@
 /* Which versions satisfy which ranges, in each dialect and by each rule for pre-releases: for
  * short and long strings, one by one and many at once; which error is returned first; and
- * invalid options. The expected values are in the tables of docs/man/semver-ranges.7 and of
+ * invalid options. The expected values are in the tables of docs/RANGES.md and of
  * docs/MEANING.md. */
 #include "calls.h"
 

@@ -21,9 +21,9 @@ SIMPLE = {"string": str, "number": int}
 
 def schema_of(manual):
     """Returns the type of each key of the objects in the schema, by its path."""
-    block = re.search(r"^\.SS JSON\n.*?^\.EX\n(.*?)^\.EE", manual, re.M | re.S).group(1)
+    block = re.search(r"^### JSON\n.*?^```text\n(.*?)^```", manual, re.M | re.S).group(1)
     found, left = {}, []
-    for line in block.replace("\\-", "-").splitlines():
+    for line in block.splitlines():
         match = LINE.fullmatch(line)
         if match is None:
             assert line.startswith(" " * 20), line

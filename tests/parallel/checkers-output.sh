@@ -46,7 +46,7 @@ echo 'what else an entry has, in JSON: passed'
 
 mkdir "$work/no-lock"
 echo 'cases/empty/yarn.lock: gone # known' > "$work/known"
-PYTHONPATH=. python3 "$top/tests/parallel/checkers-json.py" cases "$top/docs/man/check-lock-file.1" "$work/known" "$work/no-lock" ||
+PYTHONPATH=. python3 "$top/tests/parallel/checkers-json.py" cases "$top/docs/manual/check-lock-file.1.md" "$work/known" "$work/no-lock" ||
     exit 1
 
 # The output of --duplicates is in cases/duplicates/expected.

@@ -1,4 +1,4 @@
-"""Compares release-filter with docs/man/release-filter.1, docs/GRAMMAR.md and docs/MEANING.md:
+"""Compares release-filter with its manual, docs/GRAMMAR.md and docs/MEANING.md:
 lines-in-pieces.py PROGRAM COUNT SEED.
 
 This makes COUNT random texts of lines, each with a range and options. Its own code determines what

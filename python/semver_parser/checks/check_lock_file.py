@@ -1,8 +1,8 @@
 """The program `check-lock-file`, which lists the versions of lock files that don't satisfy what is
 required.
 
-docs/man/check-lock-file.1 describes what it prints. The library is loaded only if something is
-checked.
+docs/manual/check-lock-file.1.md describes what it prints. The library is loaded only if
+something is checked.
 """
 
 import sys

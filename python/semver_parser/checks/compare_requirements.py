@@ -1,8 +1,8 @@
 """The program `compare-requirements`, which prints what the changed requirements of a manifest lose
 and gain.
 
-docs/man/compare-requirements.1 describes the lines. The library is loaded only if something is
-compared.
+docs/manual/compare-requirements.1.md describes the lines. The library is loaded only if
+something is compared.
 """
 
 import sys
