@@ -195,7 +195,7 @@ crate:
 	may_write "$$OUT"
 	may_cargo
 	data=$$work/crate/tests/data
-	cp -R rust "$$work/crate"
+	cp -RL rust "$$work/crate"
 	mkdir -p "$$data/replayed_cases" "$$data/library_tests" "$$data/filter_tests"
 	cp crates/replayed_cases/stdin crates/replayed_cases/stdout "$$data/replayed_cases"
 	for name in library_tests filter_tests; do

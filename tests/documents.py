@@ -6,8 +6,8 @@
 - Each public call has a comment that says what determines its result, and the law, edit or file
   that the comment names exists.
 - The example in Rattle in docs/COMING_FROM.md is crates/library_tests/src/example.rt.
-- What is generated is up to date: docs/PROOFS.md from the sources, docs/CRATES.md from crates.txt,
-  and rust/src/docs from docs/.
+- What is generated is up to date: docs/PROOFS.md from the sources, and docs/CRATES.md from
+  crates.txt.
 - Each file of lemmas begins with what its lemmas show, and each lemma is cited.
 - The Rust crate has the licences, and docs/ERASURE.md counts the lines by hand.
 
@@ -44,11 +44,8 @@ EXAMPLES = 'docs/COMING_FROM.md'
 MOST_FREE = 9
 MOST_EDITS = 24
 
-# The pages of the Rust crate's documentation, which are generated from pages in docs/.
-RUST_PAGES = tuple(f'rust/src/docs/{name}.md' for name in ('ranges', 'meaning', 'grammar', 'original_crate'))
-
-# All pages that are generated.
-MADE = ('docs/PROOFS.md', 'docs/CRATES.md', *RUST_PAGES)
+# The pages that are generated.
+MADE = ('docs/PROOFS.md', 'docs/CRATES.md')
 
 
 def read(path):
@@ -112,10 +109,11 @@ def promised(crate):
 
 
 def documents():
-    """Yields the pages of the repository."""
+    """Yields the pages of the repository, without links to pages."""
     for at, folders, names in os.walk(TOP):
         folders[:] = sorted(folder for folder in folders if folder not in ('.git', 'out', 'target', 'build'))
-        yield from (os.path.relpath(os.path.join(at, name), TOP) for name in sorted(names) if name.endswith('.md'))
+        paths = (os.path.join(at, name) for name in sorted(names) if name.endswith('.md'))
+        yield from (os.path.relpath(path, TOP) for path in paths if not os.path.islink(path))
 
 
 def anchors(text):
@@ -129,7 +127,11 @@ def anchors(text):
 
 def errors_of_links():
     for page in documents():
-        for target in re.findall(r'\]\(([^)\s]+)\)', read(page)):
+        targets = dict(re.findall(r'^\[([^\]]+)\]: (\S+)$', read(page), re.M))
+        for label in re.findall(r'\]\[([^\]]+)\]', re.sub(r'(?s)```.*?```|`[^`]*`', '`', read(page))):
+            if label not in targets:
+                yield f"{page}: there is no target for [{label}]"
+        for target in [*targets.values(), *re.findall(r'\]\(([^)\s]+)\)', read(page))]:
             if re.match(r'[a-z]+:', target):
                 continue
             path, _, anchor = target.partition('#')
@@ -413,21 +415,6 @@ def errors_of_the_readme():
         yield 'README.md has another example in Rust than rust/README.md'
 
 
-def errors_of_made():
-    """Checks that the pages for the Rust crate are generated from docs/."""
-    tool, directory = 'tools/make-rust-pages.py', 'rust/src/docs'
-    with tempfile.TemporaryDirectory() as folder:
-        made = subprocess.run([os.path.join(TOP, tool), folder], capture_output=True, text=True, check=False)
-        if made.returncode:
-            yield made.stderr.strip()
-            return
-        if sorted(os.listdir(folder)) != sorted(os.listdir(os.path.join(TOP, directory))):
-            yield f'{directory} has other files than {tool} makes'
-        for page in RUST_PAGES:
-            if read(page) != read(os.path.join(folder, os.path.basename(page))):
-                yield f'{page} is not what {tool} makes'
-
-
 def errors_of_lines_by_hand():
     """Checks that the table of docs/ERASURE.md lists each file by hand of rust/src except the shim,
     with its lines of code."""
@@ -451,8 +438,8 @@ def errors_of_licences():
 def errors():
     for check in (
         errors_of_links, errors_of_files, errors_of_promises, errors_of_proofs, errors_of_results, errors_of_clauses,
-        errors_of_the_example, errors_of_paths, errors_of_the_readme, errors_of_made, errors_of_crates,
-        errors_of_lemmas, errors_of_citations, errors_of_licences, errors_of_lines_by_hand,
+        errors_of_the_example, errors_of_paths, errors_of_the_readme, errors_of_crates, errors_of_lemmas,
+        errors_of_citations, errors_of_licences, errors_of_lines_by_hand,
     ):
         yield from check()
 
@@ -466,10 +453,9 @@ EDITS = [
     ('docs/MEANING.md', '## Terms', '## Words'),
     ('docs/ERASURE.md', 'tests/erased.py', 'tests/erases.py'),
     ('rust/src/sets.rs', 'use crate::', 'use core::fmt;\nuse crate::'),
-    ('docs/RANGES.md', '| =1.2 |', '| =1.3 |'),
-    ('rust/src/docs/grammar.md', '| `1.2.3-01` |', '| `1.2.3-02` |'),
+    ('docs/MEANING.md', ': RANGES.md#pre-releases', ': RANGES.md#prereleases'),
+    ('docs/MEANING.md', '][written terms]', '][terms as written]'),
     ('docs/manual/release-filter.1.md', '](../RANGES.md)', '](../RANGE.md)'),
-    ('docs/GRAMMAR.md', '## Requirements of Cargo\n', '## Requirements of Cargo\n\nTheir definition is in `specs/CargoGrammar.antt`.\n'),
     ('docs/COMING_FROM.md', '3.x', '4.x'),
     ('crates/semver_texts/proofs/Joins.antt', '-- Lemmas for loops that write the items of a list one after the other.\n', ''),
     ('crates/semver_texts/proofs/Joins.antt', None, 'crates/semver_texts/proofs/Joined.antt'),

@@ -7,14 +7,31 @@
 //! | [`grammar`] | which strings Cargo and npm accept, and where and why a string is invalid |
 //! | [`original_crate`] | grammar, meaning and comparators of the original crate; differences |
 
-#[doc = include_str!("docs/ranges.md")]
+// The files are links to the pages of the repository, and cargo packs these pages instead. The first
+// target of a link counts, so a link leads to the page here and not to the file that the page names.
+
+#[doc = include_str!("docs/RANGES.md")]
 pub mod ranges {}
 
-#[doc = include_str!("docs/meaning.md")]
+/// [RANGES]: crate::docs::ranges
+/// [GRAMMAR]: crate::docs::grammar
+/// [CRATE]: crate::docs::original_crate
+/// [written terms]: crate::docs::ranges#terms
+/// [rules]: crate::docs::ranges#pre-releases
+/// [crate's comparators]: crate::docs::original_crate#the-comparators
+/// [differences in reading]: crate::docs::grammar#differences
+#[doc = include_str!("docs/MEANING.md")]
 pub mod meaning {}
 
-#[doc = include_str!("docs/grammar.md")]
+/// [crate's grammar]: crate::docs::original_crate#range-texts
+/// [identifiers]: crate::docs::original_crate#identifiers
+/// [differences of sets]: crate::docs::meaning#differences
+#[doc = include_str!("docs/GRAMMAR.md")]
 pub mod grammar {}
 
-#[doc = include_str!("docs/original_crate.md")]
+/// [terms]: crate::docs::meaning#terms
+/// [The theorem]: crate#what-is-proved
+/// [npm's grammar]: crate::docs::grammar#range-texts-of-npm
+/// [Cargo's grammar]: crate::docs::grammar#requirements-of-cargo
+#[doc = include_str!("docs/CRATE.md")]
 pub mod original_crate {}
