@@ -20,11 +20,12 @@ cannot="semver-parser: semver-parser isn't built, and cannot be"
 # make_small: makes the repository. `alone` runs a command with the stubs, and with the tools that
 # ./semver-parser needs.
 make_small() {
-    mkdir -p "$kit/src" "$kit/specs" "$kit/proofs/deep" "$small/crates/a/src" "$small/rust" \
-        "$work/tools"
+    mkdir -p "$kit/src" "$kit/specs" "$kit/proofs/deep" "$small/crates/a/src" \
+        "$small/rust/capi" "$work/tools"
     seq 300 > "$kit/proofs/deep/Answers.antt"
     seq 100 > "$small/crates/a/src/lib.rt"
     : > "$small/Cargo.toml"
+    echo 'rust-version = "1.79"' > "$small/rust/capi/Cargo.toml"
     printf '# what\na: thiserror\nb: a\nsemver_parser_main: a\n' > "$small/crates.txt"
     cp -R tools semver-parser "$small"
     for tool in awk cat chmod date dirname env find flock grep id mkdir mktemp readlink rm sed seq \
@@ -32,6 +33,7 @@ make_small() {
         ln -s "$(command -v "$tool")" "$work/tools/$tool"
     done
     stub rustc 'echo /toolchain'
+    stub cc ''
     cp "$work/tools/sleep" "$work/bin/slumber$$"
     alone="env PATH=$work/bin:$work/tools TMPDIR=$work/temporary"
 }
@@ -224,6 +226,15 @@ which builds it unproved" $alone "$small/semver-parser" 1.2.3
     done
 }
 
+# Without a linker, too.
+without_a_linker() {
+    anew
+    rm "$work/bin/cc"
+    CARGO_HOME=$work answers 7
+    says "$proved_first" 'proved, in N'
+    stub cc ''
+}
+
 # At a terminal, one line is rewritten.
 at_a_terminal() {
     anew
@@ -391,6 +402,7 @@ when_a_proof_fails
 when_a_build_fails
 without_a_proof
 without_cargo
+without_a_linker
 at_a_terminal
 stopped_at_a_terminal
 anew

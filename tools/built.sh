@@ -133,13 +133,17 @@ oldest() {
     sed -n 's/^rust-version = "\(.*\)"$/\1/p' "$top/rust/capi/Cargo.toml"
 }
 
-# may_link: exits if rustc would find no linker. It runs cc, unless a variable or a setting of cargo
-# names another command.
+# may_link: exits if rustc would find no linker.
 may_link() {
+    has_linker || refuse 'needs a linker, the command cc (Debian: apt-get install gcc libc6-dev)'
+}
+
+# has_linker: returns whether rustc finds a linker. It runs cc, unless a variable or a setting of
+# cargo names another command.
+has_linker() {
     settings=${CARGO_HOME:-${HOME-}/.cargo}
     command -v cc > /dev/null || env | grep -q 'LINKER=\|linker=' ||
-        grep -qs '^ *linker' "$settings/config.toml" "$settings/config" ||
-        refuse 'needs a linker, the command cc (Debian: apt-get install gcc libc6-dev)'
+        grep -qs '^ *linker' "$settings/config.toml" "$settings/config"
 }
 
 # may_ask: returns whether cargo may write to the repository. If not, and if something isn't built,
