@@ -308,7 +308,8 @@ stopped_by() {
 # While one proves, another one runs cargo's build, or waits for the kit's without cargo.
 two_at_once() {
     anew
-    stub rt "echo begun > '$work/half'; until [ -e '$work/go on' ]; do sleep 0.1; done; $proves"
+    stub rt "echo begun > '$work/half'
+for turn in \$(seq 300); do [ ! -e '$work/go on' ] || break; sleep 0.1; done; $proves"
     for status in 5 7; do
         rm -f "$work/half" "$work/go on"
         $alone "$small/semver-parser" 'a b' > "$work/first" 2>&1 &

@@ -126,8 +126,8 @@ nothing_is_left() {
     fail "it leaves processes: $left"
 }
 
-# stopped_at TEXT LASTING ARGUMENT..: Ctrl-C at a terminal has to end all at once when TEXT is there.
-# Then it says which parts had passed.
+# stopped_at TEXT LASTING ARGUMENT..: Ctrl-C at a terminal has to end all at once when TEXT is
+# there. Then it says which parts had passed.
 stopped_at() {
     text=$1 LASTING=$2 status=0
     shift 2
@@ -153,6 +153,7 @@ stopped_at_a_terminal() {
 
 stopped_by_signals() {
     for signal in HUP INT TERM; do
+        : > "$work/said"
         LASTING='c-manuals.py rt' status=0
         env --default-signal=$signal PATH="$tools" "$copy/test" > "$work/said" 2>&1 &
         gate=$!
@@ -188,7 +189,8 @@ names_what_is_missing() {
 # It ends before it begins if cargo is too old, or if something can't be written to.
 begins_only_if_it_can() {
     stub "$work/old/cargo" 'echo "cargo 1.65.0 (x)"; exit'
-    refuses 'needs cargo 1.79 or later, and the command cargo is 1.65.0 (rustup; Debian 12: apt-get install cargo-web; from Debian 13 on: apt-get install cargo)' \
+    refuses "needs cargo 1.79 or later, and the command cargo is 1.65.0 (rustup; Debian 12: \
+apt-get install cargo-web; from Debian 13 on: apt-get install cargo)" \
         env PATH="$work/old:$tools" "$copy/test"
     if [ "$(id -u)" = 0 ]; then
         chmod 755 "$work"

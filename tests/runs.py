@@ -138,8 +138,8 @@ def outcome(command, run, directory):
         os.close(end)
         with contextlib.suppress(OSError), os.fdopen(terminal, "rb", 0) as reader:
             errors = reader.read(4096).replace(b"\r\n", b"\n")
-    if kind == "any line of errors" and errors.count(b"\n") == 1:
-        errors = b""
+    if kind == "any line of errors":
+        errors = b"" if errors.count(b"\n") == 1 else errors or b"no line"
     return output + rest, errors or b"", b"%d" % process.returncode
 
 

@@ -45,7 +45,7 @@ start() {
 stop() {
     [ "$running" ] || return 0
     left=${!-}
-    end_by INT 10 || end_by TERM 3 || end_by KILL 3 || :
+    end_by INT 10 || end_by TERM 3 || end_by KILL 20 || :
     wait "${!-}" 2> /dev/null || :
     running=''
 }
