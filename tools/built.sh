@@ -44,20 +44,20 @@ start() {
 # `rt`, which cleans up after SIGINT only.
 stop() {
     [ "$running" ] || return 0
-    left=${!-}
+    ever=${!-}
     end_by INT 10 || end_by TERM 3 || end_by KILL 20 || :
     wait "${!-}" 2> /dev/null || :
     running=''
 }
 
-# end_by SIGNAL TENTHS: sends a signal to the processes in `left` and all that these began. Returns
-# whether they end within some tenths of a second.
+# end_by SIGNAL TENTHS: sends a signal to all processes that those in `ever` began, also to those
+# that are begun meanwhile if it is SIGKILL. Returns whether they end within some tenths of a second.
 end_by() {
-    left=$(begun_by $left)
-    kill -s "$1" $left 2> /dev/null || :
     for tenth in $(seq "$2"); do
-        left=$(begun_by $left)
+        left=$(begun_by $ever)
         [ "$left" ] || return 0
+        ever="$ever $left"
+        [ "$tenth" != 1 ] && [ "$1" != KILL ] || kill -s "$1" $left 2> /dev/null || :
         sleep 0.1
     done
     return 1
