@@ -141,6 +141,7 @@ stopped_at() {
     sed -n '/^passed before:$/,/^[^ ]/p' "$work/said" | sort > "$work/listed"
     [ -z "$(comm -23 "$work/printed" "$work/listed")" ] || fail "it should name what passed: $text"
     grep -q '^parts: .* passed, 0 failed' "$work/said" || fail 'it does not count the parts'
+    ! grep -q '^failed: ' "$work/said" || fail 'it says that what was stopped has failed'
 }
 
 stopped_at_a_terminal() {

@@ -17,12 +17,12 @@ begin() {
     trap let_go EXIT
     for signal in HUP INT PIPE QUIT TERM; do
         trap "trap '' HUP INT PIPE QUIT TERM
-            stop; when_stopped; let_go; trap - EXIT $signal; kill -s $signal $$" "$signal"
+            when_stopped; let_go; trap - EXIT $signal; kill -s $signal $$" "$signal"
     done
     work=$(mktemp -d) || refuse 'cannot make a directory for temporary files'
 }
 
-# What a script does when a signal has stopped it. It may define this anew.
+# What a script does when a signal stops it, before all else. It may define this anew.
 when_stopped() {
     :
 }
