@@ -82,7 +82,7 @@ out/lib/$(shared) out/lib/libsemver_parser.a &: $(built)/libsemver_parser.a \
 	mv $(shared) libsemver_parser.a "$$top/out/lib"
 
 # All manual pages.
-out/man/made: $(wildcard docs/manual/*.md) docs/RANGES.md $(capi)/include/semver_parser.h \
+out/man/made: $(wildcard docs/manual/*.md) rust/docs/RANGES.md $(capi)/include/semver_parser.h \
 		tools/make-manuals.py tools/roff.py VERSION debian/changelog
 	$(begin)
 	command -v python3 > /dev/null || refuse 'needs the command python3'
@@ -195,7 +195,7 @@ crate:
 	may_write "$$OUT"
 	may_cargo
 	data=$$work/crate/tests/data
-	cp -RL rust "$$work/crate"
+	cp -R rust "$$work/crate"
 	mkdir -p "$$data/replayed_cases" "$$data/library_tests" "$$data/filter_tests"
 	cp crates/replayed_cases/stdin crates/replayed_cases/stdout "$$data/replayed_cases"
 	for name in library_tests filter_tests; do

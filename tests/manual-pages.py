@@ -123,7 +123,7 @@ def errors_of_words(made):
     link."""
     for name in sorted(os.listdir(os.path.join(TOP, 'docs/manual'))):
         _, _, page = read(f'docs/manual/{name}').partition('\n')
-        page = page.replace('[RANGES](../RANGES.md)\n', read('docs/RANGES.md').partition('\n')[2])
+        page = page.replace('[RANGES](../../rust/docs/RANGES.md)\n', read('rust/docs/RANGES.md').partition('\n')[2])
         shown = re.sub('.\b', '', laid_out(read(os.path.join(made, name[:-3]))))
         shown = ' '.join(shown.lower().split())
         parts = map(words_of, re.split(r'\n\[(?:Declarations in|Constants of) .*\n', page))

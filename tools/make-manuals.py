@@ -100,7 +100,7 @@ def completed(page, header):
 
     def meant(link):
         if link[1]:
-            ranges = (TOP / "docs/RANGES.md").read_text(encoding="utf-8")
+            ranges = (TOP / "rust/docs/RANGES.md").read_text(encoding="utf-8")
             return ranges.partition("\n\n")[2].rstrip()
         return constants(header, link[2]) if link[2] else declarations(header, names_of(page))
 

@@ -1,4 +1,4 @@
-"""The meaning of range texts by the definitions of docs/CRATE.md: a separate model next to the
+"""The meaning of range texts by the definitions of rust/docs/CRATE.md: a separate model next to the
 proved code.
 
 A version is a tuple `(numbers, identifiers)`: three numbers, and the identifiers of its
@@ -111,7 +111,7 @@ def raised_place(sign, stated):
 
 
 def meets_term(it, term):
-    """Returns whether a version satisfies a term: the table of docs/CRATE.md, row by row."""
+    """Returns whether a version satisfies a term: the table of rust/docs/CRATE.md, row by row."""
     sign, stated, pre = term
     n, numbers = len(stated), it[0]
     z = stated + (0,) * (3 - n), pre

@@ -2,7 +2,7 @@
 """Writes the rows for sets of versions in rust/tests/layers anew: tools/set-rows.py
 
 The expected results come from tools/range_meaning.py, which follows the definitions of
-docs/CRATE.md, and not from the code.
+rust/docs/CRATE.md, and not from the code.
 """
 
 from itertools import product

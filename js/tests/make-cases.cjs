@@ -98,7 +98,7 @@ for (const one of ['0', '1', '10', 'a', 'b', 'A', '-', '1a', 1, 2, 1.5, null, un
 const SOME = ['1.2.3', '1.2.3-rc.1', '1.2.4-alpha', '1.10.0', '2.0.0', '2.0.0-alpha', '0.0.0', '0.0.0-0', 'v1.4.0', 'x', '1.2', '', '1.10.0+b']
 const RELEASES_OF_SOME = ['0.0.0', '1.2.3', '1.3.0', '1.4.0', '1.10.0', '2.0.0', '2.5.0', '3.0.0']
 // For ranges that no version satisfies, and for pre-releases, node-semver returns something else
-// than the sets of versions: docs/GRAMMAR.md. `tests/js-rows.js` tests these.
+// than the sets of versions: rust/docs/GRAMMAR.md. `tests/js-rows.js` tests these.
 const isPlain = (range) => semver.validRange(range) === null || (!/\d-/.test(range) && new semver.Range(range).set.every((comparators) =>
   semver.minVersion(comparators.join(' ')) !== null))
 const PLAIN = RANGES.filter(isPlain)

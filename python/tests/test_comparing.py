@@ -41,7 +41,7 @@ MOST = str(2**64 - 1)
 LAST = ".".join([MOST] * 3)
 
 # A range, and its lowest version without pre-releases and by default. They follow from what
-# docs/MEANING.md says about each dialect.
+# rust/docs/MEANING.md says about each dialect.
 LOWEST_BY_DIALECT = [
     (Dialect.CARGO, "1.2", ("1.2.0", "1.2.0")),
     (Dialect.CARGO, ">1.2", ("1.3.0", "1.3.0")),

@@ -1,4 +1,4 @@
-"""Tests that the library returns what the tables of the manual, docs/RANGES.md, say."""
+"""Tests that the library returns what the tables of the manual, rust/docs/RANGES.md, say."""
 
 import re
 import unittest

@@ -37,7 +37,7 @@ MOST_OF_NPM = 2**53 - 1
 
 CRATE = (Dialect.CRATE_CARGO, Dialect.CRATE_NPM)
 
-# A string, and what docs/GRAMMAR.md says about it under "Versions of Cargo and npm" and under
+# A string, and what rust/docs/GRAMMAR.md says about it under "Versions of Cargo and npm" and under
 # "Version texts": the version in Cargo's dialect, in npm's, and in the crate's two, or None if it
 # is invalid.
 VERSIONS: List[Tuple[String, Tuple[Optional[Version], Optional[Version], Optional[Version]]]] = [
@@ -266,7 +266,7 @@ class Ranges(unittest.TestCase):
             self.assertIs(type(comparators), Comparators)
 
     def test_dialects(self) -> None:
-        """What docs/RANGES.md says about each range, with exact bounds."""
+        """What rust/docs/RANGES.md says about each range, with exact bounds."""
         for text, wanted in DIALECTS:
             for dialect, set_text in zip(Dialect, wanted):
                 with self.subTest(text=text, dialect=dialect):

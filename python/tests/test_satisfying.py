@@ -47,7 +47,7 @@ ORDERED = [
 DIALECTS = (Dialect.CARGO, Dialect.NPM, Dialect.CRATE_CARGO, Dialect.CRATE_NPM)
 RULES = (PreReleases.EXCLUDED, PreReleases.DEFAULT, PreReleases.INCLUDED)
 
-# From docs/RANGES.md and docs/MEANING.md: a range, a version, and whether it satisfies
+# From rust/docs/RANGES.md and rust/docs/MEANING.md: a range, a version, and whether it satisfies
 # the range in each dialect, in the order above, by the default rule. None if the string isn't a
 # range.
 BY_DIALECT = [
@@ -69,7 +69,7 @@ BY_DIALECT = [
     ("^1.2.3-beta", "1.3.0-rc", (False, False, False, False)),
 ]
 
-# From docs/RANGES.md and docs/MEANING.md ("Pre-releases"): a range, a version, and by
+# From rust/docs/RANGES.md and rust/docs/MEANING.md ("Pre-releases"): a range, a version, and by
 # which rules it satisfies the range.
 THREE_RULES = [
     ("^1.2.3-beta.4", "1.9.0", (True, True, True)),
@@ -291,7 +291,7 @@ class Filtered(unittest.TestCase):
                 call([], "skip")
 
     def test_dialects(self) -> None:
-        """Versions are parsed in the dialect of the range, by docs/GRAMMAR.md."""
+        """Versions are parsed in the dialect of the range, by rust/docs/GRAMMAR.md."""
         of_crate = (Dialect.CRATE_CARGO, Dialect.CRATE_NPM)
         for string, has in (
             ("1.0.0--a", (Dialect.CARGO, Dialect.NPM)),

@@ -7,10 +7,10 @@
 //! | [`grammar`] | which strings Cargo and npm accept, and where and why a string is invalid |
 //! | [`original_crate`] | grammar, meaning and comparators of the original crate; differences |
 
-// The files are links to the pages of the repository, and cargo packs these pages instead. The first
-// target of a link counts, so a link leads to the page here and not to the file that the page names.
+// The first target of a link counts, so a link leads to the page here and not to the file that the
+// page names.
 
-#[doc = include_str!("docs/RANGES.md")]
+#[doc = include_str!("../docs/RANGES.md")]
 pub mod ranges {}
 
 /// [RANGES]: crate::docs::ranges
@@ -20,18 +20,18 @@ pub mod ranges {}
 /// [rules]: crate::docs::ranges#pre-releases
 /// [crate's comparators]: crate::docs::original_crate#the-comparators
 /// [differences in reading]: crate::docs::grammar#differences
-#[doc = include_str!("docs/MEANING.md")]
+#[doc = include_str!("../docs/MEANING.md")]
 pub mod meaning {}
 
 /// [crate's grammar]: crate::docs::original_crate#range-texts
 /// [identifiers]: crate::docs::original_crate#identifiers
 /// [differences of sets]: crate::docs::meaning#differences
-#[doc = include_str!("docs/GRAMMAR.md")]
+#[doc = include_str!("../docs/GRAMMAR.md")]
 pub mod grammar {}
 
 /// [terms]: crate::docs::meaning#terms
 /// [The theorem]: crate#what-is-proved
 /// [npm's grammar]: crate::docs::grammar#range-texts-of-npm
 /// [Cargo's grammar]: crate::docs::grammar#requirements-of-cargo
-#[doc = include_str!("docs/CRATE.md")]
+#[doc = include_str!("../docs/CRATE.md")]
 pub mod original_crate {}

@@ -47,7 +47,7 @@ flock 9
 # in a copy of the crate, which is made anew only if it changes.
 copy=$built/crate new=$built/new
 rm -rf "$new" && mkdir -p "$new/wasm" "$new/tests"
-cp -RL "$wasm/../Cargo.toml" "$wasm/../src" "$new"
+cp -R "$wasm/../Cargo.toml" "$wasm/../src" "$new"
 cp "$wasm"/../tests/*.rs "$new/tests"
 cp -R "$wasm/Cargo.toml" "$wasm/src" "$new/wasm"
 find "$new" -name '*.rs' -exec sed -i 's/#\[inline(always)\]/#[inline]/' {} +

@@ -1,6 +1,6 @@
 /* How the four dialects read versions and ranges: the parts of versions, precedence, the
  * comparators of ranges as text and as fields, and terms. The expected values are in the tables
- * of docs/RANGES.md, docs/GRAMMAR.md, docs/MEANING.md and docs/CRATE.md. */
+ * of rust/docs/RANGES.md, rust/docs/GRAMMAR.md, rust/docs/MEANING.md and rust/docs/CRATE.md. */
 #include "calls.h"
 
 #include <stdio.h>

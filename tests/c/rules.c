@@ -1,7 +1,7 @@
 /* Which versions satisfy which ranges, in each dialect and by each rule for pre-releases: for
  * short and long strings, one by one and many at once; which error is returned first; and
- * invalid options. The expected values are in the tables of docs/RANGES.md and of
- * docs/MEANING.md. */
+ * invalid options. The expected values are in the tables of rust/docs/RANGES.md and of
+ * rust/docs/MEANING.md. */
 #include "calls.h"
 
 #include <stdio.h>

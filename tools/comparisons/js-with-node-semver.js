@@ -7,7 +7,7 @@
 // `includePrerelease`, and some with the parsed objects. It prints the first difference, and then
 // exits with 1.
 //
-// Known differences, which docs/GRAMMAR.md, docs/MEANING.md and js/README.md list, are counted by
+// Known differences, which rust/docs/GRAMMAR.md, rust/docs/MEANING.md and js/README.md list, are counted by
 // kind: texts that node-semver reads by accident, digits above 2^53, which it compares as floats,
 // and its results for two ranges, which it computes from their comparators.
 'use strict'

@@ -1,4 +1,4 @@
-"""Compares release-filter with its manual, docs/GRAMMAR.md and docs/MEANING.md:
+"""Compares release-filter with its manual, rust/docs/GRAMMAR.md and rust/docs/MEANING.md:
 lines-in-pieces.py PROGRAM COUNT SEED.
 
 This makes COUNT random texts of lines, each with a range and options. Its own code determines what
@@ -22,7 +22,7 @@ def versions(before, pre, build, after):
     return re.compile(rb"%s%s\.%s\.%s(?:-(%s(?:\.%s)*))?(?:\+(%s(?:\.%s)*))?%s" % (before, NUMBER, NUMBER, NUMBER, pre, pre, build, build, after))
 
 
-# The versions of the crate, of SemVer 2.0.0 and of npm, by docs/GRAMMAR.md.
+# The versions of the crate, of SemVer 2.0.0 and of npm, by rust/docs/GRAMMAR.md.
 RUNS = rb"[0-9A-Za-z]+(?:-[0-9A-Za-z]+)*"
 NO_ZERO = rb"(?:0|[1-9][0-9]*|[0-9]*[A-Za-z-][0-9A-Za-z-]*)"
 CRATE = versions(rb"[ \t\r\n]*", RUNS, RUNS, rb"[ \t\r\n]*")

@@ -4,9 +4,9 @@
 // COUNT texts of each kind that versions-with-tools.js makes, all texts of up to four characters,
 // and all of up to three after `1.0.0-` and after `1.0.0+`. What is a version is determined by
 // node-semver for npm, by the regular expression of semver.org with numbers below 2^64 for Cargo,
-// and by the one in docs/GRAMMAR.md for the crate. A prefix of a version is a text that one of
+// and by the one in rust/docs/GRAMMAR.md for the crate. A prefix of a version is a text that one of
 // COMPLETIONS makes a version; for short texts all completions of up to three characters are tried,
-// too. The reason is the one in the table of docs/GRAMMAR.md, found by a node-semver whose limit of
+// too. The reason is the one in the table of rust/docs/GRAMMAR.md, found by a node-semver whose limit of
 // length is raised. It prints the first 20 differences, and then exits with 1.
 'use strict'
 

@@ -6,7 +6,7 @@
 //! a build looks like a pre-release, so they are undone in the text. After three components the
 //! build is removed. Each part of a pre-release that begins with a digit and isn't a canonical
 //! decimal gets letters in front, since the crate then keeps it as a text. In the result for that
-//! text, such a part is replaced by what the rule in docs/CRATE.md says.
+//! text, such a part is replaced by what the rule in rust/docs/CRATE.md says.
 
 use crate::cases::{Case, Kind};
 use crate::exact;
