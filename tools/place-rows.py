@@ -3,8 +3,8 @@
 tools/place-rows.py > FILE
 
 Of two lines, the first belongs to `stdin` and the second to `stdout`. Regular expressions after
-rust/docs/GRAMMAR.md determine whether a text is a range. A text is a prefix of a range if some text of
-up to three characters completes it. The reason of each row is written here by hand, and so are the
+rust/docs/GRAMMAR.md determine whether a text is a range. A text is a prefix of a range if some text
+of up to three characters completes it. The reason of each row is written here by hand, and so are the
 rows with numbers that are too large and with texts that are too long.
 """
 import re

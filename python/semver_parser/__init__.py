@@ -15,8 +15,8 @@ Versions are those of SemVer 2.0.0. For the versions of Python packages, which f
 (`1.0rc1`, `~=1.2`), use `packaging`.
 
 The `dialect` says whose rules apply: "npm", "cargo", or those of the Rust crate `semver-parser`,
-"crate-npm" and "crate-cargo". rust/docs/GRAMMAR.md of the repository says which strings are versions and
-ranges, and rust/docs/MEANING.md which versions satisfy a range.
+"crate-npm" and "crate-cargo". The pages GRAMMAR and MEANING of the repository say which strings are
+versions and ranges, and which versions satisfy a range.
 
 Strings are `str`, or `bytes` in UTF-8. These errors are raised:
 

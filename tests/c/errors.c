@@ -1,6 +1,6 @@
 /* Errors: each status and each reason is returned for some string, with its offset, and has its
- * own text and name; and their messages. The expected values are in rust/docs/GRAMMAR.md and in rows
- * of rust/tests/layers. */
+ * own text and name; and their messages. The expected values are in rust/docs/GRAMMAR.md and in
+ * rows of rust/tests/layers. */
 #include "calls.h"
 
 #include <stdio.h>

@@ -1,5 +1,6 @@
 /* Parsed ranges: how they are printed, combined and compared, ranges with different options, and
- * the highest and lowest version of a list. The expected values follow from rust/docs/MEANING.md. */
+ * the highest and lowest version of a list. The expected values follow from
+ * rust/docs/MEANING.md. */
 #include "calls.h"
 
 #include <stdlib.h>

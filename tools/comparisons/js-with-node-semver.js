@@ -7,9 +7,9 @@
 // `includePrerelease`, and some with the parsed objects. It prints the first difference, and then
 // exits with 1.
 //
-// Known differences, which rust/docs/GRAMMAR.md, rust/docs/MEANING.md and js/README.md list, are counted by
-// kind: texts that node-semver reads by accident, digits above 2^53, which it compares as floats,
-// and its results for two ranges, which it computes from their comparators.
+// Known differences, which rust/docs/GRAMMAR.md, rust/docs/MEANING.md and js/README.md list, are
+// counted by kind: texts that node-semver reads by accident, digits above 2^53, which it compares as
+// floats, and its results for two ranges, which it computes from their comparators.
 'use strict'
 
 const path = require('path')

@@ -6,8 +6,8 @@
 // node-semver for npm, by the regular expression of semver.org with numbers below 2^64 for Cargo,
 // and by the one in rust/docs/GRAMMAR.md for the crate. A prefix of a version is a text that one of
 // COMPLETIONS makes a version; for short texts all completions of up to three characters are tried,
-// too. The reason is the one in the table of rust/docs/GRAMMAR.md, found by a node-semver whose limit of
-// length is raised. It prints the first 20 differences, and then exits with 1.
+// too. The reason is the one in the table of rust/docs/GRAMMAR.md, found by a node-semver whose
+// limit of length is raised. It prints the first 20 differences, and then exits with 1.
 'use strict'
 
 const { Random, answers } = require('./with-node-semver.js')
