@@ -18,6 +18,9 @@ import time
 def main(text, *command):
     process, terminal = pty.fork()
     if process == 0:
+        # A shell that runs this in the background has it ignore Ctrl-C.
+        for it in (signal.SIGHUP, signal.SIGINT, signal.SIGQUIT, signal.SIGTERM):
+            signal.signal(it, signal.SIG_DFL)
         os.execvp(command[0], command)
     written, pressed = b'', None
     while True:
