@@ -49,8 +49,8 @@ impl Dialect {
     /// use semver_parser::version::Grammar;
     /// use semver_parser::Dialect;
     ///
-    /// assert!(Dialect::Npm.grammar() == Grammar::Npm);
-    /// assert!(Dialect::CrateNpm.grammar() == Grammar::Crate);
+    /// assert!(matches!(Dialect::Npm.grammar(), Grammar::Npm));
+    /// assert!(matches!(Dialect::CrateNpm.grammar(), Grammar::Crate));
     /// ```
     #[must_use]
     pub fn grammar(self) -> Grammar

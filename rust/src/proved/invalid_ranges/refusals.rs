@@ -13,12 +13,12 @@ use crate::proved::tool_ranges::dialect::Dialect;
 /// The error of an invalid range string: its offset and its reason.
 ///
 /// ```
-/// use semver_parser::layers::{explain_range, RangeRefusal};
+/// use semver_parser::layers::explain_range;
 /// use semver_parser::{Dialect, RangeError, Reason};
 ///
-/// let (error, reason) = (RangeError::NotARange, Reason::CargoBars);
-/// let refusal = explain_range("1.2 || 3", Dialect::Cargo)?;
-/// assert_eq!(refusal, Some(RangeRefusal { error, offset: 4, reason }));
+/// let refusal = explain_range("1.2 || 3", Dialect::Cargo)?.unwrap();
+/// assert_eq!(refusal.error, RangeError::NotARange);
+/// assert_eq!((refusal.offset, refusal.reason), (4, Reason::CargoBars));
 /// # Ok::<(), semver_parser::AllocError>(())
 /// ```
 #[derive(Clone, Copy)]

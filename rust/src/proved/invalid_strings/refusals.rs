@@ -17,11 +17,11 @@ use crate::rattle_std::AllocError;
 /// The error of an invalid version string: its offset and its reason.
 ///
 /// ```
-/// use semver_parser::layers::{explain_version, VersionRefusal};
+/// use semver_parser::layers::explain_version;
 /// use semver_parser::{Dialect, Reason};
 ///
-/// let refusal = explain_version(b"1.2.3-01", Dialect::Npm)?;
-/// assert_eq!(refusal, Some(VersionRefusal { offset: 8, reason: Reason::LeadingZero }));
+/// let refusal = explain_version(b"1.2.3-01", Dialect::Npm)?.unwrap();
+/// assert_eq!((refusal.offset, refusal.reason), (8, Reason::LeadingZero));
 /// # Ok::<(), semver_parser::AllocError>(())
 /// ```
 #[derive(Clone, Copy)]
