@@ -5,7 +5,7 @@ use crate::original::printed;
 use crate::rattle_std::{FalliblePush, FallibleString};
 use crate::{AllocError, Dialect, RangeError, Reason};
 use alloc::string::String;
-use core::fmt::{self, Display, Formatter};
+use core::fmt::{self, Display, Formatter, Write as _};
 use core::str;
 
 /// The kind of an [`Error`].
@@ -204,13 +204,12 @@ impl Display for Error {
             return f.write_str(kind);
         };
         if f.alternate() {
-            let before = string
-                .get(..offset)
-                .unwrap_or_default()
-                .escape_debug()
-                .count();
-            let shown = string.escape_debug();
-            return write!(f, "{kind}: {reason}\n    {shown}\n    {:before$}^", "");
+            write!(f, "{kind}: {reason}\n    {}\n    ", string.escape_debug())?;
+            // Not by a width, which can't be above 65,535.
+            for _ in string.get(..offset).unwrap_or_default().escape_debug() {
+                f.write_char(' ')?;
+            }
+            return f.write_char('^');
         }
         write!(f, "{kind} {string:?} at offset {offset}: {reason}")
     }

@@ -223,6 +223,18 @@ fn a_caret_is_below_the_character_at_the_offset() {
     }
 }
 
+/// A width in a format string can't be above 65,535.
+#[test]
+fn a_caret_may_be_far_away() {
+    for length in [10, 65_535, 66_000] {
+        let version = format!("1.2.3-{}!", "a".repeat(length));
+        let error = check_version(&version, Dialect::Cargo).unwrap_err();
+        let caret = format!("{}^", " ".repeat(4 + version.len() - 1));
+        let wanted = format!("invalid version: unexpected character\n    {version}\n{caret}");
+        assert_eq!(format!("{error:#}"), wanted);
+    }
+}
+
 /// What isn't UTF-8 is replaced as std does.
 #[test]
 fn an_error_of_bytes_has_them_as_a_string() {

@@ -66,7 +66,11 @@ pub fn of_error<'a>(error: &Error, of: &[u8], caret: bool) -> Result<*mut c_char
     text.write_fmt(format_args!("{status} {left}\"{shown:#}\"{right} at offset "))?;
     text.write_fmt(format_args!("{}: {reason}", error.offset))?;
     if caret {
-        text.write_fmt(format_args!("\n    {left}{shown}{right}\n    {:column$}^", ""))?;
+        text.write_fmt(format_args!("\n    {left}{shown}{right}\n    "))?;
+        for _ in 0..column {
+            text.write_fmt(format_args!(" "))?;
+        }
+        text.write_fmt(format_args!("^"))?;
     }
     printed(text)
 }
