@@ -47,8 +47,8 @@ pub record Made (p : PartialTree) (first : Component) (second third : Option Com
 -- dot and after its second one are those of the partial version
 pub components_made : (p : PartialTree) (c : Components) → AreWritten p c → (word rest text second third : Text)
     → SpellsPartial p word → text ≡ word ++ rest
-    → ((x r : Text) → is_component x ≡ true → text ≡ x ++ (46 ∷ r) → second ≡ r)
-    → ((x r : Text) → is_component x ≡ true → second ≡ x ++ (46 ∷ r) → third ≡ r)
+    → ((x r : Text) → nat_lt 1 c.count ≡ true → is_component x ≡ true → text ≡ x ++ (46 ∷ r) → second ≡ r)
+    → ((x r : Text) → nat_lt 2 c.count ≡ true → is_component x ≡ true → second ≡ x ++ (46 ∷ r) → third ≡ r)
     → (a b c' : Component)
     → ((x r : Text) → IsComponentOf x c.major → text ≡ x ++ r → a ≡ component_of x)
     → ((x r : Text) → IsComponentOf x c.minor → second ≡ x ++ r → b ≡ component_of x)
@@ -65,7 +65,7 @@ components_made (two x y) c w word rest text second third spelled whole next las
     let all : text ≡ x ++ (46 ∷ (y ++ rest)) = rw (whole, spelled.2) (simp append_assoc) in
     record {
       major = f x (46 ∷ (y ++ rest)) w.stand.0 all;
-      minor = m ∙ rw w.count (ap Some (g y rest w.stand.1 (next x (y ++ rest) each.0 all)));
+      minor = m ∙ rw w.count (ap Some (g y rest w.stand.1 (next x (y ++ rest) (rw w.count refl) each.0 all)));
       patch = n ∙ rw w.count refl;
     }
 components_made (three x y z pre build) c w word rest text second third spelled whole next last a b c' f g h minor patch m n =
@@ -73,9 +73,9 @@ components_made (three x y z pre build) c w word rest text second third spelled 
     let other = and_parts (is_component y) _ first.1 in
     let back = qualifier (three x y z pre build) ++ rest in
     let all : text ≡ x ++ (46 ∷ (y ++ (46 ∷ (z ++ back)))) = rw (whole, spelled.2) (simp append_assoc) in
-    let after = next x (y ++ (46 ∷ (z ++ back))) first.0 all in
+    let after = next x (y ++ (46 ∷ (z ++ back))) (rw w.count refl) first.0 all in
     record {
       major = f x (46 ∷ (y ++ (46 ∷ (z ++ back)))) w.stand.0 all;
       minor = m ∙ rw w.count (ap Some (g y (46 ∷ (z ++ back)) w.stand.1 after));
-      patch = n ∙ rw w.count (ap Some (h z back w.stand.2 (last y (z ++ back) other.0 after)));
+      patch = n ∙ rw w.count (ap Some (h z back w.stand.2 (last y (z ++ back) (rw w.count refl) other.0 after)));
     }

@@ -255,8 +255,8 @@ fn version<'text>(
     ensures { (p : PartialTree) (word rest : Text) → SpellsPartial p word → text.now ≡ word ++ rest
         → AreWritten p written.now → IsVersionOf span has_v p result }
 {
-    let second = after_dot(text);
-    let third = after_dot(second);
+    let second = after_dot(text, written.count > 1);
+    let third = after_dot(second, written.count > 2);
     PartialVersion {
         span,
         has_v,
@@ -268,11 +268,15 @@ fn version<'text>(
     }
 }
 
-/// Returns what follows the first dot of a string, which is nothing if there is none.
-fn after_dot(text: &[u8]) -> &[u8]
-    ensures { (word rest : Text) → is_component word ≡ true → text.now ≡ word ++ (46 ∷ rest)
-        → result.now ≡ rest }
+/// Returns what follows the first dot of a string, if a component is there. Otherwise it doesn't
+/// look for a dot, which could be far away, or in another version.
+fn after_dot(text: &[u8], has_component: bool) -> &[u8]
+    ensures { (word rest : Text) → has_component ≡ true → is_component word ≡ true
+        → text.now ≡ word ++ (46 ∷ rest) → result.now ≡ rest }
 {
+    if !has_component {
+        return &[];
+    }
     match split_at_dot(text) {
         (_, Some(after)) => after,
         (_, None) => &[],

@@ -180,8 +180,8 @@ fn version<'text>(
     text: &[u8],
     written: &Components<'text>,
 ) -> PartialVersion<'text> {
-    let second = after_dot(text);
-    let third = after_dot(second);
+    let second = after_dot(text, written.count > 1);
+    let third = after_dot(second, written.count > 2);
     PartialVersion {
         span,
         has_v,
@@ -193,8 +193,12 @@ fn version<'text>(
     }
 }
 
-/// Returns what follows the first dot of a string, which is nothing if there is none.
-fn after_dot(text: &[u8]) -> &[u8] {
+/// Returns what follows the first dot of a string, if a component is there. Otherwise it doesn't
+/// look for a dot, which could be far away, or in another version.
+fn after_dot(text: &[u8], has_component: bool) -> &[u8] {
+    if !has_component {
+        return &[];
+    }
     match split_at_dot(text) {
         (_, Some(after)) => after,
         (_, None) => &[],
