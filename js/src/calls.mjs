@@ -23,11 +23,21 @@ const NOTHING = Object.freeze({ string: null, length: 0 })
 let held = NOTHING
 
 function open(instance) {
-  functions = instance.exports
+  const { exports } = instance
+  if (!(exports.memory instanceof WebAssembly.Memory) || typeof exports.numbers !== 'function') {
+    throw new TypeError('the module is not that of this package')
+  }
+  functions = exports
   held = NOTHING
   buffer = { begin: 0, capacity: 0 }
-  refresh()
-  reserve(1024)
+  try {
+    refresh()
+    reserve(1024)
+  } catch (error) {
+    // So the next call opens it again.
+    functions = null
+    throw error
+  }
 }
 
 // What sees the memory has to be made anew when that has grown.

@@ -428,6 +428,16 @@ test('if bytes are rejected, init takes a module', async () => {
   assert.deepEqual(await inWorker(refuse), [true, '1.2.3'])
 })
 
+test('after another module was rejected, the package works', async () => {
+  const other = 'new Uint8Array([0, 0x61, 0x73, 0x6d, 1, 0, 0, 0])'
+  const code = `const semver = require('semver-parser-proved')
+    let refused = ''
+    try { semver.init(${other}) } catch (error) { refused = error.name + ': ' + error.message }
+    ${SEND}([refused, semver.valid('1.2.3')])`
+  const refused = 'TypeError: the module is not that of this package'
+  assert.deepEqual(await inWorker(code), [refused, '1.2.3'])
+})
+
 test('the file for browsers has no bytes, but takes them', async () => {
   const code = `import('semver-parser-proved/browser').then((it) => {
     let refused = ''
