@@ -7,7 +7,7 @@ from typing import List
 
 from semver_parser import Dialect, PreReleases, Range, RangeError, Version, VersionError
 
-MANUAL = Path(__file__).resolve().parents[2] / "docs" / "RANGES.md"
+MANUAL = Path(__file__).resolve().parents[2] / "rust" / "docs" / "RANGES.md"
 DIALECTS = (Dialect.CARGO, Dialect.NPM, Dialect.CRATE_CARGO, Dialect.CRATE_NPM)
 RULES = (PreReleases.DEFAULT, PreReleases.INCLUDED)
 
