@@ -277,9 +277,9 @@ export declare function terms<D extends Dialect = 'npm'>(range: string, options:
  * Returns a range in which a version of a term has the numbers of another version. The form of the version in the
  * range is kept: how many components it has, its wildcards and its `v`. If it has three numbers, the pre-release of
  * the other version is written, too; the build metadata of the other version never is. Throws a `SemverError` if the
- * range or the other version is invalid, and a `TypeError` if no version of the range begins where `written` does.
+ * range or the other version is invalid, and a `TypeError` if the range doesn't have the version `written` there.
  */
-export declare function replaceVersion(range: string, written: Pick<TermVersion<Dialect>, 'start' | 'hasV'>, version: AnyVersion, options?: OptionsOrLoose<Dialect>): string
+export declare function replaceVersion(range: string, written: TermVersion<Dialect>, version: AnyVersion, options?: OptionsOrLoose<Dialect>): string
 /** Returns the lowest version of all that satisfy a range; null if none does. */
 export declare function minVersion<D extends Dialect = 'npm'>(range: RangeOf<D>, options?: WithoutDialect): SemVer<D> | null
 export declare function minVersion<D extends Dialect = 'npm'>(range: AnyRange, options: OptionsOrLoose<D>): SemVer<D> | null

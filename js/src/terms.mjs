@@ -54,6 +54,10 @@ export function terms(range, options) {
   return read.terms.map((numbers) => termOf(numbers, range, meaning, indexAt))
 }
 
+// Whether a version of a term, if it has one, is the given one: at the same place, and the same.
+const isWritten = (version, written) => version !== null &&
+  Object.keys(version).every((key) => version[key] === written[key])
+
 // How many bytes the beginning of a string has, up to an index.
 const bytesBefore = (string, index) => new TextEncoder().encode(string.slice(0, index)).length
 
@@ -63,10 +67,13 @@ export function replaceVersion(range, written, version, options) {
   checkDialect(meaning, version)
   if (typeof range !== 'string') throw noString('range', range)
   const string = stringOf(version)
+  const versions = terms(range, options).flatMap((term) => [term.version, term.upper])
+  if (!versions.some((it) => isWritten(it, written))) {
+    throw new TypeError(`the range does not have this version at index ${written.start}`)
+  }
   const begin = bytesBefore(range, written.start)
   const made = replaceOnce(range, begin, string, meaning.dialect)
   if (made === 0) return stringBack()
-  if (made === 1) throw new TypeError(`no version of the range begins at index ${written.start}`)
   if (made === OUT_OF_MEMORY) throw new RangeError('out of memory')
   throw made === -1 ? invalidVersion(string, meaning, 1) : invalidRange(range, meaning)
 }

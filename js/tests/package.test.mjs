@@ -213,7 +213,17 @@ test('a version in a range gets the numbers of another one', () => {
   assert.throws(() => semver.replaceVersion('^1.02', written, '2.0.0'), { name: 'SemverError', kind: 'range', argument: 0, input: '^1.02' })
   assert.throws(() => semver.replaceVersion('^1.02', written, '2.0'), { name: 'SemverError', kind: 'range' })
   assert.throws(() => semver.replaceVersion('^1.2', written, '2.0'), { name: 'SemverError', kind: 'version', argument: 1, input: '2.0' })
-  assert.throws(() => semver.replaceVersion('1.2', written, '2.0.0'), { name: 'TypeError', message: 'no version of the range begins at index 1' })
+  const none = { name: 'TypeError', message: 'the range does not have this version at index 1' }
+  assert.throws(() => semver.replaceVersion('1.2', written, '2.0.0'), none)
+  assert.throws(() => semver.replaceVersion('^2.2', written, '2.0.0'), none)
+  for (const start of [-1, NaN, null, '1', 1.5, 9, undefined]) {
+    assert.throws(() => semver.replaceVersion('^1.2', { ...written, start }, '2.0.0'), { ...none, message: `the range does not have this version at index ${start}` })
+  }
+  // After the first replacement made the string longer, the other versions are elsewhere.
+  const range = '1 || 2 || 3', found = semver.terms(range).map((term) => term.version)
+  const longer = semver.replaceVersion(range, found[0], '10.0.0')
+  assert.throws(() => semver.replaceVersion(longer, found[2], '4.0.0'), { name: 'TypeError' })
+  assert.equal(found.reduceRight((string, it) => semver.replaceVersion(string, it, '10.0.0'), range), '10 || 10 || 10')
   assert.throws(() => semver.replaceVersion(5, written, '2.0.0'), /Invalid range\. Must be a string/)
   assert.throws(() => semver.replaceVersion('^1.2', written, 5), /Invalid version\. Must be a string/)
 })

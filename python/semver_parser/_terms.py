@@ -5,7 +5,7 @@ from dataclasses import dataclass
 from typing import Callable, Dict, List, Literal, Optional, Union, cast
 
 from ._errors import RangeError, VersionError
-from ._interface import INVALID_ARGUMENT, INVALID_RANGE, INVALID_VERSION, NUMBER_TOO_LARGE
+from ._interface import INVALID_RANGE, INVALID_VERSION, NUMBER_TOO_LARGE
 from ._interface import CComponent, CPartialVersion, CTerm
 from ._library import LIBRARY, check
 from ._options import AnyDialect, Dialect, dialect_of
@@ -110,14 +110,18 @@ def replace_version(
     '~1.2 || ^3.x'
 
     Raises `RangeError` if the string isn't a range in the dialect, `VersionError` if the other
-    version is invalid, `ValueError` if no version of the range begins where `written` does, and
-    `TypeError` if `written` isn't a version of a term. The result may be invalid if the other
-    version is at one of the dialect's limits.
+    version is invalid, `ValueError` if the range doesn't have the version `written` where that is,
+    and `TypeError` if `written` isn't a version of a term. Replace several versions from the last
+    one to the first, so that the others stay where they are. The result may be invalid if the
+    other version is at one of the dialect's limits.
     """
     if not isinstance(written, PartialVersion):
         raise TypeError(f"not a PartialVersion of a term: {written!r}")
     dialect = dialect_of(dialect)
     other = str(version) if isinstance(version, Version) else version
+    found = terms(range, dialect=dialect)
+    if not any(written in (term.version, term.upper) for term in found):
+        raise ValueError(f"the range doesn't have this version at index {written.start}")
     replaced = ctypes.c_char_p()
     status = LIBRARY.semver_parser_replace_version(
         c_string(range),
@@ -131,8 +135,6 @@ def replace_version(
         raise RangeError(range, dialect)
     if status == INVALID_VERSION:
         raise VersionError(other, dialect)
-    if status == INVALID_ARGUMENT:
-        raise ValueError(f"no version of the range begins at index {written.start}")
     check(status)
     try:
         return (replaced.value or b"").decode("utf-8")

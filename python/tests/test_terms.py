@@ -218,8 +218,9 @@ class Terms(unittest.TestCase):
         with self.assertRaises(VersionError) as version_error:
             replace_version("^1.2", term.version, "2.0", dialect="npm")
         self.assertEqual(version_error.exception.string, "2.0")
-        with self.assertRaisesRegex(ValueError, "no version of the range begins at index 1"):
-            replace_version("1.2", term.version, "2.0.0", dialect="npm")
+        for other in ("1.2", "^2.2", "^1.2.3"):
+            with self.assertRaisesRegex(ValueError, "the range doesn't have this version at index 1"):
+                replace_version(other, term.version, "2.0.0", dialect="npm")
         with self.assertRaisesRegex(TypeError, r"not a PartialVersion of a term: Term\("):
             replace_version("^1.2", term, "2.0.0", dialect="npm")  # type: ignore[arg-type]
         largest = "9007199254740991.0.0"
@@ -230,6 +231,17 @@ class Terms(unittest.TestCase):
         for wrong in (None, 1, term.version):
             with self.assertRaises(TypeError):
                 replace_version("^1.2", term.version, wrong, dialect="npm")
+
+    def test_several_replaced_versions(self) -> None:
+        """After a longer version, the others are elsewhere; before it, they stay where they are."""
+        range = "1 || 2 || 3"
+        found = [term.version for term in terms(range, dialect="npm")]
+        longer = replace_version(range, found[0], "10.0.0", dialect="npm")
+        with self.assertRaises(ValueError):
+            replace_version(longer, found[2], "4.0.0", dialect="npm")
+        for written in reversed(found):
+            range = replace_version(range, written, "10.0.0", dialect="npm")
+        self.assertEqual(range, "10 || 10 || 10")
 
     def test_invalid(self) -> None:
         for string, dialect, offset, reason in INVALID:
