@@ -47,8 +47,8 @@ files in `specs/`. Proofs import lemmas, which the tables name by their files in
 In the tables:
 
 - A star after a clause says that it cites `specs/Steps`. The files there describe what the code does step by step. They are a
-  means of proof between the crates, so no call for users has such a clause, except the views of `Lexer`, `VersionSet` and
-  `Lines`.
+  means of proof between the crates, so no call for users has such a clause, except the views of `Lexer`, `VersionSet`,
+  `Terms` and `Lines`.
 - `requires` marks a premise.
 - The word "one" stands for a premise or a clause without a name, which is the only one of the call.
 
@@ -94,7 +94,8 @@ def imports(text, crate):
 
 
 def function(lines, at):
-    """Returns the head of a function with its clauses, from the line where it begins."""
+    """Returns the head of a function with its clauses, without comments, from the line where it
+    begins."""
     indent = len(lines[at]) - len(lines[at].lstrip())
     taken = []
     for line in lines[at:]:
@@ -103,7 +104,7 @@ def function(lines, at):
         taken.append(line)
         if line.rstrip().endswith(';') and len(taken) == 1:
             break
-    return '\n'.join(taken)
+    return re.sub(r'//.*', '', '\n'.join(taken))
 
 
 def parts(head):
