@@ -148,7 +148,7 @@ stopped_at_a_terminal() {
     stopped_at 'This runs' 'c-header.py rust-crate.sh rt'
     stopped_at 'lasts rt ci' 'c-header.py rust-crate.sh rt'
     stopped_at 'passed: tests/c-header.py' 'c-manuals.py rust-crate.sh rt'
-    stopped_at 'passed: tests/page-examples.py' 'c-calls.sh program-runs.sh documents.py'
+    stopped_at 'passed: tests/page-examples.py' 'c-calls.sh runs.py documents.py'
     stopped_at 'passed: tests/eraser-attacks.py' 'c.sh' all
 }
 
