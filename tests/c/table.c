@@ -8,8 +8,7 @@
 /* Reads a file of a directory. */
 static text text_in(const char *directory, const char *name) {
     text path = {NULL, 0, 0};
-    text_say(&path, directory);
-    text_say(&path, name);
+    text_say(&path, "%s%s", directory, name);
     text read = text_of_file(path.bytes);
     text_free(&path);
     return read;
