@@ -138,7 +138,7 @@ stopped_at() {
     # A part may have passed that had yet to be printed.
     sed -i 's/\r$//; s/^^C//' "$work/said"
     sed -n 's/^passed: \(.*\) ([0-9]* s)$/    \1/p' "$work/said" | sort > "$work/printed"
-    sed -n '/^passed before:$/,/^[^ ]/p' "$work/said" | sort > "$work/listed"
+    sed -n '/^passed before:$/,/^parts: /p' "$work/said" | sort > "$work/listed"
     [ -z "$(comm -23 "$work/printed" "$work/listed")" ] || fail "it should name what passed: $text"
     grep -q '^parts: .* passed, 0 failed' "$work/said" || fail 'it does not count the parts'
     ! grep -q '^failed: ' "$work/said" || fail 'it says that what was stopped has failed'
