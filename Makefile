@@ -48,8 +48,8 @@ built_files := $(built)/semver-parser out/lib/$(shared) out/lib/libsemver_parser
 all: $(built_files)
 	printf 'built %s\n' $(programs:%=$(built)/%) $(filter out/lib/%,$^)
 clean:
-	rm -rf out/cargo out/lib out/man
-	echo 'removed out/cargo, out/lib and out/man'
+	rm -rf out/cargo out/lib out/man.tar
+	echo 'removed out/cargo, out/lib and out/man.tar'
 
 # cargo is always called, and determines what is out of date. It doesn't touch what it doesn't
 # rebuild.
@@ -81,18 +81,18 @@ out/lib/$(shared) out/lib/libsemver_parser.a &: $(built)/libsemver_parser.a \
 		-Wl,-z,defs,-z,text,-z,noexecstack,-z,relro,-z,now semver_parser.o
 	mv $(shared) libsemver_parser.a "$$top/out/lib"
 
-# All manual pages.
-out/man/made: $(wildcard docs/manual/*.md) rust/docs/RANGES.md $(capi)/include/semver_parser.h \
+# All manual pages. They are packed, because some are links to others, and `rt ci` refuses a
+# directory that has a link.
+out/man.tar: $(wildcard docs/manual/*.md) rust/docs/RANGES.md $(capi)/include/semver_parser.h \
 		tools/make-manuals.py tools/roff.py VERSION debian/changelog
 	$(begin)
 	command -v python3 > /dev/null || refuse 'needs the command python3'
-	rm -rf out/man
 	python3 tools/make-manuals.py $(version) $(date) "$$work/man"
-	mkdir -p out && mv "$$work/man" out/man
-	: > $@
+	mkdir -p out
+	tar -cf $@ -C "$$work" man
 
 # Installs below DESTDIR and PREFIX.
-stage stage-python: $(built_files) out/man/made
+stage stage-python: $(built_files) out/man.tar
 	$(begin)
 	install -D -t "$$to/bin" $(programs:%=$(built)/%)
 	install -D -m 644 -t "$$to/include" $(capi)/include/semver_parser.h
@@ -116,10 +116,11 @@ stage stage-python: $(built_files) out/man/made
 			chmod 755 "$$to/bin/$$name"
 		done
 	fi
-	install -D -m 644 -t "$$to/share/man/man1" $(programs:%=out/man/%.1) \
-		$(if $(filter %-python,$@),$(checkers:%=out/man/%.1))
-	cp -P out/man/*.3 "$$to/share/man/man3"
-	install -D -m 644 -t "$$to/share/man/man7" out/man/semver-ranges.7
+	tar -xf out/man.tar -C "$$work"
+	install -D -m 644 -t "$$to/share/man/man1" $(programs:%="$$work/man/%.1") \
+		$(if $(filter %-python,$@),$(checkers:%="$$work/man/%.1"))
+	cp -P "$$work"/man/*.3 "$$to/share/man/man3"
+	install -D -m 644 -t "$$to/share/man/man7" "$$work/man/semver-ranges.7"
 	for name in $(filter-out semver-parser,$(programs)) $(if $(filter %-python,$@),$(checkers)); do
 		install -D -m 644 tools/completions/$$name.bash "$$to/share/bash-completion/completions/$$name"
 		install -D -m 644 tools/completions/_$$name "$$to/$(ZSHDIR)/_$$name"
