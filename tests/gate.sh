@@ -23,7 +23,8 @@ fail() {
 
 # stub FILE BODY: makes a script that prints its name, fails if it is in the variable FAILING, and
 # says that it skips everything if it is in SKIPPING. If it is in LASTING, it and its children last
-# long. One of these is in a session of its own, and ignores signals.
+# long. Some of these are in sessions of their own and ignore signals, and it begins them one after
+# another, so that it is stopped while it does.
 stub() {
     mkdir -p "$(dirname "$1")"
     cat > "$1" << END
@@ -33,8 +34,11 @@ case " \$LASTING " in *" \${0##*/} "*)
     mktemp > /dev/null
     slumber$$ 600 &
     sh -c 'slumber$$ 600 & slumber$$ 600; :' &
-    setsid sh -c 'trap "" INT TERM; slumber$$ 600; :' &
     echo "lasts \${0##*/} \$*"
+    for each in 1 2 3 4 5 6 7 8 9; do
+        setsid sh -c 'trap "" INT TERM; slumber$$ 600; :' &
+        sleep 0.01
+    done
     slumber$$ 600
     ;;
 esac

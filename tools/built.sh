@@ -50,32 +50,56 @@ stop() {
     running=''
 }
 
-# end_by SIGNAL TENTHS: sends a signal to all processes that those in `ever` began, also to those
-# that are begun meanwhile if it is SIGKILL. Returns whether they end within some tenths of a second.
+# end_by SIGNAL TENTHS: sends a signal to all processes that those in `ever` began, and SIGKILL also
+# to those that are begun meanwhile. Returns whether they end within some tenths of a second.
 end_by() {
+    hold
+    kill -s "$1" $left 2> /dev/null || :
+    kill -s CONT $left 2> /dev/null || :
     for tenth in $(seq "$2"); do
-        left=$(begun_by $ever)
+        left=$(begun_by '' $ever)
         [ "$left" ] || return 0
         ever="$ever $left"
-        [ "$tenth" != 1 ] && [ "$1" != KILL ] || kill -s "$1" $left 2> /dev/null || :
+        [ "$1" != KILL ] || kill -s KILL $left 2> /dev/null || :
         sleep 0.1
     done
     return 1
 }
 
-# begun_by PROCESS..: prints these processes, those in their sessions, and all that these began, as
-# far as they haven't ended.
+# hold: halts all processes that those in `ever` began, until none is left that could begin another.
+# If one were ended before what it had just begun is known, and that is in a session of its own,
+# nothing would lead to it any more. `left` are all these processes.
+hold() {
+    for turn in $(seq 20); do
+        left=$(begun_by '' $ever)
+        ever="$ever $left"
+        moving=$(begun_by T $ever)
+        [ "$moving" ] || return 0
+        kill -s STOP $moving 2> /dev/null || :
+    done
+}
+
+# begun_by STATE PROCESS..: prints these processes, those in their sessions, and all that these
+# began, as far as they haven't ended and aren't in a state (T if they are halted).
 begun_by() {
-    sed 's/^\([0-9]*\) (.*) /\1 /' /proc/[0-9]*/stat 2> /dev/null | awk -v numbers="$*" '
-        BEGIN { split(numbers, list); for (at in list) wanted[list[at]] }
-        $2 != "Z" { parent[$1] = $3; if ($1 in wanted || $5 in wanted) found[$1] }
-        END {
-            do {
-                more = 0
-                for (it in parent) if (!(it in found) && parent[it] in found) more = found[it] = 1
-            } while (more)
-            for (it in found) print it
-        }'
+    without=$1
+    shift
+    sed 's/^\([0-9]*\) (.*) /\1 /' /proc/[0-9]*/stat 2> /dev/null |
+        awk -v without="$without" -v numbers="$*" '
+            BEGIN { split(numbers, list); for (at in list) wanted[list[at]] }
+            $2 != "Z" {
+                state[$1] = $2
+                parent[$1] = $3
+                if ($1 in wanted || $5 in wanted) found[$1]
+            }
+            END {
+                do {
+                    more = 0
+                    for (it in parent)
+                        if (!(it in found) && parent[it] in found) more = found[it] = 1
+                } while (more)
+                for (it in found) if (state[it] != without) print it
+            }'
 }
 
 # beside COMMAND..: runs a command as `start` does, and waits for it.
