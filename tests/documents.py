@@ -32,7 +32,8 @@ import proofs_index  # noqa: E402
 TOP = os.path.dirname(os.path.dirname(os.path.abspath(__file__)))
 
 # These crates are programs and tests, so they have no promises.
-UNPROMISED = {'semver_parser_main', 'release_filter_main', 'compare_ranges_main', 'library_tests', 'replayed_cases', 'filter_tests'}
+UNPROMISED = {'semver_parser_main', 'release_filter_main', 'compare_ranges_main', 'library_tests', 'replayed_cases', 'filter_tests',
+              'small_inputs'}
 
 # Only these sources of these crates have promises.
 PROMISED_SOURCES = {'command_line': ['crates/command_line/src/options.rt']}

@@ -5,8 +5,7 @@ of them isn't rejected.
 
 - tests/erasure.py has the rules.
 - tests/erasure_refusals.py has what is rejected before anything is compared.
-- tests/erasure_attacks.py has changes to plant; so does tests/attacks.py, at whose edits
-  tools/erase.py has to stop.
+- tests/attacks.py has edits of a small repository, most of them for this program.
 
 It shares no code with tools/erase.py.
 
@@ -21,8 +20,8 @@ import tempfile
 
 sys.dont_write_bytecode = True
 from erasure import Source, World, below, read  # noqa: E402
-from attacks import ATTACKS as EDITS_FOR_THE_ERASER  # noqa: E402
-from erasure_attacks import ATTACKS  # noqa: E402
+from attacked import make, write  # noqa: E402
+from attacks import EDITS, edit  # noqa: E402
 from erasure_tokens import Refused, tokens_of  # noqa: E402
 
 BEGIN, END = '<!-- counts -->\n', '\n<!-- end of counts -->'
@@ -178,29 +177,17 @@ def plants(top):
     yield 'a statement moved to a clause', name, {source: clause + text[match.end(3):]}
 
 
-def attacks(top):
-    """Yields each attack: its name, the file and words of the expected message, and the new
-    contents of files."""
-    for what, said, name, edits in ATTACKS:
-        changed = {}
-        for path, text in edits.items():
-            before = read(f'{top}/{path}') if os.path.exists(f'{top}/{path}') else ''
-            changed[f'{top}/{path}'] = before.replace(*text) if isinstance(text, tuple) \
-                else before + text
-        yield what, name, said, changed
-
-
-def edits_for_the_eraser(top):
-    """Yields the edits at which tools/erase.py has to stop, together with what a careless eraser
-    would write: each name, and the new contents of files."""
-    for attack in EDITS_FOR_THE_ERASER:
-        changed = {}
-        edits = [*attack.edits, *((f'rust/src/proved/{it[0]}', *it[1:]) for it in attack.careless)]
-        for path, old, new in edits:
-            whole = f'{top}/{path}'
-            before = changed.get(whole, read(whole) if os.path.exists(whole) else '')
-            changed[whole] = before.replace(old, new, 1) if old else before + new
-        yield attack.name, changed
+def missed_edits():
+    """Yields the edits of tests/attacks.py for this program that it doesn't see, and the repository
+    without an edit if something is reported in it."""
+    for each in (edit('none', '', erased=None), *EDITS):
+        if 'erased' not in each.seen:
+            continue
+        with tempfile.TemporaryDirectory() as copy:
+            make(copy, each)
+            said = '\n'.join(message for _, message in check(copy, set())[0])
+        if each.seen['erased'] not in said if each.seen['erased'] else said:
+            yield f'not as it should be: {each.name}: {each.seen["erased"]}, but {said}'
 
 
 def refused(top, right, changed):
@@ -213,19 +200,10 @@ def refused(top, right, changed):
     return wrong
 
 
-def write(texts):
-    for path, text in texts.items():
-        if text is None:
-            os.remove(path)
-            continue
-        os.makedirs(os.path.dirname(path), exist_ok=True)
-        with open(path, 'w', encoding='utf-8', newline='') as file:
-            file.write(text)
-
-
 def must_fail(top, right):
     """Returns how many changes are planted in a copy. Exits if one of them isn't rejected."""
-    count, missed = 0, []
+    missed = [*missed_edits()]
+    count = sum('erased' in each.seen for each in EDITS)
     with tempfile.TemporaryDirectory() as copy:
         for part in ('crates', 'rust/src/proved'):
             shutil.copytree(f'{top}/{part}', f'{copy}/{part}')
@@ -233,15 +211,6 @@ def must_fail(top, right):
         for what, name, changed in plants(copy):
             if [file for file, _ in refused(copy, right, changed)] != [name]:
                 missed.append(f'not refused: {what}, {name}')
-            count += 1
-        for what, name, said, changed in attacks(copy):
-            wrong = refused(copy, right, changed)
-            if not any(said in message for _, message in wrong if message.startswith(f'{name}:')):
-                missed.append(f'not refused: {what}, {name}: {said}, but {wrong}')
-            count += 1
-        for what, changed in edits_for_the_eraser(copy):
-            if not refused(copy, right, changed):
-                missed.append(f'not refused: {what}')
             count += 1
         name, match = next(places(f'{copy}/rust/src/proved', r';(?=\n)'))
         text = f'{match.string[:match.end()]} // Planted.{match.string[match.end():]}'

@@ -1,16 +1,12 @@
 #!/usr/bin/env python3
-"""Makes each edit of tests/attacks.py in a copy of the sources, and runs tools/erase.py there.
-tools/erase.py has to stop at the line and for the reason that the edit names, and to write nothing.
+"""Makes the edits of tests/attacks.py, each in a copy of a small repository, and asks the judges
+that it names: tools/erase.py, the types that tests/erased_types.py shows, and the tables of rows.
+tests/erased.py makes its edits in each of its own runs, and isn't asked here. Without an edit, no
+judge may see anything.
 
-- Without an edit, it has to write rust/src/proved.
-- What a careless eraser wrote has to fit rust/src/proved as it is.
-- At the edits of sources in tests/erasure_attacks.py, which are for tests/erased.py, tools/erase.py
-  has to stop, too.
-
-tests/eraser-attacks.py [WORD..]  only attacks whose names contain one of these words
+tests/eraser-attacks.py [WORD..]  only edits whose names contain one of these words
 """
 import concurrent.futures
-import filecmp
 import glob
 import os
 import shutil
@@ -19,134 +15,108 @@ import sys
 import tempfile
 
 sys.dont_write_bytecode = True
-from attacks import ATTACKS  # noqa: E402
-from erasure_attacks import ATTACKS as OF_THE_OTHER  # noqa: E402
+from attacked import FILES, make  # noqa: E402
+from attacks import EDITS, edit  # noqa: E402
+from erased_types import compile_base, reported, tool  # noqa: E402
 
 TOP = os.path.dirname(os.path.dirname(os.path.realpath(__file__)))
-ERASED = f'{TOP}/rust/src/proved'
-
-# In this attack only the Rust is wrong; the source is right.
-OF_RUST_ALONE = {'a comment that only Rust has'}
+TYPED = ('types', 'clippy', 'rustc')
 
 
-def copied(work):
-    """Copies the eraser and the files that it reads."""
+def by_eraser(each, work):
+    """Returns what tools/erase.py says. It may not write anything if it says something, and without
+    an edit it has to write what is in `FILES`."""
+    make(work, each)
     os.mkdir(f'{work}/tools')
     for path in glob.glob(f'{TOP}/tools/erase*.py') + [f'{TOP}/tools/rattle_source.py']:
         shutil.copy(path, f'{work}/tools')
-    shutil.copy(f'{TOP}/crates.txt', work)
-    for path in glob.glob(f'{TOP}/crates/*/src'):
-        shutil.copytree(path, f'{work}/{os.path.relpath(path, TOP)}')
+    done = subprocess.run([sys.executable, f'{work}/tools/erase.py', f'{work}/made'],
+                          capture_output=True, text=True, check=False)
+    said, is_made = done.stderr, os.path.exists(f'{work}/made')
+    if bool(said) == is_made or done.returncode != int(not is_made) \
+            or said and (said.count('\n') != 1 or not said.startswith('tools/erase.py: ')):
+        return f'status {done.returncode}, {"something" if is_made else "nothing"} made: {said}'
+    for path, text in FILES.items() if not each.source and is_made else ():
+        made = path.replace('rust/src/proved', f'{work}/made')
+        if made != path and read(made) != text:
+            return f'made otherwise: {path}'
+    return said
 
 
-def edited(top, edits):
-    """Makes edits below a directory. Returns what is wrong with one, if anything."""
-    for path, old, new in edits:
-        text = ''
-        if os.path.exists(f'{top}/{path}'):
-            with open(f'{top}/{path}', encoding='utf-8', newline='') as file:
-                text = file.read()
-        if text.count(old) != 1 and (old or text):
-            return f'{path} does not have this exactly once: {old}'
-        os.makedirs(os.path.dirname(f'{top}/{path}'), exist_ok=True)
-        with open(f'{top}/{path}', 'w', encoding='utf-8', newline='') as file:
-            file.write(text.replace(old, new) if old else new)
-    return None
+def read(path):
+    with open(path, encoding='utf-8', newline='') as file:
+        return file.read()
 
 
-def erased(work):
-    return subprocess.run([f'{work}/tools/erase.py', f'{work}/erased'], capture_output=True,
-                          text=True, check=False)
-
-
-def wanted(work, attack):
-    """Returns the message that tools/erase.py has to print, up to the words that it quotes."""
-    path, shown = attack.at
-    with open(f'{work}/{path}', encoding='utf-8', newline='') as file:
-        before = file.read().partition(shown)[0]
-    line = before.count('\n') + 1
-    return f'tools/erase.py: {path}:{line}: {attack.why}'
-
-
-def attacked(attack):
-    """Returns what is wrong: the eraser doesn't stop, stops for another reason, or wrote
-    something."""
-    with tempfile.TemporaryDirectory() as work:
-        copied(work)
-        wrong = edited(work, attack.edits)
-        if wrong:
-            return wrong
-        done, message = erased(work), wanted(work, attack)
-        if done.returncode != 1 or os.path.exists(f'{work}/erased'):
-            return f'it was erased, but should have stopped with {message}'
-        if not done.stderr.startswith(f'{message}: ') or done.stderr.count('\n') != 1:
-            return f'stopped with {done.stderr.strip()}\n  and not with {message}'
-        shutil.copytree(ERASED, f'{work}/careless')
-        return edited(f'{work}/careless', attack.careless)
-
-
-def sources_of(edits):
-    """Returns the edits of sources."""
-    return {path: text for path, text in edits.items() if path.startswith('crates')}
-
-
-def attacked_as_the_other(edits):
-    """Returns what is wrong: the eraser doesn't stop, or wrote something."""
-    with tempfile.TemporaryDirectory() as work:
-        copied(work)
-        for path, text in sources_of(edits).items():
-            before = ''
-            if os.path.exists(f'{work}/{path}'):
-                with open(f'{work}/{path}', encoding='utf-8', newline='') as file:
-                    before = file.read()
-            os.makedirs(os.path.dirname(f'{work}/{path}'), exist_ok=True)
-            with open(f'{work}/{path}', 'w', encoding='utf-8', newline='') as file:
-                file.write(before.replace(*text) if isinstance(text, tuple) else before + text)
-        done = erased(work)
-        if done.returncode != 1 or os.path.exists(f'{work}/erased'):
-            return 'it was erased, but should have stopped'
-        if not done.stderr.startswith('tools/erase.py: '):
-            return f'stopped with {done.stderr.strip()}'
-        return None
-
-
-def differences(one, other):
-    """Returns the names of files that differ, or that only one of two directories has."""
-    compared = filecmp.dircmp(one, other)
-    found = compared.left_only + compared.right_only + compared.diff_files
-    for name in compared.common_dirs:
-        found += differences(f'{one}/{name}', f'{other}/{name}')
+def by_types(each, work, bases):
+    """Returns what the types show, by judge."""
+    make(f'{work}/edited', each)
+    proved, found = f'{work}/edited/rust/src/proved', {judge: '' for judge in TYPED}
+    for std, base in bases.items():
+        for judge, message in reported(proved, f'{work}/{std}', std, base)[0]:
+            found[judge] += message + '\n'
     return found
 
 
-def without_edits():
-    """Returns what is wrong if nothing is edited."""
+def by_rows(each, work):
+    """Returns what a table says of its program, built by cargo from edited Rust."""
+    for path in ('Cargo.toml', 'Cargo.lock'):
+        if os.path.exists(f'{TOP}/{path}'):
+            shutil.copy(f'{TOP}/{path}', work)
+    shutil.copytree(f'{TOP}/rust', f'{work}/rust')
+    for name, (old, new) in each.rust.items():
+        path = f'{work}/rust/src/proved/{name}'
+        text = read(path)
+        if old not in text:
+            return f'{name} does not have {old}'
+        with open(path, 'w', encoding='utf-8') as file:
+            file.write(text.replace(old, new))
+        program = name.split('/')[0].removesuffix('_main').replace('_', '-')
+    subprocess.run(['cargo', 'build', '--quiet', '--offline', '--bin', program, '--manifest-path',
+                    f'{work}/rust/Cargo.toml', '--target-dir', f'{work}/target'], check=True)
+    done = subprocess.run([f'{TOP}/tests/runs.py', '--cargo', program,
+                           f'{work}/target/debug/{program}'], capture_output=True, text=True,
+                          check=False)
+    return done.stdout + done.stderr
+
+
+def wrong(each, bases):
+    """Yields which judges don't say what they have to."""
     with tempfile.TemporaryDirectory() as work:
-        copied(work)
-        done = erased(work)
-        if done.returncode:
-            return done.stderr.strip()
-        return ', '.join(differences(f'{work}/erased', ERASED))
+        said = {}
+        if 'erase' in each.seen:
+            said['erase'] = by_eraser(each, f'{work}/erase')
+        if bases and set(TYPED) & set(each.seen):
+            said |= by_types(each, f'{work}/types', bases)
+        if 'rows' in each.seen:
+            os.mkdir(f'{work}/rows')
+            said['rows'] = by_rows(each, f'{work}/rows')
+    for judge, words in each.seen.items():
+        if judge in said and (words not in said[judge] if words else said[judge]):
+            yield f'{each.name}: {judge} should say {words or "nothing"}, but: {said[judge]}'
 
 
 def main():
-    chosen = [attack for attack in ATTACKS
-              if not sys.argv[1:] or any(word in attack.name for word in sys.argv[1:])]
-    others = {name: edits for name, _, _, edits in OF_THE_OTHER
-              if sources_of(edits) and name not in OF_RUST_ALONE
-              and (not sys.argv[1:] or any(word in name for word in sys.argv[1:]))}
-    with concurrent.futures.ThreadPoolExecutor(os.cpu_count()) as pool:
-        unedited, found = pool.submit(without_edits), pool.map(attacked, chosen)
-        of_others = pool.map(attacked_as_the_other, others.values())
-        wrong = [('without an edit', unedited.result())]
-        wrong += [(attack.name, why) for attack, why in zip(chosen, found)]
-        wrong += list(zip(others, of_others))
-    for name, why in wrong:
-        if why:
-            print(f'{name}: {why}')
-    if any(why for _, why in wrong):
-        sys.exit('tools/erase.py under attack: failed')
-    print(f'tools/erase.py under attack: stopped at each of {len(chosen) + len(others)} edits')
+    nothing = edit('nothing is edited', '', erase='', types='', clippy='', rustc='')
+    chosen = [nothing] + [each for each in EDITS if not sys.argv[1:] or any(
+        word in each.name for word in sys.argv[1:])]
+    with tempfile.TemporaryDirectory() as work, \
+            concurrent.futures.ThreadPoolExecutor(os.cpu_count()) as pool:
+        bases = {std: f'{work}/base-{std}' for std in (True, False)} \
+            if tool('clippy-driver') else {}
+        for std, base in bases.items():
+            compile_base(TOP, base, std)
+        found = [line for lines in pool.map(lambda each: [*wrong(each, bases)], chosen)
+                 for line in lines]
+    for line in found:
+        print(line)
+    if found:
+        sys.exit('the eraser under attack: failed')
+    if not bases:
+        print('the eraser under attack: no clippy, so it is not asked')
+    judges = ', '.join(f'{sum(judge in each.seen for each in chosen[1:])} by {judge}'
+                       for judge in ('erase', *TYPED, 'rows'))
+    print(f'the eraser under attack: {len(chosen) - 1} edits, seen: {judges}')
 
 
 if __name__ == '__main__':

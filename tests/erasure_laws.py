@@ -4,10 +4,6 @@ import re
 
 from erasure_code import in_use
 
-# Arguments whose evaluation does nothing: names, fields, references to them, and literals.
-ARGUMENT = r'(?:& )?(?!(?:return|break|continue)\b)[a-z_]\w*(?: \. \w+)*|\d\w*|"'
-ARGUMENTS = rf'(?:(?:{ARGUMENT})(?: , (?:{ARGUMENT}))*(?: ,)?)?'
-
 
 def modules(code):
     """Checks that `mod NAME;` is only at the top level, and `mod laws;` only in the root of a
@@ -26,25 +22,24 @@ def is_module_of_laws(path, names):
 
 
 def calls_of_laws(code, names):
-    """Yields the index of each call of a law in a function, and whether it is a statement whose
-    arguments do nothing."""
+    """Yields the index of each call of a law in a function, and whether it is a statement without
+    an argument."""
     is_here = any('laws' in code.words[use.start:use.stop] for use in code.uses) \
         or 'mod laws ;' in ' '.join(code.words)
     for i in code.all('laws'):
         if in_use(code, i) or code.at(i - 1) == 'mod':
             continue
-        first, closing = i - 2 * (code.at(i - 1) == '::'), code.pair.get(i + 3, i)
-        yield i, (code.at(i + 1) == '::' and code.at(i + 3) == '(' and code.at(closing + 1) == ';'
+        first = i - 2 * (code.at(i - 1) == '::')
+        yield i, (code.at(i + 1) == '::' and code.words[i + 3:i + 6] == ['(', ')', ';']
                   and (code.at(first) in (*names, 'crate') if first < i else is_here)
-                  and code.at(first - 1) in (';', '{', '}')
-                  and re.fullmatch(ARGUMENTS, ' '.join(code.words[i + 4:closing])) is not None)
+                  and code.at(first - 1) in (';', '{', '}'))
 
 
 def laws_as_statements(code, names):
     for i, is_known in calls_of_laws(code, names):
         if not is_known:
             closing = code.pair.get(i + 3, i)
-            yield i, f'`{code.said(i, closing + 2)}`, not the call of a law as a statement'
+            yield i, f'`{code.said(i, closing + 2)}`, not a law as a statement without an argument'
 
 
 def laws_alone(code):
@@ -57,29 +52,14 @@ def laws_alone(code):
             yield use.start, f'`{" ".join(words)}`, which lends a name of something else to a law'
 
 
-def does_nothing(laws, name, called=()):
-    """Returns whether each law of a name takes no `&mut`, returns nothing, and calls only such
-    laws."""
+def does_nothing(laws, name):
+    """Returns whether each law of a name has no parameter, no result and an empty body. What it
+    has besides are clauses, each of which is one token."""
     found = [(code, law) for code in laws for law in code.functions if law.name == name]
-    return name not in called and found != [] and all(
-        not {'mut', '->', 'impl', 'dyn', 'fn', ';'} & set(code.words[law.at + 1:law.opening + 1])
-        and all(statement and (statement == 'let' or does_nothing(laws, statement, (*called, name)))
-                for statement in statements(code, law)) for code, law in found)
-
-
-def statements(code, law):
-    """Yields for each statement of a law: the law that it calls, `let`, or None for anything
-    else."""
-    words = ' '.join(code.words[law.opening + 1:law.closing])
-    while words:
-        match = re.match(rf'(?:let _ = \( {ARGUMENTS} \) ;|(?:(?P<path>(?:\w+ :: )?laws) :: )?'
-                         rf'(?P<name>\w+) \( {ARGUMENTS}\s*\) ;)\s*', words)
-        if not match or match['name'] and not match['path'] and \
-                match['name'] not in [other.name for other in code.functions]:
-            yield None
-            return
-        yield match['name'] or 'let'
-        words = words[match.end():]
+    return found != [] and all(
+        [word for word in code.words[law.at + 2:law.closing + 1]
+         if not word.startswith(('requires', 'ensures'))] == ['(', ')', '{', '}']
+        for code, law in found)
 
 
 def calls_that_do(codes, names):

@@ -1,20 +1,11 @@
-"""Checks the names that something else may have in Rust, and the calls of std, for
-tests/erasure_refusals.py."""
+"""Checks the names that something else may have in Rust, and the traits and types that have them,
+for tests/erasure_refusals.py."""
 import functools
 import re
 
 from erasure_code import head_of, in_use, is_listed, is_method, is_name, of_and_for
-from erasure_known import (
-    CALLS, IMPLEMENTATIONS, IMPORTS, KNOWN, METHODS_ELSEWHERE, OF_ITERATORS, OF_RULES, OF_TYPES,
-    PATHS, TAKEN)
+from erasure_known import IMPLEMENTATIONS, IMPORTS, KNOWN, RENAMED, TRAITS, WRITERS
 from erasure_laws import is_module_of_laws
-
-
-def other_types(code):
-    """Rejects a second name of a type whose functions a rule renames."""
-    for i in code.all('type'):
-        if code.at(i + 2) == '=' and code.at(i + 3) in OF_RULES:
-            yield i, f'`{code.said(i, i + 4)}`, another name of a type that a rule knows'
 
 
 def generics(code, i):
@@ -44,11 +35,10 @@ def declared(code, names):
 
 
 def methods(code):
-    """Rejects methods whose name a rule changes, or for which Rust finds another method first."""
+    """Rejects methods whose name a rule changes in each call."""
     for found in code.functions:
-        if found.name.startswith('fallible_') or \
-                found.name in METHODS_ELSEWHERE and is_method(code, found):
-            yield found.at, f'`fn {found.name}`, a method that Rust or a rule takes for another'
+        if found.name.startswith('fallible_') or found.name in RENAMED and is_method(code, found):
+            yield found.at, f'`fn {found.name}`, a method whose name a rule changes'
 
 
 def imports(code, names):
@@ -65,6 +55,9 @@ def imports(code, names):
                 yield at, f'`as {name}`, a name that something else may have'
             if name == 'laws' and not is_module_of_laws(said, names):
                 yield at, f'`use {said}`: of laws only `use CRATE::laws` is known'
+        for path in imported(words):
+            if path.split('::')[0] in ('std', 'core', 'alloc', 'thiserror') and path not in IMPORTS:
+                yield use.start, f'`use {path}`, a name of std that is not known'
 
 
 def imported(words):
@@ -89,8 +82,8 @@ def renamed(code):
 
 
 def other_names(codes):
-    """Checks that `// In Rust: NAME.` is above a function of a type that has no other one of that
-    name, and that for a method nothing else has the name. The function may not be called as
+    """Checks that `// In Rust: try_NAME.` is above a function NAME of a type that has no other one
+    of the new name, and that for a method nothing else has it. The function may not be called as
     `Self::..`."""
     old = {found.name for code in codes for _, found in renamed(code) if found}
     for code in codes:
@@ -99,85 +92,65 @@ def other_names(codes):
                 yield code, i, f'`Self::{code.at(i + 2)}`, which has another name in Rust'
         for i, found in renamed(code):
             new, owner = code.tokens[i].text, code.at(code.outer[i] - 1)
-            everywhere = found is not None and is_method(code, found)
-            if found is None or new in TAKEN or everywhere and new != f'try_{found.name}' or any(
-                    other.name == new and (everywhere or owner in head_of(each, other))
+            if found is None or new != f'try_{found.name}' or any(
+                    other.name == new and (is_method(code, found) or owner in head_of(each, other))
                     for each in codes for other in each.functions):
                 yield code, i, f'`// In Rust: {new}.`, a name that something else may have'
 
 
-@functools.lru_cache(maxsize=None)
-def iterators(code):
-    heads = [of_and_for(head_of(code, found)) for found in code.functions]
-    return {kind for before, kind in heads if kind and before[-1] == 'Iterator'}
-
-
-def methods_of_iterators(codes):
-    """Rejects methods of an iterator that are named like those of `Iterator` that Rust finds
-    first."""
-    kinds = set().union(*(iterators(code) for code in codes))
-    for code in codes:
-        for found in [found for found in code.functions if found.name in OF_TYPES]:
-            head = head_of(code, found)
-            if 'trait' in head or found.name in OF_ITERATORS and 'Iterator' not in head \
-                    and kinds & set(head):
-                yield code, found.at, f'`fn {found.name}`, which something of std has too'
-
-
 def implementations(codes):
-    """Rejects an `impl` of a trait of the sources for a type that isn't in the sources: such a type
-    has methods in Rust that this doesn't know."""
+    """Rejects an `impl` of a trait for a type that isn't in the sources: such a type has methods in
+    Rust that this doesn't know. Of the traits of std, only what the sources implement is known."""
     own = {kind: {code.at(i + 1) for code in codes for i in code.all(*kind)}
            for kind in (('trait',), ('struct', 'enum'))}
     for code in codes:
         for i in code.all('impl'):
-            head = code.words[i:code.end(i, ('{', ';'))]
-            before, kind = of_and_for(head)
-            if kind and own['trait',] & set(before) and not (
-                    kind in own['struct', 'enum']
-                    or is_listed((code.name, ' '.join(head)), IMPLEMENTATIONS)):
-                yield code, i, f'`{" ".join(head)}`, a trait of a type of std'
+            opening = code.end(i, ('{', ';'))
+            before, kind = of_and_for(code.words[i:opening])
+            said, functions = code.said(i, opening), {
+                found.name for found in code.functions if code.outer[found.at] == opening}
+            if kind and not (kind in own['struct', 'enum']
+                             or is_listed((code.name, said), IMPLEMENTATIONS)):
+                yield code, i, f'`{said}`, a trait of a type of std'
+            name = next((word for word in before[::-1] if word in TRAITS), None)
+            if kind and not own['trait',] & set(before) and (
+                    name is None or not functions <= TRAITS[name]
+                    or name == 'Write' and kind not in WRITERS):
+                yield code, i, f'`{said}`, of which something is not known'
 
 
-@functools.lru_cache(maxsize=None)
-def unlisted(code):
-    """Yields calls, paths and imports that aren't listed: each index, and the name or names."""
-    calls = [(i + 1, code.at(i + 1)) for i in code.all('.') if code.at(i + 2) in ('(', '::')
-             and code.said(i + 1, i + 2 + 3 * (code.at(i + 2) == '::')) not in CALLS]
-    paths = [(i, (code.at(i - 1), code.at(i + 1))) for i in code.all('::')
-             if code.at(i - 2) != '.' and code.at(i + 1) != '<' and not in_use(code, i)
-             and f'{code.at(i - 1)}::{code.at(i + 1)}' not in PATHS and not in_attribute(code, i)]
-    uses = [(use.start, tuple(path.split('::'))) for use in code.uses
-            for path in imported(code.words[use.start + 1:use.stop]) if path not in IMPORTS]
-    return calls, paths, uses
+def facts(code):
+    """Rejects a fact about a public field, which a caller in Rust can change."""
+    for i in code.all('struct', 'enum'):
+        opening, name = code.end(i, ('{', '(', ';')), code.at(i + 1)
+        if code.at(i - 1) != 'pub' or code.at(opening) == ';':
+            continue
+        inside = range(opening + 1, code.pair[opening])
+        said = [code.words[at] for at in inside if re.match(r'ghost\s+\w+\s*:', code.words[at])]
+        said += [word for word in invariants(code, name)]
+        public = {code.at(at + 1) for at in inside
+                  if code.at(at) == 'pub' and code.at(at + 1) != '(' and code.outer[at] == opening}
+        is_listed_type = code.at(i) == 'struct' and code.at(opening) == '{'
+        for fact in said:
+            whole = re.search(r'λ\s*(\w+)\.', fact)
+            if not is_listed_type or public & set(re.findall(r'\w+', fact)) or public and whole \
+                    and re.search(rf'\b{whole[1]}\b(?!\.)', fact[whole.end():]):
+                yield i, f'`{name}`, of which a fact names a public field'
 
 
-@functools.lru_cache(maxsize=None)
-def own_names(code):
-    """Returns the names of the methods of a source, and of its types, modules and constants."""
-    return ({found.name for found in code.functions if is_method(code, found)},
-            {code.at(i) for i in declarations(code)})
+def invariants(code, name):
+    """Yields the invariants of a type, which are in an `impl Model` of the same file."""
+    for i in code.all('Model'):
+        opening = code.end(i, ('{', ';'))
+        if code.words[i + 1:i + 3] == ['for', name]:
+            yield from (word for word in code.words[opening:code.pair.get(opening, opening)]
+                        if re.match(r'ghost\s+invariant\b', word))
 
 
-def calls_of_std(codes, names):
-    """Rejects calls and imports of std that aren't listed, so that no rule misses a call that
-    allocates."""
-    methods_here = set().union(*(own_names(code)[0] for code in codes))
-    own = {*names, 'crate', 'self', 'super', 'Self'}.union(*(own_names(code)[1] for code in codes))
-    for code in codes:
-        calls, paths, uses = unlisted(code)
-        for i, name in calls:
-            if name not in methods_here:
-                yield code, i, f'`.{name}`, a call of std that is not known'
-        for i, (first, name) in paths:
-            if first not in own or name in METHODS_ELSEWHERE and first[0].isupper():
-                yield code, i, f'`{first}::{name}`, a path of std that is not known'
-        for i, path in uses:
-            if path[0] not in own:
-                yield code, i, f'`use {"::".join(path)}`, a name of std that is not known'
-
-
-def in_attribute(code, i):
-    while i >= 0 and code.at(i - 1) != '#' and code.words[i - 2:i] != ['#', '!']:
-        i = code.outer[i]
-    return i >= 0
+def invariants_elsewhere(code):
+    """Rejects an invariant of a type that isn't in the same file."""
+    here = {code.at(i + 1) for i in code.all('struct', 'enum')}
+    for i in code.all('Model'):
+        if code.at(i + 1) == 'for' and code.at(i + 2) not in here \
+                and [*invariants(code, code.at(i + 2))]:
+            yield i, f'`Model for {code.at(i + 2)}`, an invariant of a type of another file'

@@ -4,12 +4,12 @@ import functools
 import re
 
 from erasure_code import Code, is_listed, is_name, refusal
-from erasure_known import ATTRIBUTE, KNOWN, MACROS, NO_MACROS, NOT_ERASED, ORDERED, ORDERS, UNKNOWN
+from erasure_known import (
+    ATTRIBUTE, KNOWN, MACROS, NO_MACROS, NOT_ERASED, ORDERED, ORDERS, UNKNOWN, WITH_DEBUG)
 from erasure_laws import calls_that_do, is_laws, laws_alone, laws_as_statements, modules
 from erasure_names import (
-    calls_of_std, declared, implementations, imports, methods, methods_of_iterators, other_names,
-    other_types)
-from erasure_numbers import casts, ranges, shifts
+    declared, facts, implementations, imports, invariants_elsewhere, methods, other_names)
+from erasure_numbers import casts, ranges
 from erasure_tokens import Refused
 
 
@@ -17,9 +17,22 @@ def known_words(code):
     for i, token in enumerate(code.tokens):
         if token.kind == 'word' and token.text in UNKNOWN:
             yield i, f'`{token.text}`, which no rule knows'
-        if (token.text, code.at(i + 1), code.at(i + 2)) == ('usize', '::', 'MAX') and \
-                not code.name.startswith('library_tests/'):
-            yield i, '`usize::MAX`, which depends on the size of a word'
+        if code.words[i:i + 2] == ['const', 'fn']:
+            yield i, '`const fn`, which no rule knows'
+        elif token.text == 'const' and code.outer[i] != -1:
+            yield i, f'`const {code.at(i + 1)}`, not at the top'
+        if token.text == 'by_ref' and code.words[i + 1:i + 4] != ['(', ')', '{']:
+            yield i, '`by_ref`, but not at the head of a loop'
+
+
+def formats(code):
+    """Rejects formats of values that no source needs, such as widths, and `{:?}` elsewhere than in
+    `WITH_DEBUG`."""
+    for i, token in enumerate(code.tokens):
+        found = re.findall(r'\{\w*:([^{}]*)\}', token.text) if token.kind == 'literal' else []
+        for wanted in found:
+            if wanted not in ('04x', 'x') and (wanted != '?' or code.name not in WITH_DEBUG):
+                yield i, f'`{{:{wanted}}}`, a format that no rule knows'
 
 
 def attributes(code):
@@ -76,8 +89,8 @@ def checked(where, text, names):
         checks = [laws_alone(code)]
     else:
         checks = [check(code) for check in (
-            known_words, attributes, macros, error_texts, orders, modules, methods, other_types,
-            casts, shifts, ranges)]
+            known_words, formats, attributes, macros, error_texts, orders, modules, methods,
+            casts, ranges, facts, invariants_elsewhere)]
         checks += [check(code, names) for check in (declared, imports, laws_as_statements)]
     return code, [refusal(code, i, what) for found in checks for i, what in found]
 
@@ -97,5 +110,5 @@ def refusals(files, names):
             found.append(refused)
     sources = [code for code in codes if not is_laws(code)]
     return found + [refusal(*each) for checks in (
-        other_names(sources), methods_of_iterators(sources), implementations(sources),
-        calls_of_std(sources, names), calls_that_do(codes, names)) for each in checks]
+        other_names(sources), implementations(sources), calls_that_do(codes, names))
+                    for each in checks]

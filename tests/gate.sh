@@ -61,7 +61,7 @@ make_copy() {
     for script in $(grep -o 'tests/[a-z-]*\.[a-z]*' test) rust/wasm/build.sh; do
         stub "$copy/$script" ''
     done
-    for script in c.sh python.sh examples.sh checkers.sh release.sh audit.py; do
+    for script in c.sh python.sh examples.sh checkers.sh release.sh growth.py audit.py; do
         stub "$copy/tests/parallel/$script" ''
     done
     for command in cargo npm; do
@@ -249,7 +249,7 @@ ends 1
 names_failed programs_were_built
 FAILING='gate.sh documents.py python.sh release.sh' BUILDS_NOTHING=''
 ends 1 all
-runs $((all + 9))
+runs $((all + 11))
 names_failed tests/gate.sh tests/documents.py 'tests/documents.py --must-fail' \
     tests/parallel/python.sh tests/parallel/release.sh
 FAILING=''
@@ -265,11 +265,11 @@ if PATH=$tools command -v rt > /dev/null; then
 else
     ends 2
     runs $((all - 8))
-    ! grep -q '^ran .*\(rt\|runs.py\)' "$work/said" || fail 'something of the kit runs'
+    ! grep -q '^ran \(rt\|runs.py\) ' "$work/said" || fail 'something of the kit runs'
     tail -n 1 "$work/said" | grep -q '^test: there is no command rt, so these were not run: the ' ||
         fail 'it does not say what was not run'
     ends 2 all
-    skips 'audit: no rt, so it is not run'
+    skips 'small inputs, audit: no rt, so these are not run'
     FAILING=packages.sh
     ends 1
     names_failed tests/packages.sh

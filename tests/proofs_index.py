@@ -33,7 +33,7 @@ PROMISES = '''## The promises
 | `result_laws` | two results of a call are equal, or one is out of memory | [`one_read`](../crates/result_laws/src/sets.rt): `one` | [`OneResult`](../crates/result_laws/specs/OneResult.antt) |
 
 Below these is `semver_texts`. Programs: `semver_parser_main`, `release_filter_main`, `compare_ranges_main`. Tests:
-`library_tests`, `replayed_cases`, `filter_tests`.
+`library_tests`, `replayed_cases`, `filter_tests`, `small_inputs`.
 '''
 
 HEAD = '''# Index of the proofs

@@ -2,7 +2,7 @@
 # Tests the Rust crate in rust/ with cargo:
 #
 # - rust/src/proved is what tools/erase.py writes, byte for byte, and has the tokens of crates/.
-# - tools/erase.py stops at what it doesn't know.
+# - Its types show no difference from Rattle, as tests/erased_types.py says.
 # - docs/ERASURE.md has each call of std.
 # - cargo's tests pass, with and without the feature std.
 # - The programs write what the kit's build writes.
@@ -38,64 +38,6 @@ made_anew() {
     }
 }
 
-# stops_at LINE WHY: in a copy of the sources, puts a line after the imports of a file.
-# tools/erase.py has to name the file, that line and the reason.
-stops_at() {
-    rm -rf "$work/copy" && mkdir -p "$work/copy/tools"
-    cp tools/erase*.py tools/rattle_source.py "$work/copy/tools" && cp crates.txt "$work/copy"
-    for crate in crates/*; do
-        mkdir -p "$work/copy/$crate" && cp -R "$crate/src" "$work/copy/$crate"
-    done
-    file=crates/semver_texts/src/bytes.rt
-    number=$(wc -l < "$file")
-    printf '%s\n' "$1" >> "$work/copy/$file"
-    status=0
-    "$work/copy/tools/erase.py" "$work/none" > "$work/log" 2>&1 || status=$?
-    wanted="tools/erase.py: $file:$((number + 1)): $2"
-    [ "$status" = 1 ] && [ "$(cat "$work/log")" = "$wanted" ] && [ ! -e "$work/none" ] || {
-        cat "$work/log"
-        echo "tools/erase.py should have printed: $wanted"
-        exit 1
-    }
-}
-
-stops_at_what_it_does_not_know() {
-    stops_at 'fn f() { unsafe { g() } }' 'no rule for this word: unsafe'
-    stops_at 'fn f() { assert!(true); }' 'no rule for this macro: assert'
-    stops_at '#[cold] fn f() {}' 'no rule for this attribute: cold'
-    stops_at 'fn f(x: &Alloc) { alloc.g() }' 'no rule for this word: alloc'
-    stops_at 'fn f(xs: &[u8]) { xs.repeat(2)? }' 'no rule for this call: repeat'
-    stops_at 'fn f() { Box::new(1)? }' 'no rule for this call: new'
-    stops_at 'use std::thread;' 'no rule for an import of this line: use'
-    stops_at 'fn f() { laws::g } ' 'a law that is no call of its own: laws'
-    stops_at 'struct S<T: Drop + Copy>(T);' 'no rule for this word: Drop'
-    stops_at 'fn f() { /* a */ }' 'no rule for what begins here: /* a */ }'
-    stops_at 'fn f() { g(r"a") }' 'no rule for what begins here: r"a") }'
-    stops_at 'fn f() { r#g() }' 'no rule for what begins here: r#g() }'
-    stops_at 'fn f() { g(1.5) }' 'no rule for what begins here: 1.5) }'
-    stops_at 'fn f() { g(--1) }' 'no rule for what begins here: --1) }'
-    stops_at 'fn f() { g("a) }' 'no rule for what begins here: "a) }'
-    stops_at 'fn f() { ξ() }' 'no rule for what begins here: ξ() }'
-    stops_at 'fn f() { |x| requires { x } { x } }' \
-        'no rule for a clause of this form, or at this place: requires { x } { x } }'
-    stops_at 'fn f() ensures { x // }' 'no rule for this in a clause or ghost item: // }'
-    stops_at 'fn f() ensures { x "{" }' 'no rule for this in a clause or ghost item: "{" }'
-    stops_at 'ghost x = { y } z' 'no rule for a ghost item of this form: ghost x = { y } z'
-    stops_at '#[inline] ghost x = { y };' \
-        'no rule for a ghost item at this place: ghost x = { y };'
-    stops_at 'mod laws;' 'laws that are not in the file laws.rt of a crate: mod'
-    stops_at 'use crate::bytes::*;' 'no rule for an import of this line: use'
-    stops_at 'use std::mem as fmt;' 'no rule for an import under another name: use'
-    stops_at 'struct String;' 'no rule for an item of this name, String: struct'
-    stops_at 'mod m { }' 'no rule for a module within a file: mod'
-    stops_at '#[derive(Default)] struct S;' 'no rule for one of these derives: derive'
-    stops_at 'struct S; impl Model for S { fn f() {} }' \
-        'no rule for a model with code, or at this place: impl'
-    stops_at 'fn f(place: Global) {}' 'no rule for an allocator of another name: ('
-    stops_at 'fn f(x: u64) -> i64 { x as i64 }' 'no rule for this word: i64'
-    stops_at 'fn f() { drop(1) }' 'no rule for this call: drop'
-}
-
 programs_run() {
     quietly 'the programs' cargo build --quiet --release --bins --examples
     programs=${CARGO_TARGET_DIR:-target}/release
@@ -114,7 +56,13 @@ cargo_tests() {
     tests/examples.py "${CARGO_TARGET_DIR:-target}/doc/semver_parser"
     tests/doc-links.py "${CARGO_TARGET_DIR:-target}/doc/semver_parser"
     ! cargo clippy --version > /dev/null 2>&1 || {
-        quietly clippy cargo clippy --quiet --all-targets -- -D warnings
+        names='-D clippy::same_name_method'
+        quietly clippy cargo clippy --quiet --all-targets -- -D warnings $names
+        # In what else is compiled, json.rs shifts by numbers whose type is a guess.
+        for features in --all-features --no-default-features; do
+            quietly clippy cargo clippy --quiet --lib $features -- \
+                -D warnings $names -D clippy::default_numeric_fallback
+        done
         says_what_must_be_used
     }
 }
@@ -138,8 +86,8 @@ packed_by_itself() {
 
 made_anew
 tests/erased.py
+tests/erased_types.py
 tests/std-calls.py
-stops_at_what_it_does_not_know
 cargo_tests
 programs_run
 packed_by_itself

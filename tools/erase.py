@@ -13,7 +13,7 @@ import sys
 
 sys.dont_write_bytecode = True
 from rattle_source import NO_CALLEES, SILENT, TOP, Code, begins_item  # noqa: E402
-from erase_stops import (DERIVES, MACROS, PREFIX, SAME_ATTRIBUTES, SAME_CALLS, around,  # noqa: E402
+from erase_stops import (DERIVES, MACROS, PREFIX, SAME_ATTRIBUTES, around,  # noqa: E402
                          check, check_message, check_use, crate_of_laws, does_nothing, stops,
                          tidied)
 
@@ -33,8 +33,6 @@ OF_STD = (r'\bstd :: (\{ [^}]*)?\b(io|env|fs|process|rt)\b'
           r'|\b(HostRuntime|AllocGlobal|Eprint|Print)\b')
 
 ALLOCATORS = [['alloc'], ['rt', '.', 'alloc', '(', ')']]
-# Rule 7. An expression that leaves a function or a loop can't be an argument.
-LEAVING = {'break', 'continue', 'return'}
 
 
 # ---------------------------------------------------------------- attributes
@@ -210,10 +208,8 @@ def laws(code, files):
         end = code.after(code.close(opened)) if code.text(opened) == '(' else None
         if code.text(end) != ';' or code.text(code.before(begin)) not in ('{', ';', '}'):
             code.stop(places[0], 'a law that is no call of its own')
-        for part in code.parts(opened):
-            named = code.source(*part).strip().removeprefix('&')
-            if not named.isidentifier() or named in LEAVING:
-                code.stop(places[0], 'an argument of a law that is more than a name or its reference')
+        if code.parts(opened):
+            code.stop(places[0], 'an argument of a law')
         crate = crate_of_laws(code, begin, places[0])
         if crate not in files or not does_nothing(files[crate], code.text(name)):
             code.stop(name, 'a function that is not known to be a law')
@@ -255,7 +251,7 @@ def names_for_rust(code, codes):
         if set(code.words(i, fn)) & {';', '{', '}'} or block != code.find_from(owner, '{'):
             code.stop(i, 'no rule for this name at another place than a function of a type')
         method, of = is_method(code, name), code.text(code.after(owner))
-        if method and (code.text(name) in SAME_CALLS or new != f'try_{code.text(name)}') or any(
+        if new != f'try_{code.text(name)}' or any(
                 method or of in around(each, place[0])
                 for each in codes for place in each.find('fn', new)):
             code.stop(i, 'no rule for this name, which another function has or may have')
@@ -289,7 +285,7 @@ def formatters(code):
                     code.drop_part(parts, k)
 
 
-def calls(code, names, defined):
+def calls(code, names, defined, methods):
     """Rule 6: removes allocators, as parameters and arguments. Rules 9 and 12: renames calls."""
     for i, token in enumerate(code.t):
         callee = code.t[code.before(i) or 0]
@@ -308,10 +304,9 @@ def calls(code, names, defined):
         text, how = code.text(name), code.text(dot)
         owner = code.text(code.before(dot)) if how == '::' else ''
         if how == '.' and (text, count) in (METHODS_IN if passed else METHODS):
+            if text in methods - {'push'}:  # `fallible_push` wouldn't compile for another type
+                code.stop(name, 'no rule for the name of two functions, of which one is renamed')
             code.t[name].text = PREFIX + text
-        elif how == '::' and not owner.islower() and text in {
-                known for known, _ in METHODS | METHODS_IN}:
-            code.stop(name, 'no rule for this call but after a dot')
         elif how == '::' and (owner, text) in FUNCTIONS:
             code.t[name].text = PREFIX + text
         elif how in ('.', '::') and (owner, text) in names:
@@ -448,10 +443,10 @@ def erase():
         visible(code)
         bounds(code)
         formatters(code)
-        calls(code, names, defined)
+        calls(code, names, defined, methods)
         macros(code)
         roots(code, crates)
-        check(code, defined, methods)
+        check(code)
         inner = 'mod' if code.module in ('lib', 'main') else code.module
         yield f'{code.crate}/{inner}.rs', layout(code, (code.crate, code.module) in needing)
 

@@ -2,29 +2,17 @@
 what it knows of std. docs/ERASURE.md has a row for each function of std."""
 import re
 
-from rattle_source import NO_CALLEES, OPEN, begins_item
+from rattle_source import OPEN, begins_item
 
-# Names that mean the same in both languages and are left as they are. Any other call of std, macro
-# or attribute is an error. For these types and modules of std, each function is listed.
+# Types and modules of std.
 OWNERS = set('Vec String Box Rc Option Result Iterator str mem io env fs iter slice char'.split())
-SAME_FUNCTIONS = set('''Vec::new String::new str::from_utf8 io::writer
-    env::args fs::open'''.split())
-SAME_CALLS = set('''
-    all and_then any as_bytes as_mut_slice as_ref as_slice as_str by_ref bytes chars checked_add
-    checked_ilog10 checked_mul clear cmp copied copy_from_slice count enumerate escape_ascii
-    first flush from get get_mut is_ascii is_ascii_alphanumeric is_ascii_digit
-    is_char_boundary is_empty is_eq is_err is_ge is_gt is_le is_lt is_ne is_none is_ok is_ok_and
-    is_some is_some_and is_terminal iter kind last len lines map_err map_or min new
-    next parse partition_point println push_reserved read reader reverse
-    saturating_add saturating_mul saturating_sub skip sort_unstable_by split split_at
-    split_first split_last split_once starts_with stderr stdin stdout strip_prefix strip_suffix
-    take take_while then then_some transpose trim_start_matches truncate unwrap_or
-    unwrap_or_default valid_up_to wrapping_add write write_all write_str zip'''.split())
+# What is imported of std, besides modules.
+IMPORTS = set('''AllocError BufRead BufReader BufWriter Display Env ErrorKind ExitCode Formatter
+    Global IsTerminal Model Ordering Read Write'''.split())
 MODULES = set('alloc as cmp env fmt fs io iter marker mem process rt self str'.split())
-SAME_MACROS, SAME_ATTRIBUTES = {'matches', 'unreachable', 'write'}, {'derive', 'inline', 'must_use', 'non_exhaustive'}
-SAME_VALUES = {'u8::is_ascii_alphanumeric'}
+SAME_MACROS = {'matches', 'unreachable', 'write'}
+SAME_ATTRIBUTES = {'derive', 'inline', 'must_use', 'non_exhaustive'}
 DERIVES = set('Clone Copy Debug Drop Eq Error Hash Ord PartialEq PartialOrd'.split())
-TRAITS = set('Display Eq From Iterator PartialEq Write'.split())
 # The only type of std for which a trait of the sources is implemented.
 SLICE = ['&', "'a", '[', 'T', ']']
 # Words that have no meaning in Rust: none may be left.
@@ -35,16 +23,18 @@ UNKNOWN = set("""async await box default do dyn extern f32 f64 final gen i128 i1
 PRIMITIVES = set('bool char i32 str u8 u16 u32 u64 u128 usize'.split())
 # Casts to these types lose nothing, wherever they are: Rattle proves that the value fits.
 CAST_TO = {'u8', 'u32', 'u64'}
-# Methods of the preludes and of `Vec` and `String` that no type of the sources may have: Rust would
-# look for them in std first, or rule 12 would rename them.
-METHODS_OF_STD = set('''append clamp clone clone_from collect extend extend_from_slice
-    extend_from_within insert insert_str into into_iter into_owned join max min push_str repeat
-    reserve reserve_exact resize splice split_off to_owned to_string try_into try_reserve
-    try_reserve_exact write_fmt'''.split())
-METHODS_OF_ITERATORS = set('''all any by_ref chain cloned cmp collect copied count cycle enumerate
-    eq filter filter_map find find_map flat_map flatten fold for_each fuse ge gt inspect last le len
-    lt map map_while max min ne nth partition peekable position product reduce rev scan skip
-    skip_while step_by sum take take_while try_fold try_for_each unzip zip'''.split())
+# The functions of the traits of std that the sources implement. `Write` only for these types: Rust
+# may pass a text on in other pieces than Rattle.
+TRAITS = {'Display': {'fmt'}, 'Eq': set(), 'From': {'from'}, 'Iterator': {'next'},
+          'PartialEq': {'eq'}, 'Write': {'flush', 'write', 'write_str'}, 'Model': set()}
+WRITERS = {'Checksum', 'Fixed', 'Limited'}
+# Formats of a value in a text. Files with `{:?}`, which prints a text otherwise than in Rattle: the
+# messages that are as in 0.10.3, which nothing reads again, and tests.
+FORMAT = re.compile(r'\{\w*(?::(\?|04x|x)?)?\}')
+WITH_DEBUG = {f'{crate}/{module}' for crate, modules in {
+    'library_tests': 'made', 'replayed_cases': 'lexing parsing ranges',
+    'semver_tokens': 'parser', 'small_inputs': 'versions'}.items()
+              for module in modules.split()}
 ITEMS = {'const', 'enum', 'fn', 'mod', 'struct', 'trait', 'type'}
 # Rule 12: the prefix of a function that returns a `Result` because it allocates.
 PREFIX = 'fallible_'
@@ -62,7 +52,7 @@ def tidied(text):
 
 
 def words(code):
-    """Stops at words and casts that no source needs, and at pointers to functions."""
+    """Stops at words, casts, formats and pointers to functions that no source needs."""
     for i, token in enumerate(code.t):
         after = code.text(code.after(i)) if token.kind == 'word' else ''
         if token.kind == 'word' and token.text in UNKNOWN:
@@ -76,31 +66,25 @@ def words(code):
                 after.isidentifier() and begins_item(code.t, i, public=True)
                 and code.around(i) is None):
             code.stop(i, 'no rule for this word at this place')
-        if (token.text, after) == ('usize', '::') and not code.follows(i, 'from'):
-            code.stop(i, 'no rule for what depends on how many bits this has')
-        if token.text == 'parse' and code.text(code.before(i)) == '.':
-            if ''.join(code.words(i + 1, i + 5)) not in {f'::<{kind}>' for kind in CAST_TO}:
-                code.stop(i, 'no rule for a number that is read of another type')
+        if (token.text, after) == ('const', 'fn'):
+            code.stop(i, 'no rule for a function that is const')
+        if token.text == 'const' and code.around(i) is not None:
+            code.stop(i, 'no rule for a constant at this place')
+        if token.text == 'by_ref' and after == '(' and code.text(code.at(i + 3)) != '{':
+            code.stop(i, 'no rule for this but at the head of a loop')
         if token.kind == 'text' and (
                 tidied(token.text) != token.text or re.search(r'\\\n *\n', token.text)):
             code.stop(i, 'no rule for white space as in this text')
-        if token.text == '::' and not code.t[code.before(i) or 0].kind == 'word':
-            code.stop(i, 'no rule for a path that begins so')
-        if token.kind == 'sign' and shifts(code, i):
-            code.stop(i, 'no rule for a shift but by a number below 32')
+        if token.kind == 'text':
+            formats(code, i)
 
 
-def shifts(code, i):
-    """Returns whether there is a shift at `i` that may be by more bits than `usize` has on some
-    platform. A space before `>>`, or none after it, shows that it doesn't end a type."""
-    if code.text(i) == '<<':
-        by = code.after(i)
-    elif code.source(i, i + 2) == '>>' and (
-            code.t[i - 1].kind == 'space' or code.t[i + 2].kind in ('word', 'number')):
-        by = code.after(i + 1)
-    else:
-        return False
-    return code.t[by].kind != 'number' or int(re.match(r'\d+', code.text(by))[0]) >= 32
+def formats(code, i):
+    """Stops at a format of a value, such as one with a width, that no source needs."""
+    for found in re.finditer(r'\{\w*:[^{}]*\}', code.text(i)):
+        known = FORMAT.fullmatch(found[0])
+        if not known or known[1] == '?' and f'{code.crate}/{code.module}' not in WITH_DEBUG:
+            code.stop(i, f'no rule for the format {found[0]}')
 
 
 def ranges(code):
@@ -113,7 +97,8 @@ def ranges(code):
         if code.ends_operand(before):
             callee = code.before(bracket)
             cuts = (code.text(after) == ']' and code.ends_operand(callee)
-                    or code.text(after) == ')' and code.text(callee) == 'get')
+                    or code.text(after) == ')' and code.text(callee) == 'get'
+                    and code.text(code.before(callee)) == '.')
             begins = code.t[after].kind != 'sign' or code.text(after) in ('(', '[', '*', '&', '-')
             if not cuts and not begins:
                 code.stop(i, 'no rule for a range without an end')
@@ -148,21 +133,6 @@ def around(code, i):
     return code.words(begin, end)
 
 
-def methods_of_std(codes):
-    """Stops at methods that Rust would look for elsewhere: in std for any type, and among the
-    methods of iterators for an iterator and in a trait."""
-    heads = [(code, places[0], around(code, places[0]))
-             for code in codes for places in code.find('fn')]
-    iterators = {head[head.index('for') + 1] for _, _, head in heads
-                 if 'Iterator' in head and 'for' in head}
-    for code, i, head in heads:
-        name = code.text(code.after(i))
-        inherent = head and head[0] == 'impl' and 'for' not in head
-        if head and name in METHODS_OF_STD or name in METHODS_OF_ITERATORS and (
-                'trait' in head or inherent and iterators & set(head)):
-            code.stop(i, f'no rule for a method of this name, {name}')
-
-
 def declarations(code, crates):
     """Stops at items whose names mean something else in the result."""
     taken = {*crates, *PRIMITIVES, 'std', 'core', 'alloc', 'rattle_std', 'proved', 'thiserror'}
@@ -177,21 +147,16 @@ def declarations(code, crates):
             continue
         name = code.text(code.after(i))
         types = token.text not in ('fn', 'const')
-        if name in taken or types and name in OWNERS | MODULES or name.startswith(PREFIX):
+        if name in taken or types and name in OWNERS | MODULES or name == 'write_fmt' \
+                or name.startswith(PREFIX):
             code.stop(i, f'no rule for an item of this name, {name}')
         if token.text == 'mod' and code.text(code.after(code.after(i))) != ';':
             code.stop(i, 'no rule for a module within a file')
-        if token.text == 'type' and code.text(code.after(code.after(i))) == '=':
-            first = code.text(code.after(code.after(code.after(i))))
-            if first in OWNERS - {'Option', 'Result'} or (
-                    code.around(i) is None and first not in ('(', 'Option', 'Result')):
-                code.stop(i, 'no rule for another name of this type')
 
 
 def traits(code, defined, types):
-    """Stops at an implementation of a trait of std that no source needs, and at any trait for a
-    type of std: in Rust, that type may have a method of its own, which has precedence over the
-    trait's."""
+    """Stops at a trait for a type of std, which may have a method of its own, and at a trait or a
+    function of one that no source implements."""
     for (i,) in code.find('impl'):
         j = code.after(i)
         j = code.after(code.close(j)) if code.text(j) == '<' else j
@@ -201,10 +166,43 @@ def traits(code, defined, types):
         of = code.after(code.after(end))
         if code.text(code.after(end)) != 'for':
             continue
-        if code.text(j) not in TRAITS | defined | {'Model'}:
-            code.stop(i, f'no rule for an implementation of {code.text(j)}')
-        if code.text(of) not in types and code.words(of, code.find_from(of, '{')) != SLICE:
+        opened, name = code.find_from(of, '{'), code.text(j)
+        functions = {code.text(code.after(p[0])) for p in code.find('fn')
+                     if code.around(p[0]) == opened}
+        if name not in TRAITS.keys() | defined or name not in defined and (
+                not functions <= TRAITS[name] or name == 'Write' and code.text(of) not in WRITERS):
+            code.stop(i, f'no rule for this implementation of {name}')
+        if code.text(of) not in types and code.words(of, opened) != SLICE:
             code.stop(i, 'no rule for an implementation for a type of std')
+
+
+def facts(code):
+    """Stops at a fact about a public field of a public type, since Rust's caller can change it."""
+    invariants = {code.text(code.after(p[1])): code.t[code.find_from(p[1], '{')].facts
+                  for p in code.find('Model', 'for')}
+    for kind in ('struct', 'enum'):
+        for (i,) in code.find(kind):
+            name, opened = code.after(i), i
+            while code.text(opened) not in ('{', '(', ';'):
+                opened += 1
+            about = code.t[opened].facts + invariants.pop(code.text(name), [])
+            if about and code.text(code.before(i)) == 'pub':
+                check_facts(code, i, opened, about)
+    if any(invariants.values()):
+        code.stop(0, 'an invariant of a type of another file')
+
+
+def check_facts(code, i, opened, about):
+    """Stops unless each of these facts names only fields that aren't public."""
+    parts = code.parts(opened, angles=True) if code.text(i) == 'struct' else []
+    begins = [code.words(*part) for part in parts]
+    public = {words[1] for words in begins if words[0] == 'pub' and words[1] != '('}
+    for fact in about:
+        whole = re.search(r'λ\s*(\w+)\.', fact)
+        is_whole = whole and re.search(rf'\b{whole[1]}\b(?!\.)', fact[whole.end():])
+        if code.text(opened) != '{' or code.text(i) != 'struct' or public and (
+                is_whole or public & set(re.findall(r'\w+', fact))):
+            code.stop(i, 'no rule for a fact about a public field')
 
 
 def modules(codes):
@@ -223,7 +221,6 @@ def modules(codes):
 def stops(codes, crates):
     """Makes the checks that come before anything is changed."""
     modules(codes)
-    methods_of_std(codes)
     declared = {code.text(code.after(p[0])) for code in codes for p in code.find('trait')}
     types = {code.text(code.after(p[0])) for code in codes
              for kind in ('struct', 'enum') for p in code.find(kind)}
@@ -233,18 +230,20 @@ def stops(codes, crates):
         sorts(code)
         declarations(code, crates)
         traits(code, declared, types)
+        facts(code)
 
 
 def check_use(code, i, words, roots):
     """Stops at an import from elsewhere, of everything in a module, or under another name."""
     first, alias = words[1], words[words.index('as') + 1] if 'as' in words else '_'
-    if first == 'std' and {w for w in words[2:] if w.islower()} - MODULES or '*' in words:
+    named = {word for word in words[2:] if word.isidentifier()}
+    if first == 'std' and named - MODULES - IMPORTS - {'_'} or '*' in words:
         code.stop(i, 'no rule for an import of this line')
     local = {code.text(code.after(p[0])) for p in code.find('mod')}
     if first not in local | roots or first == 'thiserror' and words[2:] != ['::', 'Error']:
         code.stop(i, 'no rule for an import from there')
     if alias != '_' and (first == 'std' or words.count('as') > 1 or not alias.islower()
-                         or alias in roots | MODULES | OWNERS | SAME_CALLS | MACROS | PRIMITIVES):
+                         or alias in roots | MODULES | OWNERS | MACROS | PRIMITIVES):
         code.stop(i, 'no rule for an import under another name')
 
 
@@ -273,54 +272,23 @@ def crate_of_laws(code, begin, i):
 
 
 def does_nothing(code, name):
-    """Returns whether the file has exactly one law of this name. Stops unless the law has only
-    references as parameters, no result, and nothing in its body except fields that are read."""
-    for _, at in code.find('fn', name):
-        opened = code.after(at)
-        if code.around(at) is not None or code.text(opened) != '(':
-            code.stop(at, 'a law within something else, or with a parameter in angles')
-        for part in code.parts(opened):
-            passed = code.words(*part)
-            cells = {'mut'} | {word for word in passed if word.endswith('Cell')}
-            if passed[1:3] != [':', '&'] or cells & set(passed):
-                code.stop(at, 'a law with a parameter that could change')
-        body = code.after(code.close(opened))
-        inside = ' '.join(code.words(body, code.close(body) + 1)) if code.text(body) == '{' else ''
-        if not re.fullmatch(r'\{ (let _ = \( (\w+( \. \w+)*( , )?)* \) ; )?\}', inside):
-            code.stop(at, 'a law that does something')
+    """Returns whether the file has exactly one law of this name. Stops unless the law has no
+    parameter, no result and an empty body."""
+    for begin, at in code.find('fn', name):
+        end = code.item(begin)[1]
+        if code.around(at) is not None or code.words(at + 1, end) != ['(', ')', '{', '}']:
+            code.stop(at, 'a law within something else, or one that is passed or does something')
     return len(list(code.find('fn', name))) == 1
 
 
-def is_known(code, i, text, before, defined, methods):
-    """Returns whether a call of this name is one of the sources' own, or a listed one of std."""
-    if before == '.':
-        return text in methods | SAME_CALLS
-    if before != '::':
-        return (text in defined or before == 'fn' or text in ('derive', 'inline', 'pub')
-                or [*code.find('let', text, '='), *code.find(text, ':', 'F')])
-    owner = code.text(code.before(code.before(i))).split('::')[-1]
-    known = defined | SAME_CALLS if owner not in OWNERS else set()
-    return text in known or f'{owner}::{text}' in SAME_FUNCTIONS
-
-
-def check(code, defined, methods):
-    """Stops at what no rule knows: a word of contracts, a macro, or a call of std."""
+def check(code):
+    """Stops at what no rule knows: a word of contracts, or a macro."""
     for i, token in enumerate(code.t):
         if token.kind != 'word' or '::' in token.text:
             continue
-        text, before, after = token.text, code.text(code.before(i)), code.after(i)
-        if text in LEFT:
+        after = code.after(i)
+        if token.text in LEFT:
             code.stop(i, 'no rule for this word')
         if code.text(after) == '!' and code.text(code.after(after)) in OPEN:
-            if text not in SAME_MACROS:
+            if token.text not in SAME_MACROS:
                 code.stop(i, 'no rule for this macro')
-        if code.text(after) == '::' and code.text(code.after(after)) == '<':
-            after = code.after(code.close(code.after(after)))
-        if before == '::' and text[0].islower() and code.text(after) not in ('(', '::', '!'):
-            value = f'{code.text(code.before(code.before(i)))}::{text}'
-            if value not in SAME_VALUES and not code.in_use(i):
-                code.stop(i, 'no rule for a function that is passed on')
-        called = code.text(after) == '(' and text not in NO_CALLEES and not text.startswith(PREFIX)
-        if called and text[0].islower() and not is_known(
-                code, i, text, before, defined, methods):
-            code.stop(i, 'no rule for this call')

@@ -44,6 +44,7 @@ class Token:
         self.kind, self.text, self.line = kind, text, line
         self.owes = False  # for a `fn`: whether the function has a `requires`
         self.clauses = set()  # for a `fn`: the names of its clauses
+        self.facts = []  # for a bracket: the facts about fields that are directly within it
 
 
 class Source:
@@ -105,7 +106,20 @@ class Source:
         end = self.block(found.end())
         if self.all[end:end + 1] not in (';', ','):
             self.stop(at, 'no rule for a ghost item of this form')
+        if ':' in found.group() or re.match(r'ghost\s+invariant\b', found.group()):
+            around = self.around() or self.stop(at, 'no rule for a ghost item at this place')
+            around.facts.append(self.all[found.end():end])
         return end + 1
+
+    def around(self):
+        """Returns the bracket around what comes next."""
+        depth = 0
+        for token in reversed(self.tokens):
+            if token.kind == 'sign':
+                depth += (token.text in CLOSE) - (token.text in OPEN)
+            if depth < 0:
+                return token
+        return None
 
     def clause(self, at):
         """Drops a clause, with the comments before it, and returns its end."""
@@ -167,10 +181,6 @@ class Code:
 
     def before(self, i):
         return next((k for k in range(i - 1, -1, -1) if self.t[k].kind not in SILENT), None)
-
-    def follows(self, i, text):
-        """Returns whether the path that begins at `i` continues with this."""
-        return self.text(self.after(self.after(i))) == text
 
     def close(self, i):
         """Returns the bracket that closes the one at `i`."""

@@ -12,6 +12,12 @@ const ANY = Symbol('SemVer ANY')
 export const NO_VERSION = '<0.0.0-0'
 const PARTS = /^(<=|>=|<|>|=|)(.*)$/s
 
+/** Whether a value is a comparator, also of another copy of the package or of node-semver. */
+export function isComparator(value) {
+  if (value === null || typeof value !== 'object') return false
+  return typeof value.operator === 'string' && typeof value.value === 'string'
+}
+
 /** A comparator of node-semver's class. Its fields can't be written; `parse` changes them. */
 export class Comparator {
   #meaning
@@ -22,12 +28,11 @@ export class Comparator {
 
   constructor(comparator, options) {
     const meaning = meaningFor(options, [comparator])
-    if (comparator instanceof Comparator) {
-      if (isSameMeaning(comparator.#meaning, meaning)) return comparator
-      comparator = comparator.value
+    if (comparator instanceof Comparator && isSameMeaning(comparator.#meaning, meaning)) {
+      return comparator
     }
     this.#meaning = meaning
-    this.parse(comparator)
+    this.parse(isComparator(comparator) ? comparator.value : comparator)
   }
 
   /** Makes the comparator another one. */
@@ -68,7 +73,7 @@ export class Comparator {
   }
 
   intersects(other, options) {
-    if (!(other instanceof Comparator)) throw new TypeError('a Comparator is required')
+    if (!isComparator(other)) throw new TypeError('a Comparator is required')
     const meaning = options === undefined ? this.#meaning : meaningFor(options, [this, other])
     if (options === undefined) checkDialect(meaning, other)
     const [one, two] = [this, other].map((it) => readRange(it, meaning))

@@ -1,6 +1,6 @@
 // What makes a version of another version or string: by hand, as node-semver's README says, and not
 // proved. That a result is a version, the module says.
-import { SemVer, compare, compareIdentifiers, parse, valid } from './versions.mjs'
+import { compare, compareIdentifiers, parse, valid } from './versions.mjs'
 import { meaningFor, meaningOf } from './options.mjs'
 import { noString } from './errors.mjs'
 
@@ -111,7 +111,7 @@ const COERCED_WHOLE = new RegExp(String.raw`${WHOLE}(?!\d)`, 'g')
 
 export function coerce(version, options) {
   const meaning = meaningFor(options, [version])
-  if (version instanceof SemVer) return parse(version, meaning)
+  if (typeof version === 'object') return parse(version, meaning)
   const string = typeof version === 'number' ? String(version) : version
   if (typeof string !== 'string') return null
   const { rtl } = meaning.options

@@ -66,12 +66,13 @@ export function meaningOf(options) {
   return new Meaning(options, dialect, preReleases ?? rule)
 }
 
-// The meaning by which an object was read, also by another copy of the package; null of others.
+// The meaning by which an object was read, also by another copy of the package or by node-semver;
+// null of others. A version and a range have `raw`, and a comparator has `value`.
 function ownMeaning(value) {
   if (value === null || typeof value !== 'object') return null
   const own = value[MEANING]
   if (own !== undefined) return own
-  const { raw, options } = value
+  const { raw = value.value, options } = value
   return typeof raw === 'string' && options ? meaningOf(options) : null
 }
 

@@ -4,7 +4,7 @@ import { invalidRange, noString } from './errors.mjs'
 import {
   MEANING, checkDialect, identify, isSameMeaning, meaningFor,
 } from './options.mjs'
-import { Comparator, NO_VERSION, rangesOf } from './comparators.mjs'
+import { Comparator, NO_VERSION, isComparator, rangesOf } from './comparators.mjs'
 import { stringOf } from './versions.mjs'
 
 // The memory of the module has so many ranges, so that it doesn't fill. A range whose place another
@@ -148,20 +148,22 @@ export class Range {
   }
 
   intersects(other, options) {
-    if (readOf(other) === null) throw new TypeError('a Range is required')
+    if (!isRange(other)) throw new TypeError('a Range is required')
     const meaning = options === undefined ? this.#read.meaning : meaningFor(options, [this, other])
     if (options === undefined) checkDialect(meaning, other)
     return readRange(this, meaning).beside(readRange(other, meaning), 'range_is_apart') === 0
   }
 }
 
-// Whether a value is a range that was read, also by another copy of the package.
-function isRange(range) {
-  if (range === null || typeof range !== 'object') return false
-  if (range instanceof Comparator || readOf(range) !== null) return true
-  const { raw, range: string } = range
+// Whether a value is a range that was read, also by another copy of the package or by node-semver.
+function isRange(value) {
+  if (value === null || typeof value !== 'object') return false
+  if (readOf(value) !== null) return true
+  const { raw, range: string } = value
   return typeof raw === 'string' && typeof string === 'string'
 }
+
+const mayBeRange = (value) => typeof value === 'string' || isComparator(value) || isRange(value)
 
 // A comparator as a range, in each dialect: Cargo takes a version without operator for `^`.
 const alone = ({ operator, value }) => (operator ? value : value ? `=${value}` : '*')
@@ -169,8 +171,8 @@ const alone = ({ operator, value }) => (operator ? value : value ? `=${value}` :
 /** The string of a range, which may be one that was read. */
 export function rangeStringOf(range) {
   if (typeof range === 'string') return range
-  if (!isRange(range)) throw noString('range', range)
-  return range instanceof Comparator ? alone(range) : readOf(range)?.string ?? `${range.raw}`
+  if (!mayBeRange(range)) throw noString('range', range)
+  return isComparator(range) ? alone(range) : readOf(range)?.string ?? `${range.raw}`
 }
 
 /** A range that was read: it may have been before. Throws if it is invalid. */
@@ -184,7 +186,7 @@ export function readRange(range, meaning, argument = 0) {
 
 /** The same, but null if it is invalid, or no range at all. */
 export function readRangeOrNull(range, meaning) {
-  if (typeof range !== 'string' && !isRange(range)) return null
+  if (!mayBeRange(range)) return null
   const read = readOf(range)
   if (read !== null && isSameMeaning(read.meaning, meaning)) return read
   const found = new ReadRange(rangeStringOf(range), meaning)

@@ -4,7 +4,7 @@ import { explained } from './errors.mjs'
 import { isSameMeaning, meaningFor, meaningOf } from './options.mjs'
 import { rangesOf } from './comparators.mjs'
 import { Range, formatted, rangeStringOf, readRange, readRangeOrNull } from './ranges.mjs'
-import { SemVer, compareListed, stringOf } from './versions.mjs'
+import { SemVer, compareListed, printedVersion, stringOf } from './versions.mjs'
 
 // The string that was asked last as a range. It is read once it is asked again.
 let lastString = ''
@@ -75,7 +75,7 @@ export const minSatisfying = (versions, range, options) => best(versions, range,
 export function minVersion(range, options) {
   const meaning = meaningFor(options, [range])
   const lowest = readRange(range, meaning).shown('range_lowest')
-  return lowest === '' ? null : new SemVer(lowest, meaning)
+  return lowest === '' ? null : printedVersion(lowest, meaning)
 }
 
 // Two ranges that were read: each object by its own rule, unless the options say one.

@@ -22,6 +22,27 @@ function versionBack(string, length, meaning) {
   return pre === '' ? numbers : `${numbers}-${pre}`
 }
 
+// Reads a version. Returns its parts; null if it is invalid.
+function partsOf(string, meaning) {
+  const length = readVersion(string, meaning.dialect)
+  if (length < 0) return null
+  const at = meaning.isOfNpm ? numberAt : bigAt
+  const numbers = [at(0), at(1), at(2)]
+  const version = versionBack(string, length, meaning)
+  return { numbers, version, pre: partOf(string, length, 3), build: partOf(string, length, 5) }
+}
+
+/**
+ * The version that the module printed, by a meaning. It isn't read: a range may have a lowest
+ * version that isn't in the grammar of the versions of its dialect.
+ */
+export function printedVersion(version, meaning) {
+  const [, numbers, pre] = /^([^-]*)-?(.*)$/.exec(version)
+  const number = meaning.isOfNpm ? Number : BigInt
+  const parts = { numbers: numbers.split('.').map(number), version, pre, build: '' }
+  return new SemVer(version, meaning, parts)
+}
+
 let isSemVer
 
 /** A version of node-semver's class. Its fields can't be written; `inc` changes them. */
@@ -36,25 +57,23 @@ export class SemVer {
     isSemVer = (value) => value !== null && typeof value === 'object' && #meaning in value
   }
 
-  // The third argument is how many bytes the version has, if it was just read by a meaning.
-  constructor(version, options, length) {
+  // The third argument has the parts of the version, if they are known by a meaning.
+  constructor(version, options, parts) {
     const meaning = meaningFor(options, [version])
     if (isSemVer(version) && isSameMeaning(version.#meaning, meaning)) return version
     this.#meaning = meaning
     const string = stringOf(version)
-    const isRead = meaning === options && length !== undefined
-    this.#take(string, isRead ? length : readVersion(string, meaning.dialect))
+    const isKnown = meaning === options && parts !== undefined
+    this.#take(string, isKnown ? parts : partsOf(string, meaning))
   }
 
-  #take(string, length) {
-    const meaning = this.#meaning
-    if (length < 0) throw invalidVersion(string, meaning)
-    const at = meaning.isOfNpm ? numberAt : bigAt
-    identify(this, meaning, 'raw', string)
-    this.#numbers = [at(0), at(1), at(2)]
-    this.#version = versionBack(string, length, meaning)
-    this.#pre = Object.freeze(identifiersOf(partOf(string, length, 3)).map(valueOf))
-    this.#build = Object.freeze(identifiersOf(partOf(string, length, 5)))
+  #take(string, parts) {
+    if (parts === null) throw invalidVersion(string, this.#meaning)
+    identify(this, this.#meaning, 'raw', string)
+    this.#numbers = parts.numbers
+    this.#version = parts.version
+    this.#pre = Object.freeze(identifiersOf(parts.pre).map(valueOf))
+    this.#build = Object.freeze(identifiersOf(parts.build))
   }
 
   // A version has a dialect, and no rule for ranges.
@@ -113,7 +132,7 @@ export class SemVer {
 
   inc(release, identifier, identifierBase) {
     const string = incremented(this, release, identifier, identifierBase)
-    this.#take(string, readVersion(string, this.#meaning.dialect))
+    this.#take(string, partsOf(string, this.#meaning))
     return this
   }
 }
@@ -142,9 +161,10 @@ export function parse(version, options, throwErrors = false) {
   const meaning = meaningFor(options, [version])
   if (isOf(version, meaning)) return version
   if (throwErrors === true) return new SemVer(version, meaning)
-  const string = mayBeVersion(version) ? stringOf(version) : null
-  const length = string === null ? -1 : readVersion(string, meaning.dialect)
-  return length < 0 ? null : new SemVer(string, meaning, length)
+  if (!mayBeVersion(version)) return null
+  const string = stringOf(version)
+  const parts = partsOf(string, meaning)
+  return parts === null ? null : new SemVer(string, meaning, parts)
 }
 
 export function valid(version, options) {

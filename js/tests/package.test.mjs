@@ -323,14 +323,50 @@ test('objects are compared by what was parsed', () => {
   assert.notDeepStrictEqual(new semver.Range('1'), new semver.Range('1', { includePrerelease: true }))
 })
 
-test('a copy of the package accepts objects of another copy', () => {
+// Each call returns the same for an object of another copy of the package, and of node-semver, as for
+// an own one. js-package.sh says where node-semver is, if it is there.
+test('objects of another copy of the package and of node-semver are accepted', () => {
   cpSync('node_modules/semver-parser-proved', 'node_modules/copy', { recursive: true })
   const copy = require('copy')
   assert.notEqual(copy, common)
-  assert.equal(copy.compare(semver.parse('1.2.3-a+b'), '1.2.3-a'), 0)
-  assert.equal(copy.compareBuild(semver.parse('1.2.3-a+b'), '1.2.3-a+b'), 0)
-  assert.equal(copy.satisfies('1.2.3', new semver.Range('^1.2')), true)
-  assert.equal(copy.satisfies('1.2.4', new semver.Range('1.2.3', cargo)), true)
+  const { intersects, subset, compareRanges, satisfies } = semver
+  const written = (it) => it.raw ?? it.value ?? it
+  const calls = [
+    ({ ranges }) => ranges.map((it) => [satisfies('1.2.3', it), satisfies('1.2.4', it), intersects(it, '2'), intersects('1', it)]),
+    ({ ranges: [one, two] }) => [subset(one, '1'), subset('1', one), subset(one, two), subset(two, one), compareRanges(one, two), compareRanges(two, one), compareRanges('1', two)],
+    ({ ranges }) => ranges.map((it) => [new semver.Range(it).range, semver.validRange(it), semver.toComparators(it), semver.explainRange(it), `${semver.minVersion(it)}`]),
+    ({ ranges, version }) => ranges.map((it) => [semver.gtr(version, it), semver.ltr(version, it), written(semver.simplifyRange(['1.2.3', version], it))]),
+    ({ ranges, version }) => ranges.map((it) => [`${semver.maxSatisfying([version, '1.2.3'], it)}`, `${semver.filter(['2.0.0', version], it)}`, satisfies(version, it)]),
+    ({ ranges: [range], options }) => ['1.2.4', '0'].map((it) => [new semver.Range(it, options).intersects(range), new semver.Range(it, options).intersects(range, options)]),
+    ({ ranges: [, comparator], options }) => ['>=1.0.0', '<1.0.0', ''].map((it) => new semver.Comparator(it, options).intersects(comparator)),
+    ({ ranges: [, comparator] }) => [new semver.Comparator(comparator).value, new semver.Comparator(comparator, { dialect: 'cargo' }).semver.major === 1n],
+    ({ version, options }) => [new semver.Range('1.2.4-a', options).test(version), new semver.Comparator('<2.0.0', options).test(version), new semver.SemVer('1.2.4', options).compare(version)],
+    ({ version }) => [semver.coerce(version).version, semver.parse(version).build, semver.compare(version, '1.2.4-b'), semver.compareBuild(version, '1.2.4-a+a'), semver.diff(version, '1.0.0')],
+  ]
+  const libraries = process.env.NODE_SEMVER ? [copy, require(process.env.NODE_SEMVER)] : [copy]
+  for (const options of [{}, cargo, { preReleases: 'excluded' }]) {
+    for (const [range, comparator] of [['1.2.3', '1.2.3'], ['^1', '>=1.2.4-0'], ['*', '']]) {
+      const [own, ...others] = [semver, ...libraries].map((library) => ({
+        ranges: [new library.Range(range, options), new library.Comparator(comparator, options)],
+        version: new library.SemVer('1.2.4-a+b', options),
+        options,
+      }))
+      for (const given of others) calls.forEach((call) => assert.deepEqual(call(given), call(own), `${call} of ${range}, ${comparator}`))
+    }
+  }
+  assert.throws(() => subset(new copy.Comparator('1.2.3', cargo), new semver.Range('1')), /two dialects/)
+  assert.throws(() => new semver.Range('1').intersects(new copy.Comparator('1.2.3')), /a Range is required/)
+  assert.throws(() => new semver.Comparator('1.2.3').intersects(new copy.Range('1.2.3')), /a Comparator is required/)
+})
+
+test('the lowest version of a range is not parsed again', () => {
+  const crate = { dialect: 'crate-npm' }
+  const { options, loose, includePrerelease, ...fields } = semver.minVersion('>=1.2.3--a', crate).toJSON()
+  assert.deepEqual(fields, { raw: '1.2.3--a', major: '1', minor: '2', patch: '3', prerelease: ['-a'], build: [], version: '1.2.3--a' })
+  assert.equal(semver.valid('1.2.3--a', crate), null)
+  assert.deepStrictEqual(semver.minVersion('>=1.2.3-a-b.7 || 2', crate), new semver.SemVer('1.2.3-a-b.7', crate))
+  assert.deepStrictEqual(semver.minVersion('^1.2.3-rc.1+b'), new semver.SemVer('1.2.3-rc.1'))
+  assert.equal(semver.minVersion('>1 <1'), null)
 })
 
 test('fields can not be written, but inc changes them', () => {
@@ -439,13 +475,18 @@ test('if bytes are rejected, init takes a module', async () => {
 })
 
 test('after another module was rejected, the package works', async () => {
-  const other = 'new Uint8Array([0, 0x61, 0x73, 0x6d, 1, 0, 0, 0])'
-  const code = `const semver = require('semver-parser-proved')
+  const after = (bytes) => inWorker(`const semver = require('semver-parser-proved')
     let refused = ''
-    try { semver.init(${other}) } catch (error) { refused = error.name + ': ' + error.message }
-    ${SEND}([refused, semver.valid('1.2.3')])`
-  const refused = 'TypeError: the module is not that of this package'
-  assert.deepEqual(await inWorker(code), [refused, '1.2.3'])
+    try { semver.init(new Uint8Array([${bytes}])) } catch (error) { refused = error.name + ': ' + error.message }
+    ${SEND}([refused, semver.valid('1.2.3')])`)
+  const empty = [0, 0x61, 0x73, 0x6d, 1, 0, 0, 0]
+  assert.deepEqual(await after(empty), ['TypeError: the module is not that of this package', '1.2.3'])
+  // It has `memory`, and `numbers`, which returns 0, and nothing else.
+  const others = [
+    ...empty, 1, 5, 1, 0x60, 0, 1, 0x7f, 3, 2, 1, 0, 5, 3, 1, 0, 1, 7, 20, 2,
+    6, ...Buffer.from('memory'), 2, 0, 7, ...Buffer.from('numbers'), 0, 0, 10, 6, 1, 4, 0, 0x41, 0, 0x0b,
+  ]
+  assert.deepEqual(await after(others), ['TypeError: functions.reserve is not a function', '1.2.3'])
 })
 
 test('the file for browsers has no bytes, but takes them', async () => {
@@ -478,7 +519,7 @@ test('the example of terms in the README', () => {
   const code = example.replace(/^(.*\S) +\/\/ (.*)$/gm, 'results.push([$1, $2])')
   const results = []
   Function('terms', 'replaceVersion', 'results', code)(semver.terms, semver.replaceVersion, results)
-  assert.equal(results.length, 4)
+  assert.equal(results.length, 5)
   for (const [found, right] of results) assert.deepEqual(found, right)
 })
 

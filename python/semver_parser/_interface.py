@@ -118,7 +118,7 @@ def _status_functions() -> Dict[str, List[Any]]:
         "range_to_string": [address, flag, printed],
         "comparators_of_range": [one, number, flag, made, error],
         "comparators_to_string": [address, printed],
-        "replace_version": [one, size, one, number, printed, error],
+        "replace_version": [one, to(CPartialVersion), one, number, printed, error],
         "terms_of_range": [one, number, to(CTerm), size, to(size), error],
     }
 

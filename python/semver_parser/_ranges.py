@@ -152,8 +152,8 @@ class Range(Printed):
 
     @property
     def lowest_version(self) -> Optional[Version]:
-        """The lowest of all versions in the range, by precedence; None if there are none. All
-        versions with numbers up to 2**64 - 1 and without build metadata are considered.
+        """The lowest version of the dialect that is in the range, by precedence and without build
+        metadata; None if there is none. Numbers are at most 2**64 - 1, in npm's dialect 2**53 - 1.
 
         >>> str(Range(">1.2", dialect="npm").lowest_version)
         '1.3.0'

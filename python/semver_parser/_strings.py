@@ -42,11 +42,6 @@ def index_of(string: String, offset: int) -> int:
     return len(encoded(string)[:offset].decode("utf-8", "surrogatepass"))
 
 
-def offset_of(string: String, index: int) -> int:
-    """Returns the byte offset of the character of a string that is at an index."""
-    return len(encoded(string[:index]))
-
-
 def indices_in(string: String) -> Callable[[int], int]:
     """Returns a function that does the same as `index_of` for one string. It scans the string only
     once, and not for each offset."""

@@ -6,10 +6,10 @@ from typing import Callable, Dict, List, Literal, Optional, Union, cast
 
 from ._errors import RangeError, VersionError
 from ._interface import INVALID_RANGE, INVALID_VERSION, NUMBER_TOO_LARGE
-from ._interface import CComponent, CPartialVersion, CTerm
+from ._interface import CComponent, CPartialVersion, CString, CTerm
 from ._library import LIBRARY, check
 from ._options import AnyDialect, Dialect, dialect_of
-from ._strings import String, c_string, indices_in, offset_of
+from ._strings import String, c_string, indices_in
 from ._versions import Version
 
 Component = Union[int, Literal["x", "X", "*"]]
@@ -80,7 +80,13 @@ def terms(range: String, *, dialect: AnyDialect) -> List[Term]:
 
 def terms_of(range: String, dialect: Dialect) -> List[Term]:
     """Returns the terms of a range in a dialect."""
-    string, count = c_string(range), ctypes.c_size_t()
+    string, index_at = c_string(range), indices_in(range)
+    return [_term(term, index_at) for term in _read(range, string, dialect)]
+
+
+def _read(range: String, string: CString, dialect: Dialect) -> "ctypes.Array[CTerm]":
+    """Returns the terms of a range as the library reads them. Parts of them are in `string`."""
+    count = ctypes.c_size_t()
     status = LIBRARY.semver_parser_terms_of_range(string, dialect._number, None, 0, count, None)
     if status in (INVALID_RANGE, NUMBER_TOO_LARGE):
         raise RangeError(range, dialect)
@@ -91,8 +97,7 @@ def terms_of(range: String, dialect: Dialect) -> List[Term]:
             string, dialect._number, found, len(found), count, None
         )
     )
-    index_at = indices_in(range)
-    return [_term(term, index_at) for term in found]
+    return found
 
 
 def replace_version(
@@ -119,20 +124,15 @@ def replace_version(
         raise TypeError(f"not a PartialVersion of a term: {written!r}")
     dialect = dialect_of(dialect)
     other = str(version) if isinstance(version, Version) else version
-    found = terms(range, dialect=dialect)
-    if not any(written in (term.version, term.upper) for term in found):
+    string, index_at = c_string(range), indices_in(range)
+    found = (it for term in _read(range, string, dialect) for it in _versions(term))
+    same = next((it for it in found if _version(it, index_at) == written), None)
+    if same is None:
         raise ValueError(f"the range doesn't have this version at index {written.start}")
     replaced = ctypes.c_char_p()
     status = LIBRARY.semver_parser_replace_version(
-        c_string(range),
-        offset_of(range, written.start),
-        c_string(other),
-        dialect._number,
-        replaced,
-        None,
+        string, same, c_string(other), dialect._number, replaced, None
     )
-    if status in (INVALID_RANGE, NUMBER_TOO_LARGE):
-        raise RangeError(range, dialect)
     if status == INVALID_VERSION:
         raise VersionError(other, dialect)
     check(status)
@@ -153,6 +153,11 @@ def _term(term: CTerm, index_at: Callable[[int], int]) -> Term:
         _version(term.version, index_at),
         _version(term.upper, index_at) if term.op == _HYPHEN else None,
     )
+
+
+def _versions(term: CTerm) -> List[CPartialVersion]:
+    """Returns the one or two versions of a term."""
+    return [term.version, term.upper] if term.op == _HYPHEN else [term.version]
 
 
 def _version(version: CPartialVersion, index_at: Callable[[int], int]) -> PartialVersion:

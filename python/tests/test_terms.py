@@ -221,6 +221,10 @@ class Terms(unittest.TestCase):
         for other in ("1.2", "^2.2", "^1.2.3"):
             with self.assertRaisesRegex(ValueError, "the range doesn't have this version at index 1"):
                 replace_version(other, term.version, "2.0.0", dialect="npm")
+        for start in (-1, -3, 0, 2, 5, 2**64 + 1, 1.5, float("nan"), None, "1"):
+            wrong_start = dataclasses.replace(term.version, start=start)  # type: ignore[arg-type]
+            with self.assertRaisesRegex(ValueError, f"have this version at index {start}$"):
+                replace_version("^1.2", wrong_start, "2.0.0", dialect="npm")
         with self.assertRaisesRegex(TypeError, r"not a PartialVersion of a term: Term\("):
             replace_version("^1.2", term, "2.0.0", dialect="npm")  # type: ignore[arg-type]
         largest = "9007199254740991.0.0"

@@ -1,6 +1,6 @@
 //! The error of a string that is an invalid version, or not a range in a dialect.
 
-use crate::layers::{explain_range, explain_version};
+use crate::layers::{explain_range, explain_version, Escaped};
 use crate::original::printed;
 use crate::rattle_std::{FalliblePush, FallibleString};
 use crate::{AllocError, Dialect, RangeError, Reason};
@@ -203,15 +203,23 @@ impl Display for Error {
         let Some((offset, reason)) = self.found else {
             return f.write_str(kind);
         };
+        let text = Escaped { text: string };
         if f.alternate() {
-            write!(f, "{kind}: {reason}\n    {}\n    ", string.escape_debug())?;
-            // Not by a width, which can't be above 65,535.
-            for _ in string.get(..offset).unwrap_or_default().escape_debug() {
-                f.write_char(' ')?;
-            }
+            write!(f, "{kind}: {reason}\n    {text}\n    ")?;
+            let before = string.get(..offset).unwrap_or_default();
+            write!(Blank(f), "{}", Escaped { text: before })?;
             return f.write_char('^');
         }
-        write!(f, "{kind} {string:?} at offset {offset}: {reason}")
+        write!(f, "{kind} \"{text}\" at offset {offset}: {reason}")
+    }
+}
+
+/// Writes a space in place of each byte.
+struct Blank<'f, 'a>(&'f mut Formatter<'a>);
+
+impl fmt::Write for Blank<'_, '_> {
+    fn write_str(&mut self, text: &str) -> fmt::Result {
+        text.bytes().try_for_each(|_| self.0.write_char(' '))
     }
 }
 

@@ -4,6 +4,7 @@ use crate::proved::{invalid_ranges, invalid_strings, tool_ranges};
 use crate::{AllocError, Dialect, Meaning, PartialVersion, PreReleases, RangeError, RangeSet, Terms};
 
 pub use crate::proved::invalid_ranges::refusals::Refusal as RangeRefusal;
+pub use crate::proved::invalid_strings::escaped::Escaped;
 pub use crate::proved::invalid_strings::refusals::Refusal as VersionRefusal;
 pub use crate::proved::tool_ranges::satisfying::SatisfiesError;
 

@@ -1,5 +1,6 @@
 //! Names of dialects and of rules for pre-releases.
 
+use crate::layers::Escaped;
 use crate::{Dialect, PreReleases};
 use alloc::string::String;
 use core::fmt::{self, Display, Formatter};
@@ -26,8 +27,9 @@ impl Display for UnknownName {
     fn fmt(&self, f: &mut Formatter<'_>) -> fmt::Result {
         write!(
             f,
-            "unknown name {:?}: expected {}",
-            self.name, self.expected
+            "unknown name \"{}\": expected {}",
+            Escaped { text: &self.name },
+            self.expected
         )
     }
 }

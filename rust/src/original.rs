@@ -1,6 +1,7 @@
 //! The signatures of the Rust crate `semver-parser` 0.10.3 that the proved functions don't have.
 //! Proved functions return an error if an allocation fails; these end the process, like std.
 
+use crate::layers::Escaped;
 use crate::rattle_std::FallibleToString;
 use crate::version;
 use crate::{lexer, parser};
@@ -117,7 +118,9 @@ impl Display for lexer::Error {
     /// Writes a sentence, such as `unexpected character '/'`.
     fn fmt(&self, f: &mut Formatter<'_>) -> fmt::Result {
         let lexer::Error::UnexpectedChar(character) = self;
-        write!(f, "unexpected character {character:?}")
+        let mut bytes = [0; 4];
+        let text = &*character.encode_utf8(&mut bytes);
+        write!(f, "unexpected character '{}'", Escaped { text })
     }
 }
 

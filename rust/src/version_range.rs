@@ -109,9 +109,9 @@ impl VersionRange {
 }
 
 impl VersionRange {
-    /// Returns the lowest version that the range contains, or `None` if there is none. By the
-    /// default rule for pre-releases, npm's `*` contains releases only, so its lowest version is
-    /// 0.0.0.
+    /// Returns the lowest version of the dialect that the range contains, or `None` if there is
+    /// none. By the default rule for pre-releases, npm's `*` contains releases only, so its lowest
+    /// version is 0.0.0. A version of npm's dialect has no number above 2^53 - 1.
     ///
     /// ```
     /// use semver_parser::{Dialect, VersionRange};
@@ -123,11 +123,12 @@ impl VersionRange {
     /// assert_eq!(lowest(">1.2 || 3.x")?, Some("1.3.0".to_string()));
     /// assert_eq!(lowest("^1.2.3-rc.1")?, Some("1.2.3-rc.1".to_string()));
     /// assert_eq!(lowest("<0.0.0")?, None);
+    /// assert_eq!(lowest(">1.2.9007199254740991")?, Some("1.3.0".to_string()));
     /// # Ok::<(), semver_parser::Error>(())
     /// ```
     #[must_use]
     pub fn lowest_version(&self) -> Option<Version> {
-        self.versions().lowest().unwrap_or_else(|_| out_of_memory())
+        self.try_lowest_version().unwrap_or_else(|_| out_of_memory())
     }
 }
 

@@ -197,22 +197,58 @@ fn borrowed_versions_are_equal_by_their_parts() {
     assert_ne!(zero, read("1.2.3-1", Dialect::CrateNpm));
 }
 
+/// No version of a dialect has a number above its limit M, so above M the number before it is
+/// raised. The rows are decided by hand, by that rule.
+#[test]
+fn the_lowest_version_is_one_of_the_dialect() {
+    // A range, the lowest version by default, and with all pre-releases.
+    let rows = [
+        (">1.2.M", "1.3.0", "1.3.0-0"),
+        (">1.M.M", "2.0.0", "2.0.0-0"),
+        (">M.M.M", "none", "none"),
+        (">1.2.M-a", "1.2.M-a.0", "1.2.M-a.0"),
+        ("=1.2.M", "1.2.M", "1.2.M"),
+        (">1.2.0", "1.2.1", "1.2.1-0"),
+    ];
+    // Npm's ranges may also be joined by `||` and spaces.
+    let rows_of_npm = [
+        (">1.2.M <1.3.0-0", "none", "none"),
+        (">1.2.M <1.3.0-0 || 5", "5.0.0", "5.0.0-0"),
+        (">1.2.M <1.3.0 || 5", "5.0.0", "1.3.0-0"),
+        (">1.2.M <1.3.0-0 || >2.M.M <3.0.0-0 || 4.0.0-b", "4.0.0-b", "4.0.0-b"),
+    ];
+    let npm = rows.iter().chain(&rows_of_npm).map(|row| (Dialect::Npm, (1u64 << 53) - 1, row));
+    let cargo = rows.iter().map(|row| (Dialect::Cargo, u64::MAX, row));
+    for (dialect, most, (range, by_default, with_all)) in npm.chain(cargo) {
+        let most = most.to_string();
+        for (pre_releases, wanted) in
+            [(PreReleases::Default, by_default), (PreReleases::Included, with_all)]
+        {
+            let meaning = Meaning { dialect, pre_releases };
+            let read = VersionRange::parse(&range.replace('M', &most), meaning).unwrap();
+            let lowest = read.lowest_version().map_or("none".into(), |version| version.to_string());
+            assert_eq!(lowest, wanted.replace('M', &most), "{range} in {dialect}'s dialect");
+        }
+    }
+}
+
 // ---------------------------------------------------------------- errors
 
-/// The string is printed in one line with what is no letter escaped, and the caret is in the column
-/// of the character at the offset, which is at the end of the string here.
+/// The string is printed in one line, with each character escaped that isn't a printable one of
+/// ASCII, and the caret is in the column of the character at the offset.
 #[test]
 fn a_caret_is_below_the_character_at_the_offset() {
     let of_range = |range| check_range(range, Dialect::Npm).unwrap_err();
     let rows = [
-        ("1 \u{e9}", 2, "1 \u{e9}", 2),
-        ("1\t\u{e9}", 2, "1\\t\u{e9}", 3),
-        ("1\t\t\u{e9}\u{4e2d}", 3, "1\\t\\t\u{e9}\u{4e2d}", 5),
+        ("1 \u{e9}", 2, "1 \\u{e9}", 2),
+        ("1\t\u{e9}", 2, "1\\t\\u{e9}", 3),
+        ("1\t\t\u{e9}\u{4e2d}", 3, "1\\t\\t\\u{e9}\\u{4e2d}", 5),
+        ("\u{a0}1 \u{1b123}", 4, "\\u{a0}1 \\u{1b123}", 8),
         ("\u{1b}[31m", 0, "\\u{1b}[31m", 0),
         ("1\t\"", 2, "1\\t\\\"", 3),
         ("1\t\\", 2, "1\\t\\\\", 3),
         ("1\r\n\u{7f}", 3, "1\\r\\n\\u{7f}", 5),
-        ("\u{1f600}", 0, "\u{1f600}", 0),
+        ("\u{1f600}", 0, "\\u{1f600}", 0),
     ];
     for (range, offset, shown, column) in rows {
         let error = of_range(range);

@@ -72,6 +72,7 @@ fn main() {
         "library" => proved::library_tests::main(HostRuntime),
         "rows" => proved::replayed_cases::main(HostRuntime),
         "filter" => proved::filter_tests::main(HostRuntime),
+        "small" => proved::small_inputs::main(HostRuntime),
         _ if refused.is_some() => layers::refused::main(),
         _ => layers::rows::main(),
     };

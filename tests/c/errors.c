@@ -300,18 +300,22 @@ static const struct {
      "invalid range \">=\" at offset 2: a number is expected\n"
      "    >=\n"
      "      ^"},
-    /* Quotes and control characters are escaped, and take one column in the second line. */
+    /* Quotes, and what isn't a printable character of ASCII, are escaped in both lines. */
     {NPM, "1\t\"",
      "invalid range \"1\\t\\\"\" at offset 2: unexpected character\n"
-     "    1\xEF\xBF\xBD\"\n"
-     "      ^"},
+     "    1\\t\\\"\n"
+     "       ^"},
     {CARGO, "\xC3\xA9",
-     "invalid range \"\xC3\xA9\" at offset 0: unexpected character\n"
-     "    \xC3\xA9\n"
+     "invalid range \"\\u{e9}\" at offset 0: unexpected character\n"
+     "    \\u{e9}\n"
      "    ^"},
+    {NPM, "\xC2\xA0 1 \xF0\x9B\x84\xA3",
+     "invalid range \"\\u{a0} 1 \\u{1b123}\" at offset 5: unexpected character\n"
+     "    \\u{a0} 1 \\u{1b123}\n"
+     "             ^"},
     {CARGO, "1.2.\xFF",
-     "invalid range \"1.2.\xEF\xBF\xBD\" at offset 4: the string isn't UTF-8\n"
-     "    1.2.\xEF\xBF\xBD\n"
+     "invalid range \"1.2.\\u{fffd}\" at offset 4: the string isn't UTF-8\n"
+     "    1.2.\\u{fffd}\n"
      "        ^"},
     {CARGO, "^18446744073709551616",
      "number too large in range \"^18446744073709551616\" at offset 1: numbers are at most 2^64 - 1\n"

@@ -561,13 +561,21 @@ static void terms(const call *it, text *to) {
     }
 }
 
-/* Replaces the version at an offset of a range by another one. Mostly there is no version at the
- * offset. */
+/* Replaces the version of a term by another one; sometimes the version in the range is another one
+ * than the given one. */
 static void replaced(const call *it, text *to) {
     semver_parser_error error = before;
     char *string = NULL;
+    semver_parser_term found;
+    size_t count;
+    memset(&found, 0, sizeof found);
+    if (semver_parser_terms_of_range(second_of(it), it->dialect, &found, 1, &count, NULL)
+            == SEMVER_PARSER_OK
+        && it->flag) {
+        found.version.start += it->index % 4;
+    }
     semver_parser_status status = semver_parser_replace_version(
-        second_of(it), it->index % 4, first_of(it), it->dialect, &string, &error);
+        second_of(it), &found.version, first_of(it), it->dialect, &string, &error);
     say_error(to, status, &error);
     say_made(to, status, string);
 }

@@ -510,43 +510,108 @@ static void parts_are(const char *bytes, bool has_v, const semver_parser_compone
           "wrong build", bytes);
 }
 
-/* Checks a range in which the version at an offset is replaced by 3.1.4-rc.1+b5. */
+/* Returns a version of a range: counted from 0, or in a hyphen range its second one. */
+static semver_parser_partial_version version_of(
+    semver_parser_dialect dialect, const char *range, size_t index, bool is_upper) {
+    semver_parser_term found[4];
+    size_t count = 0;
+    memset(found, 0, sizeof found);
+    check(semver_parser_terms_of_range(
+              semver_parser_str(range), dialect, found, 4, &count, NULL)
+                  == SEMVER_PARSER_OK
+              && index < count,
+          "no such term", range);
+    return is_upper ? found[index].upper : found[index].version;
+}
+
+/* Checks a range in which a version is replaced by 3.1.4-rc.1+b5. */
 static void replaced_is(
-    semver_parser_dialect dialect, const char *range, size_t start, const char *wanted) {
+    semver_parser_dialect dialect, const char *range, size_t index, bool is_upper,
+    const char *wanted) {
     char *made = NULL;
+    const semver_parser_partial_version written = version_of(dialect, range, index, is_upper);
     semver_parser_status status = semver_parser_replace_version(
-        semver_parser_str(range), start, semver_parser_str("3.1.4-rc.1+b5"), dialect, &made, NULL);
+        semver_parser_str(range), &written, semver_parser_str("3.1.4-rc.1+b5"), dialect, &made,
+        NULL);
     check(status == SEMVER_PARSER_OK && strcmp(made, wanted) == 0, "wrong replacement", range);
     semver_parser_free(made);
 }
 
-/* Checks that nothing is replaced: there is no version at the offset, or the range or version is
- * invalid. */
+/* Checks that nothing is replaced: the range doesn't have the version, or the range or the other
+ * version is invalid. */
 static void not_replaced(
-    const char *range, size_t start, const char *version, semver_parser_status wanted,
-    size_t wanted_index) {
+    const char *range, const semver_parser_partial_version *written, const char *version,
+    semver_parser_status wanted, size_t wanted_index) {
     char *made = NULL;
     semver_parser_error error;
     memset(&error, 0, sizeof error);
     semver_parser_status status = semver_parser_replace_version(
-        semver_parser_str(range), start, semver_parser_str(version), NPM, &made, &error);
+        semver_parser_str(range), written, semver_parser_str(version), NPM, &made, &error);
     check(status == wanted && error.status == wanted && error.index == wanted_index && made == NULL,
           "wrong error of a replacement", range);
 }
 
+/* Checks that a range doesn't have the first version of another one. */
+static void another_version(const char *range, const char *other) {
+    const semver_parser_partial_version written = version_of(NPM, other, 0, false);
+    not_replaced(range, &written, "2.0.0", SEMVER_PARSER_INVALID_ARGUMENT, 0);
+}
+
 static void replaced(void) {
-    replaced_is(NPM, "v1.2 || >= 1.2.3-a+b", 0, "v3.1 || >= 1.2.3-a+b");
-    replaced_is(NPM, "v1.2 || >= 1.2.3-a+b", 11, "v1.2 || >= 3.1.4-rc.1");
-    replaced_is(NPM, "1.X - 2.*.x", 0, "3.X - 2.*.x");
-    replaced_is(NPM, "1.X - 2.*.x", 6, "1.X - 3.*.x");
-    replaced_is(CARGO, ">=1.2.0, <2", 10, ">=1.2.0, <3");
-    not_replaced("^1.2", 0, "2.0.0", SEMVER_PARSER_INVALID_ARGUMENT, 0);
-    not_replaced("^1.2", 5, "2.0.0", SEMVER_PARSER_INVALID_ARGUMENT, 0);
-    not_replaced("^1.02", 1, "2.0.0", SEMVER_PARSER_INVALID_RANGE, 0);
-    not_replaced("^9007199254740992", 1, "2.0.0", SEMVER_PARSER_NUMBER_TOO_LARGE, 0);
-    not_replaced("^1.2", 1, "2.0", SEMVER_PARSER_INVALID_VERSION, 1);
-    not_replaced("^1.02", 1, "2.0", SEMVER_PARSER_INVALID_RANGE, 0);
-    not_replaced("^1.2", 0, "2.0", SEMVER_PARSER_INVALID_ARGUMENT, 0);
+    replaced_is(NPM, "v1.2 || >= 1.2.3-a+b", 0, false, "v3.1 || >= 1.2.3-a+b");
+    replaced_is(NPM, "v1.2 || >= 1.2.3-a+b", 1, false, "v1.2 || >= 3.1.4-rc.1");
+    replaced_is(NPM, "1.X - 2.*.x", 0, false, "3.X - 2.*.x");
+    replaced_is(NPM, "1.X - 2.*.x", 0, true, "1.X - 3.*.x");
+    replaced_is(CARGO, ">=1.2.0, <2", 1, false, ">=1.2.0, <3");
+    const semver_parser_partial_version written = version_of(NPM, "^1.2", 0, false);
+    not_replaced("^1.02", &written, "2.0.0", SEMVER_PARSER_INVALID_RANGE, 0);
+    not_replaced("^9007199254740992", &written, "2.0.0", SEMVER_PARSER_NUMBER_TOO_LARGE, 0);
+    not_replaced("^1.2", &written, "2.0", SEMVER_PARSER_INVALID_VERSION, 1);
+    not_replaced("^1.02", &written, "2.0", SEMVER_PARSER_INVALID_RANGE, 0);
+    not_replaced("1.2", &written, "2.0", SEMVER_PARSER_INVALID_ARGUMENT, 0);
+    static const char *const others[][2] = {
+        {"1.2", "^1.2"}, {"^1.2", "1.2"}, {"^1.2", "^1.22"}, {"1.2", "v1"}, {"^1.2", "^2.2"},
+        {"^1.2", "^1.3"}, {"^1.2.3", "^1.2.4"}, {"^1.2", "^1.x"}, {"^1.x", "^1.X"},
+        {"^1.2.3-a", "^1.2.3-b"}, {"^1.2.3+a", "^1.2.3+b"}, {"^1.2.3-a", "^1.2.3+a"}};
+    for (size_t at = 0; at < sizeof others / sizeof *others; at++) {
+        another_version(others[at][0], others[at][1]);
+    }
+    semver_parser_partial_version none = written;
+    none.start = none.end = SIZE_MAX;
+    not_replaced("^1.2", &none, "2.0.0", SEMVER_PARSER_INVALID_ARGUMENT, 0);
+}
+
+/* After a longer version, the other versions of a range are at other offsets; before it, they stay
+ * where they are. */
+static void several_replaced(void) {
+    const char *const range = "1 || 2.0.0-a || 3";
+    semver_parser_term found[3];
+    size_t count;
+    check(semver_parser_terms_of_range(semver_parser_str(range), NPM, found, 3, &count, NULL)
+                  == SEMVER_PARSER_OK
+              && count == 3,
+          "no terms", range);
+    const semver_parser_string version = semver_parser_str("10.0.0");
+    char *longer = NULL;
+    check(semver_parser_replace_version(
+              semver_parser_str(range), &found[0].version, version, NPM, &longer, NULL)
+                  == SEMVER_PARSER_OK
+              && strcmp(longer, "10 || 2.0.0-a || 3") == 0,
+          "wrong replacement", range);
+    not_replaced(longer, &found[2].version, "4.0.0", SEMVER_PARSER_INVALID_ARGUMENT, 0);
+    semver_parser_free(longer);
+    char *last = NULL;
+    for (size_t at = count; at-- > 0;) {
+        char *made = NULL;
+        check(semver_parser_replace_version(semver_parser_str(last == NULL ? range : last),
+                                            &found[at].version, version, NPM, &made, NULL)
+                  == SEMVER_PARSER_OK,
+              "not replaced", range);
+        semver_parser_free(last);
+        last = made;
+    }
+    check(strcmp(last, "10 || 10.0.0 || 10") == 0, "wrong replacements", last);
+    semver_parser_free(last);
 }
 
 static void terms(void) {
@@ -592,5 +657,6 @@ int main(void) {
     comparators();
     terms();
     replaced();
+    several_replaced();
     return finish("readings");
 }

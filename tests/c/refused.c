@@ -187,8 +187,16 @@ static semver_parser_status terms(const arguments *with, outputs *to) {
 }
 
 static semver_parser_status replace(const arguments *with, outputs *to) {
-    return semver_parser_replace_version(
-        with->strings[1], 1, with->strings[0], with->options.dialect, &to->string, with->error);
+    semver_parser_term found;
+    size_t count;
+    memset(&found, 0, sizeof found);
+    if (semver_parser_terms_of_range(
+            with->strings[1], with->options.dialect, &found, 1, &count, NULL)
+        != SEMVER_PARSER_OK) {
+        check(false, "no terms", with->strings[1].data, 0);
+    }
+    return semver_parser_replace_version(with->strings[1], &found.version, with->strings[0],
+                                         with->options.dialect, &to->string, with->error);
 }
 
 static semver_parser_status print_list(const arguments *with, outputs *to) {

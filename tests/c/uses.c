@@ -138,6 +138,22 @@ static bool use_list(const semver_parser_comparators *list) {
            && semver_parser_comparators_get(list, 4, &last) == SEMVER_PARSER_INVALID_ARGUMENT;
 }
 
+static bool use_terms(void) {
+    const semver_parser_string range = semver_parser_str("^1.2 || >=2.0.0-rc.1");
+    semver_parser_term terms[2];
+    size_t count = 0;
+    char *made = NULL;
+    bool is_read = semver_parser_terms_of_range(range, npm.dialect, terms, 2, &count, NULL)
+                       == SEMVER_PARSER_OK
+                   && count == 2 && terms[1].op == SEMVER_PARSER_OPERATOR_GREATER_OR_EQUAL
+                   && strcmp(semver_parser_operator_sign(terms[1].op), ">=") == 0
+                   && terms[1].version.major.kind == SEMVER_PARSER_COMPONENT_NUMBER
+                   && is_string(terms[1].version.pre, "rc.1");
+    semver_parser_status status = semver_parser_replace_version(
+        range, &terms[1].version, semver_parser_str("3.1.4"), npm.dialect, &made, NULL);
+    return is_read && is_made(status, made, "^1.2 || >=3.1.4");
+}
+
 /* What both threads read, and whether each got the right results. */
 static semver_parser_range *shared_set;
 static semver_parser_comparators *shared_list;
@@ -146,7 +162,7 @@ static void *use_shared(void *right) {
     bool is_right = true;
     for (int at = 0; at < 200; at++) {
         is_right = is_right && use_set(shared_set) && use_two_sets(shared_set)
-                   && use_list(shared_list) && use_versions();
+                   && use_list(shared_list) && use_versions() && use_terms();
     }
     *(bool *)right = is_right;
     return NULL;

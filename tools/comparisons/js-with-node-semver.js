@@ -162,7 +162,11 @@ function compareRanges (random, range, other) {
   compareCall('intersects', [range, other], isKnown)
   const isTogether = (found) => /\|\|/.test(other) && found === 'true' && count('a range within several together')
   compareCall('subset', [range, other], (wanted, found) => isWhole() || isTogether(found) || isKnown())
-  compareCall('minVersion', [range], isKnown)
+  const isBeyond = () => {
+    const lowest = semver.minVersion(range)
+    return lowest && semver.valid(lowest.version) === null && count('a lowest version with a number above 2^53 - 1')
+  }
+  compareCall('minVersion', [range], () => isKnown() || isBeyond())
   const one = random.of(asked(random, range))
   const isBeside = () => /-/.test(one) ? count('a pre-release outside of a range') : isKnown() ||
     (!isOfBounds(range) && count('a version outside of several bounds'))

@@ -53,8 +53,8 @@ def refusals(cases, dialect, of):
 
 
 def pairs(dialect):
-    """Yields pairs of terms: the text, the offset of the number in each term that may be too large,
-    and each term by itself."""
+    """Yields pairs of terms: the text, the offset in bytes of the number in each term that may be
+    too large, and each term by itself."""
     words = [("x", 0), ("*", 0)]
     for n in (1, LIMITS[dialect], LIMITS[dialect] + 1):
         words += [(f"{n}", 0), (f"{n}.2", 0), (f"1.{n}", 2), (f"1.2.{n}", 4), (f"{n}.x", 0), (f"{n}.0.0-a.1+b", 0)]
@@ -63,7 +63,7 @@ def pairs(dialect):
         of = words if between == HYPHEN else terms
         for (first, of_first), (second, of_second) in product(of, of):
             alone = (f">={first}", f"<={second}") if between == HYPHEN else (first, second)
-            yield first + between + second, (of_first, len(first + between) + of_second), alone
+            yield first + between + second, (of_first, len((first + between).encode()) + of_second), alone
 
 
 def too_large(cases, program, pool):

@@ -102,7 +102,7 @@ TellsContradiction option earlier _ = ⊥
 -- the error is that no dialect has the name, or it is `Unreadable`, which is returned if memory
 -- runs out
 abbrev pub TellsUnknown : Text → ArgumentError → Type 0
-TellsUnknown name (UnknownDialect told) = string_bytes told ≡ name
+TellsUnknown name (UnknownDialect told) = string_bytes told.text ≡ name
 TellsUnknown name Unreadable = ⊤
 TellsUnknown name _ = ⊥
 

@@ -1,7 +1,34 @@
 //! Errors in the arguments of a program.
 
+use invalid_strings::escaped::Escaped;
 use std::alloc::AllocError;
+use std::fmt::{self, Display, Formatter};
 use thiserror::Error;
+
+/// An argument, which is printed in quotes, with [`Escaped`] characters.
+#[derive(Debug, Drop)]
+pub struct Quoted {
+    /// The argument.
+    pub text: String,
+}
+
+// Determined by: equation.
+impl Display for Quoted {
+    ghost use Rattle.std.specs.Prelude.{◌++◌, ◌∷◌, [], Some, string_bytes};
+    ghost use Rattle.invalid_strings.specs.Escaping.{escaped};
+
+    ghost output = { λ quoted. Some (34 ∷ escaped (string_bytes quoted.text) ++ 34 ∷ []) };
+
+    fn fmt<W: fmt::Write>(&self, f: &mut Formatter<W>) -> fmt::Result {
+        write!(
+            f,
+            "\"{}\"",
+            Escaped {
+                text: self.text.as_str()
+            }
+        )
+    }
+}
 
 /// An error in the arguments of a program. Options are printed as they are written.
 #[derive(Debug, Error, Drop)]
@@ -10,14 +37,14 @@ pub enum ArgumentError {
     #[error("cannot read arguments")]
     Unreadable,
     /// This option is unknown.
-    #[error("unknown option: {0:?}")]
-    UnknownOption(String),
+    #[error("unknown option: {0}")]
+    UnknownOption(Quoted),
     /// Nothing follows `--dialect`, or `--as`.
     #[error("--dialect needs a name")]
     NoDialect,
     /// The string after `--dialect` isn't the name of a dialect.
-    #[error("unknown dialect: {0:?}")]
-    UnknownDialect(String),
+    #[error("unknown dialect: {0}")]
+    UnknownDialect(Quoted),
     /// Nothing follows `--prefix`.
     #[error("--prefix needs a value")]
     NoPrefix,

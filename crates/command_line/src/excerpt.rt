@@ -1,6 +1,7 @@
 //! A string, or the part of a long one around an offset.
 
-use std::alloc::AllocError;
+use invalid_strings::escaped::Escaped;
+use std::alloc::{AllocError, Global};
 use std::fmt::{self, Display, Formatter};
 
 /// How many bytes of a long string are shown before and after the offset.
@@ -33,23 +34,22 @@ impl<'a> Excerpt<'a> {
     }
 
     /// Writes the string in a line of its own, and in the next line a caret below the offset. If
-    /// the string is empty, or has a character that isn't shown in one column, it writes only the
-    /// indentation.
-    pub(crate) fn write_pointed(&self, out: &mut String) -> Result<(), AllocError> {
+    /// the string is empty, it writes only the indentation.
+    pub(crate) fn write_pointed(&self, alloc: Global, out: &mut String) -> Result<(), AllocError> {
         out.push_str("\n    ")?;
-        let in_columns = self.text.bytes().all(|byte| matches!(byte, b' '..=b'~'));
-        if self.text.is_empty() || !in_columns {
+        if self.text.is_empty() {
             return Ok(());
         }
+        let text = Escaped { text: self.text };
+        write!(out, "{}{text}{}\n    ", self.left_out.0, self.left_out.1)?;
+        let mut before = String::new(alloc);
         write!(
-            out,
-            "{}{}{}\n    ",
-            self.left_out.0, self.text, self.left_out.1
+            before,
+            "{}{}",
+            self.left_out.0,
+            Escaped { text: self.before }
         )?;
-        for _ in self.left_out.0.bytes() {
-            out.push(' ')?;
-        }
-        for _ in self.before.bytes() {
+        for _ in before.bytes() {
             out.push(' ')?;
         }
         out.push_str("^ ")
@@ -58,7 +58,8 @@ impl<'a> Excerpt<'a> {
 
 impl Display for Excerpt<'_> {
     fn fmt<W: fmt::Write>(&self, f: &mut Formatter<W>) -> fmt::Result {
-        write!(f, "{}{:?}{}", self.left_out.0, self.text, self.left_out.1)
+        let text = Escaped { text: self.text };
+        write!(f, "{}\"{text}\"{}", self.left_out.0, self.left_out.1)
     }
 }
 

@@ -8,7 +8,7 @@ mod options;
 mod program;
 mod refused;
 
-pub use error::ArgumentError;
+pub use error::{ArgumentError, Quoted};
 pub use options::MeaningOptions;
 pub use program::Program;
 pub use refused::refused_line;

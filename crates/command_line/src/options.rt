@@ -13,7 +13,7 @@ ghost use Rattle.command_line.specs.Options.{TellsContradiction, TellsTwice, Tel
 ghost use Rattle.command_line.specs.Options.{IsOptionOf, WantsName, dialect_option_of, meant};
 ghost use Rattle.command_line.specs.Options.{no_options, option_of};
 
-use crate::error::ArgumentError;
+use crate::error::{ArgumentError, Quoted};
 use std::alloc::Global;
 use std::marker::Model;
 use tool_ranges::dialect::Dialect;
@@ -187,7 +187,9 @@ impl MeaningOptions {
             "npm" => self.set_dialect(Dialect::Npm, "--dialect npm"),
             "crate-cargo" => self.set_dialect(Dialect::CrateCargo, "--dialect crate-cargo"),
             "crate-npm" => self.set_dialect(Dialect::CrateNpm, "--dialect crate-npm"),
-            _ => Err(ArgumentError::UnknownDialect(name.to_string(alloc)?)),
+            _ => Err(ArgumentError::UnknownDialect(Quoted {
+                text: name.to_string(alloc)?,
+            })),
         }
     }
 

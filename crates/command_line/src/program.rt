@@ -5,6 +5,7 @@ ghost use Rattle.std.specs.Process.{exit_status};
 
 use crate::error::ArgumentError;
 use crate::refused::refused_text;
+use invalid_strings::escaped::Escaped;
 use semver_parser::RangeError;
 use std::io::{self, ErrorKind};
 use std::process::ExitCode;
@@ -67,9 +68,10 @@ impl Program {
     ) -> ExitCode
         ensures status { exit_status result ≡ 2 }
     {
+        let shown = Escaped { text: range };
         let _ = match refused_text(rt.alloc(), dialect, error, range) {
             Ok(text) => eprintln!(rt; "{}: {text}", self.name),
-            Err(_) => eprintln!(rt; "{}: {error}: {range:?}", self.name),
+            Err(_) => eprintln!(rt; "{}: {error}: \"{shown}\"", self.name),
         };
         ExitCode::from(2)
     }
@@ -84,10 +86,11 @@ impl Program {
     ) -> ExitCode
         ensures status { exit_status result ≡ 2 }
     {
+        let shown = Escaped { text: range };
         for (tool, dialect, error) in tools {
             let _ = match refused_text(rt.alloc(), *dialect, error, range) {
                 Ok(text) => eprintln!(rt; "{}: {tool}: {text}", self.name),
-                Err(_) => eprintln!(rt; "{}: {tool}: {error}: {range:?}", self.name),
+                Err(_) => eprintln!(rt; "{}: {tool}: {error}: \"{shown}\"", self.name),
             };
         }
         ExitCode::from(2)

@@ -30,7 +30,7 @@ pub(crate) fn refused_text(
 ) -> Result<String, AllocError> {
     let mut written = String::new(alloc);
     match refused(alloc, dialect, text)? {
-        Some(refusal) => write_refusal(&mut written, &refusal, text)?,
+        Some(refusal) => write_refusal(alloc, &mut written, &refusal, text)?,
         None => write!(written, "{}: {}", words_of(error), Excerpt::round(text, 0))?,
     }
     Ok(written)
@@ -86,10 +86,15 @@ fn words_of(error: &RangeError) -> &'static str
 }
 
 /// Writes the lines of an error with its offset.
-fn write_refusal(out: &mut String, refusal: &Refusal, text: &str) -> Result<(), AllocError> {
+fn write_refusal(
+    alloc: Global,
+    out: &mut String,
+    refusal: &Refusal,
+    text: &str,
+) -> Result<(), AllocError> {
     let excerpt = Excerpt::round(text, refusal.offset);
     write!(out, "{}: {excerpt}", words_of(&refusal.error))?;
-    excerpt.write_pointed(out)?;
+    excerpt.write_pointed(alloc, out)?;
     write_why(out, refusal, text.len())
 }
 

@@ -1,6 +1,6 @@
 //! Reads the arguments.
 
-use command_line::{ArgumentError, MeaningOptions};
+use command_line::{ArgumentError, MeaningOptions, Quoted};
 use std::env;
 use std::rt::Env;
 use tool_ranges::meaning::Meaning;
@@ -146,7 +146,7 @@ pub fn requested(rt: &(impl Env + AllocGlobal)) -> Result<Request, ArgumentError
             "--version" if options.has_more => return Ok(Request::Version),
             text if options.has_more && text.starts_with('-') => {
                 if !options.take(text)? {
-                    return Err(ArgumentError::UnknownOption(argument));
+                    return Err(ArgumentError::UnknownOption(Quoted { text: argument }));
                 }
             }
             _ if new.is_some() => return Err(ArgumentError::MoreThanTwoRanges),

@@ -3,7 +3,7 @@ use Rattle.std.proofs.Common.{◌≡◌, ℕ, zero, suc, ◌+◌, ◌≤◌, tru
 use Rattle.std.specs.List.{slice_split}
 use Rattle.std.proofs.lemmas.List.Splits.{length-slice_split}
 use Rattle.semver_texts.specs.Texts.{Text, is_dot}
-use Rattle.invalid_ranges.specs.TooLarge.{begin_of_word, component_at, is_below, is_separator, states_number, words}
+use Rattle.invalid_ranges.specs.TooLarge.{begin_of_word, component_begin, is_separator, states_number, words}
 
 -- ---- words
 
@@ -28,10 +28,9 @@ some_words t = omega (arith, length-slice_split is_separator t)
 
 -- ---- components
 
-pub next_component : (limit : ℕ) (c : Text) (cs : List Text) → 1 ≤ length cs → is_below limit c ≡ true
-    → component_at limit (c ∷ cs) ≡ length c + 1 + component_at limit cs
-next_component limit c [] some e = absurd (omega (arith, some))
-next_component limit c (x ∷ xs) some e = rw e (omega arith)
+pub next_component : (k : ℕ) (c : Text) (cs : List Text) → 1 ≤ length cs → component_begin (suc k) (c ∷ cs) ≡ length c + 1 + component_begin k cs
+next_component k c [] some = absurd (omega (arith, some))
+next_component k c (x ∷ xs) some = omega arith
 
 pub some_components : (t : Text) → 1 ≤ length (slice_split is_dot t)
 some_components t = omega (arith, length-slice_split is_dot t)

@@ -234,10 +234,10 @@ is_whole after_hyphen k = not k
 
 taken : (role : Role) (a b c : Text) (pre build : List Text)
     → is_taken_whole role (three a b c pre build) ≡ is_whole role (not (is_empty pre))
-taken (after_form bare) a b c pre build = refl
-taken (after_form _) a b c pre build = refl
-taken after_hyphen a b c [] build = refl
-taken after_hyphen a b c (x ∷ xs) build = refl
+taken (after_form bare) a b c pre _ = refl
+taken (after_form _) a b c pre _ = refl
+taken after_hyphen a b c [] _ = refl
+taken after_hyphen a b c (x ∷ xs) _ = refl
 
 abbrev extra : Bool → ℕ → ℕ
 extra true q = q

@@ -1,17 +1,19 @@
--- The offset of the number that is too large: the first that is above the limit of the dialect, or
--- can't be raised, in the first term that doesn't fit.
+-- The offset of the number that is too large. It is in the first term that doesn't fit: the first of
+-- its numbers that is above the limit of the dialect, or if there is none, the number that is raised
+-- and can't be.
 use Prim.Native.Char.{code}
-use Rattle.std.specs.Prelude.{◌≡◌, ℕ, zero, suc, ◌+◌, ◌-◌, ◌^◌, Bool, false, ◌&&◌, ◌||◌, ◌==◌, not}
-use Rattle.std.specs.Prelude.{if◌then◌else◌, List, [], ◌∷◌, drop, length, nat_lt, take}
+use Rattle.std.specs.Prelude.{◌≡◌, ℕ, zero, suc, ◌+◌, Bool, false, ◌&&◌, ◌||◌, ◌==◌, not}
+use Rattle.std.specs.Prelude.{if◌then◌else◌, List, [], ◌∷◌, drop, length, slice_index, take, take_while}
 use Rattle.std.specs.Char.{is_ascii_alphanumeric, is_ascii_digit}
-use Rattle.std.specs.List.{prefix_len, slice_split}
+use Rattle.std.specs.List.{list_all, prefix_len, slice_split}
 use Rattle.std.specs.Str.{all_ascii_digits}
 use Rattle.std.specs.Str.Parse.{digits_value}
 use Rattle.semver_texts.specs.Texts.{Text, is_dot, is_dotted_byte}
 use Rattle.tool_ranges.specs.declared.dialect.Dialect.{Dialect}
-use Rattle.tool_ranges.specs.declared.dialect.Dialect.TheVariants.{Npm}
+use Rattle.tool_ranges.specs.DialectTable.{limit}
 use Rattle.tool_ranges.specs.Dialects.{SpellsAs, TreeOf, grammar_of}
-use Rattle.tool_ranges.specs.FittingTerms.{stating, term_fits_as, terms_as}
+use Rattle.tool_ranges.specs.FittingTerms.{first_unraised, fitting, is_within_limit, stating}
+use Rattle.tool_ranges.specs.FittingTerms.{terms_as}
 use Rattle.invalid_strings.specs.Reasons.{bound_too_large_in, too_large_in}
 use Rattle.invalid_strings.specs.declared.reasons.Reason.{Reason}
 
@@ -42,54 +44,69 @@ begin_of_word (suc n) (w ∷ next ∷ others) =
 abbrev pub run_of : Text → Text
 run_of c = take (prefix_len is_ascii_alphanumeric c) c
 
--- whether the letters and digits at the beginning of a component are the digits of a number below a
--- limit
-abbrev pub is_below : ℕ → Text → Bool
-is_below limit c = all_ascii_digits (run_of c) && nat_lt (digits_value 10 (run_of c)) limit
+abbrev pub begins_with_digit : Text → Bool
+begins_with_digit c = is_ascii_digit (slice_index c 0)
 
--- the offset, in the text of some components, of the first that isn't below a limit; the offset of
--- the last component if each is
-abbrev pub component_at : ℕ → List Text → ℕ
-component_at limit [] = 0
-component_at limit (c ∷ []) = 0
-component_at limit (c ∷ next ∷ others) =
-    if is_below limit c then suc (length c) + component_at limit (next ∷ others) else 0
+-- the components that begin with a number: those before the first wildcard, of the first n
+abbrev pub numbered : ℕ → List Text → List Text
+numbered n components = take_while begins_with_digit (take n components)
 
--- the offset of the first number that isn't below a limit, in a text that begins with a version,
--- perhaps after a `v`
-abbrev pub number_at : ℕ → Text → ℕ
-number_at limit [] = 0
-number_at limit (b ∷ t) =
-    if b == code "v" then suc (component_at limit (slice_split is_dot t))
-    else component_at limit (slice_split is_dot (b ∷ t))
+-- whether the number at the beginning of a component is within the limit of the dialect
+abbrev pub is_within : Dialect → Text → Bool
+is_within dialect c =
+    all_ascii_digits (run_of c) && is_within_limit dialect (digits_value 10 (run_of c))
 
--- the highest number of a dialect
-abbrev pub limit_of : Dialect → ℕ
-limit_of Npm = 2 ^ 53 - 1
-limit_of dialect = 2 ^ 64 - 1
+-- the index of the number of a version that is too large: of the first number above the limit, or
+-- if there is none, of the number that is raised and can't be
+abbrev pub index_in : Dialect → ℕ → List Text → ℕ
+index_in dialect unraised components =
+    if list_all (is_within dialect) (numbered 3 components) then unraised
+    else prefix_len (is_within dialect) (numbered 3 components)
 
--- the offset of the number that is too large, in the word that begins at `begin`: the first number
--- that isn't below the limit. It is above the limit, or can't be raised
-abbrev pub number_offset : Dialect → ℕ → Text → ℕ
-number_offset dialect begin t = begin + number_at (limit_of dialect) (drop begin t)
+-- the offset of the component with an index, in the text of some components
+abbrev pub component_begin : ℕ → List Text → ℕ
+component_begin (suc k) (c ∷ next ∷ others) =
+    suc (length c) + component_begin k (next ∷ others)
+component_begin k components = 0
+
+-- the offset of the number that is too large, in a word: a version, perhaps after a `v`
+abbrev pub number_of : Dialect → ℕ → List Text → ℕ
+number_of dialect unraised components =
+    component_begin (index_in dialect unraised components) components
+
+abbrev pub number_at : Dialect → ℕ → Text → ℕ
+number_at dialect unraised [] = 0
+number_at dialect unraised (b ∷ t) =
+    if b == code "v" then suc (number_of dialect unraised (slice_split is_dot t))
+    else number_of dialect unraised (slice_split is_dot (b ∷ t))
+
+abbrev pub first_word : List Text → Text
+first_word [] = []
+first_word (word ∷ others) = word
+
+-- the same offset in a text, if the word begins at `begin`
+abbrev pub number_offset : Dialect → ℕ → ℕ → Text → ℕ
+number_offset dialect unraised begin t =
+    begin + number_at dialect unraised (first_word (words (drop begin t)))
 
 -- the offset of the number that is too large, in the word of the first term that doesn't fit. The
 -- word is found by counting the terms before it that state a number, and skipping as many words
 -- that state one
 abbrev pub limit_offset : (dialect : Dialect) → TreeOf dialect → Text → ℕ
 limit_offset dialect tree t = number_offset dialect
-    (begin_of_word (prefix_len (term_fits_as dialect) (stating (terms_as dialect tree))) (words t))
+    (first_unraised dialect (stating (terms_as dialect tree)))
+    (begin_of_word (fitting dialect (stating (terms_as dialect tree))) (words t))
     t
 
 -- whether the number at the beginning of a text is the limit
 abbrev pub is_limit : ℕ → Text → Bool
-is_limit limit t = all_ascii_digits (run_of t) && (digits_value 10 (run_of t) == limit)
+is_limit most t = all_ascii_digits (run_of t) && (digits_value 10 (run_of t) == most)
 
 -- the reason, by the text from the number on: it is the limit and can't be raised, or it is above
 -- the limit
 abbrev pub limit_reason : Dialect → Text → Reason
 limit_reason dialect t =
-    if is_limit (limit_of dialect) t then bound_too_large_in (grammar_of dialect)
+    if is_limit (limit dialect) t then bound_too_large_in (grammar_of dialect)
     else too_large_in (grammar_of dialect)
 
 -- the offset is `limit_offset` of a tree of the text

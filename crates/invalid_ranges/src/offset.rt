@@ -2,7 +2,7 @@
 //! some range begins. It is found by trying, with the dialect's own reader, whether a completion
 //! makes a prefix a range, so there is no second grammar.
 
-ghost use Rattle.std.specs.Prelude.{◌≡◌, ◌≢◌, ◌↔◌, IfErr, IfOk, IsTrue};
+ghost use Rattle.std.specs.Prelude.{◌≡◌, ◌≢◌, ◌↔◌, IfOk, IsTrue};
 ghost use Rattle.invalid_strings.specs.Prefixes.{IsLongestPrefix};
 ghost use Rattle.tool_ranges.specs.Dialects.{IsTextAs, RefusesAs};
 ghost use Rattle.invalid_ranges.specs.Prefixes.{BeginsAs};
@@ -63,40 +63,17 @@ fn may_end(byte: u8) -> bool {
     byte.is_ascii_alphanumeric() || matches!(byte, b'*' | b'|')
 }
 
-// Determined by: law result_laws::ranges::one_error_offset.
-/// Returns the byte offset of the first error in an invalid range string: no range in the dialect
-/// begins with a longer prefix of the string. It is 4 in `1.2 || 3` in Cargo's dialect. It is the
-/// length of the string if something is missing at the end, as in `>=`, or if the only error is a
-/// number that is too large.
-///
-/// It takes O(n log n) time for n bytes. If the string is not a range, it allocates one buffer of n
-/// + 8 bytes.
-///
-/// # Errors
-///
-/// `AllocError` if the allocation of the buffer fails.
-pub fn error_offset(alloc: Global, dialect: Dialect, text: &str) -> Result<usize, AllocError>
-    // Some range begins with what is before the offset, and none begins with a longer prefix.
-    ensures offset { IfOk result (λ offset. IsLongestPrefix (BeginsAs dialect) text.now offset) }
-    ensures out_of_memory { IfErr result (λ _. ¬ (IsTextAs dialect text.now)) }
-{
-    if is_range(dialect, text) {
-        return Ok(text.len());
-    }
-    prefix_end(alloc, dialect, text)
-}
-
-/// Returns the end of the longest prefix of a string with which some range begins.
+/// Returns the end of the longest prefix of a string with which some range begins. It takes
+/// O(n log n) time for n bytes, and allocates one buffer of n + 8 bytes. `AllocError` if that fails.
 pub(crate) fn prefix_end(alloc: Global, dialect: Dialect, text: &str) -> Result<usize, AllocError>
     ensures { IfOk result (λ offset. IsLongestPrefix (BeginsAs dialect) text.now offset) }
 {
     longest_prefix(alloc, &RangeTexts { dialect }, text)
 }
 
-// Determined by: equation.
 /// Returns whether a string is a range in a dialect, even if one of its numbers is too large.
 /// `1.2 || 3` is one in npm's dialect, but not in Cargo's. It does not allocate.
-pub fn is_range(dialect: Dialect, text: &str) -> bool
+pub(crate) fn is_range(dialect: Dialect, text: &str) -> bool
     ensures { IsTrue result ↔ IsTextAs dialect text.now }
 {
     match check(dialect, text) {

@@ -1,31 +1,34 @@
 //! Finds the number of a range string that is too large.
 
-ghost use Rattle.std.specs.Prelude.{◌≡◌, ◌≤◌, ◌+◌, ◌∷◌, [], length, MatchOption};
+ghost use Rattle.std.specs.Prelude.{◌≡◌, ◌≤◌, ◌<◌, ◌+◌, ◌∷◌, [], length, IfSome, MatchOption};
 ghost use Rattle.std.specs.List.{slice_split};
 ghost use Rattle.tool_ranges.specs.Dialects.{SpellsAs, TreeOf};
 ghost use Rattle.semver_texts.specs.Texts.{is_dot};
-ghost use Rattle.invalid_ranges.specs.TooLarge.{begin_of_word, component_at, is_below, is_separator};
-ghost use Rattle.invalid_ranges.specs.TooLarge.{limit_offset, limit_reason, number_at};
-ghost use Rattle.invalid_ranges.specs.TooLarge.{states_number, words};
+ghost use Rattle.invalid_ranges.specs.TooLarge.{begin_of_word, component_begin, is_separator};
+ghost use Rattle.invalid_ranges.specs.TooLarge.{is_within, limit_offset, limit_reason, number_at};
+ghost use Rattle.invalid_ranges.specs.TooLarge.{number_of, numbered, states_number, words};
+ghost use Rattle.invalid_ranges.specs.Steps.Places.{IsFirstAbove};
 
 use invalid_strings::reasons::Reason;
 use semver_texts::bytes::run_len;
-use semver_texts::decimals::number_of_digits;
+use semver_texts::decimals::{begins_with_digit, number_of_digits};
 use semver_texts::dotted::split_at_dot;
 use tool_ranges::dialect::Dialect;
-use tool_ranges::matching::fitting;
+use tool_ranges::matching::first_unfit;
 use tool_ranges::table::limit;
 
-/// Returns the offset of the number that is too large: the first number, in the first term that
-/// doesn't fit, that is above the limit of the dialect or can't be raised. It is 1 in
-/// `=18446744073709551616 || 1`. It does not allocate.
+/// Returns the offset of the number that is too large. It is in the first term that doesn't fit: the
+/// first number above the limit of the dialect, or if there is none, the number that is raised and
+/// can't be. It is 1 in `=18446744073709551616 || 1`. It does not allocate.
 pub(crate) fn limit_offset(dialect: Dialect, text: &str) -> usize
     ensures value { (tree : TreeOf dialect) → SpellsAs dialect tree text.now
         → result ≡ limit_offset dialect tree text.now }
     ensures within { result ≤ length text.now }
 {
-    let begin = begin_of_word(text.as_bytes(), fitting(text, dialect));
-    begin + number_at(&text.as_bytes()[begin..], limit(dialect))
+    let (others, unraised) = first_unfit(text, dialect);
+    let begin = begin_of_word(text.as_bytes(), others);
+    let (word, _) = split_word(&text.as_bytes()[begin..]);
+    begin + number_at(word, unraised, dialect)
 }
 
 /// Returns why the number at an offset is too large: it is above the limit of the dialect, or it is
@@ -64,44 +67,65 @@ fn begin_of_word(text: &[u8], others: u128) -> usize
     }
 }
 
-/// Returns the offset of the first number that isn't below a limit, in the version at the beginning
-/// of a string.
-fn number_at(text: &[u8], limit: u64) -> usize
-    ensures value { result ≡ number_at limit text.now }
-    ensures within { result ≤ length text.now }
+/// Returns the offset of the number that is too large, in the word of a version: the first number
+/// above the limit of the dialect, or if there is none, the number with the index `unraised`.
+fn number_at(word: &[u8], unraised: usize, dialect: Dialect) -> usize
+    ensures value { result ≡ number_at dialect unraised word.now }
+    ensures within { result ≤ length word.now }
 {
-    match text {
-        [b'v', components @ ..] => 1 + component_at(components, limit),
-        _ => component_at(text, limit),
+    match word {
+        [] => 0,
+        [b'v', components @ ..] => 1 + number_of(components, unraised, dialect),
+        components => number_of(components, unraised, dialect),
     }
 }
 
-/// Returns the offset of the first component that isn't below a limit, or of the last one.
-fn component_at(components: &[u8], limit: u64) -> usize
-    ensures value { result ≡ component_at limit (slice_split is_dot components.now) }
+/// Returns the same offset in the components of a version.
+fn number_of(components: &[u8], unraised: usize, dialect: Dialect) -> usize
+    ensures value { result ≡ number_of dialect unraised (slice_split is_dot components.now) }
     ensures within { result ≤ length components.now }
 {
-    let mut begin = 0;
-    let mut rest = components;
-    loop {
-        let (component, after) = split_at_dot(rest);
-        let Some(after) = after else {
-            return begin;
-        };
-        if !is_below(component, limit) {
-            return begin;
-        }
-        begin += component.len() + 1;
-        rest = after;
-    }
+    let index = first_above(components, 3, dialect).unwrap_or(unraised);
+    component_begin(components, index)
 }
 
-/// Returns whether a component begins with a number below a limit.
-fn is_below(component: &[u8], limit: u64) -> bool
-    ensures { result ≡ is_below limit component.now }
+/// Returns the index of the first number above the limit of the dialect, among the first `count`
+/// components.
+fn first_above(components: &[u8], count: usize, dialect: Dialect) -> Option<usize>
+    ensures value { IsFirstAbove dialect (numbered count (slice_split is_dot components.now)) result }
+    ensures small { IfSome result (λ index. index < count) }
+{
+    let (component, after) = split_at_dot(components);
+    if count == 0 || !begins_with_digit(component) {
+        return None;
+    }
+    if !is_within(component, dialect) {
+        return Some(0);
+    }
+    Some(1 + first_above(after?, count - 1, dialect)?)
+}
+
+/// Returns the offset of the component with an index, or of the last one if there are fewer.
+fn component_begin(components: &[u8], index: usize) -> usize
+    ensures value { result ≡ component_begin index (slice_split is_dot components.now) }
+    ensures within { result ≤ length components.now }
+{
+    if index == 0 {
+        return 0;
+    }
+    let (component, after) = split_at_dot(components);
+    let Some(after) = after else {
+        return 0;
+    };
+    component.len() + 1 + component_begin(after, index - 1)
+}
+
+/// Returns whether the number at the beginning of a component is within the limit of the dialect.
+fn is_within(component: &[u8], dialect: Dialect) -> bool
+    ensures { result ≡ is_within dialect component.now }
 {
     match number_of_digits(&component[..run_len(component)]) {
-        Some(number) => number < limit,
+        Some(number) => number <= limit(dialect),
         None => false,
     }
 }

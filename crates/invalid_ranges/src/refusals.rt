@@ -37,8 +37,9 @@ pub struct Refusal {
     /// The byte offset of the error:
     /// - The first character that isn't allowed there in a range of the dialect.
     /// - The length of the string, if something is missing at its end.
-    /// - If a number is too large, the first number, in the first term that doesn't fit, that is
-    ///   above the limit of the dialect or can't be raised: 1 in `=18446744073709551616 || 1`.
+    /// - If a number is too large, that number. It is in the first term that doesn't fit: the first
+    ///   number above the limit of the dialect, or if there is none, the number that is raised and
+    ///   can't be. The offset is 1 in `=18446744073709551616 || 1`.
     pub offset: usize,
     /// The reason. It may name another dialect that allows what is there.
     pub reason: Reason,

@@ -1,6 +1,6 @@
 -- The longest prefix of a text with which some text of a language begins, and a search that finds it.
 use Rattle.std.proofs.Common.{◌≡◌, ℕ, ◌<◌, ◌≤◌, ⊎_elim, [], ◌++◌, List, ap, refl, sym, ◌∙◌, rules}
-use Rattle.std.proofs.Common.{subst, append-nil, append_assoc, arith, length, length-take, take, drop}
+use Rattle.std.proofs.Common.{subst, append_assoc, arith, length, length-take, take, drop}
 use Rattle.std.specs.Prelude.{Err, IfOk, Ok, Result}
 use Rattle.std.specs.List.{AllByRecursion, slice_range}
 use Rattle.std.specs.Str.{IsUtf8, IsCharBoundary}
@@ -9,7 +9,7 @@ use Rattle.std.proofs.lemmas.Bool.{cases_lt}
 use Rattle.std.proofs.lemmas.List.{take-append-drop, take-take}
 use Rattle.std.proofs.lemmas.List.Elements.{All-contains, All-from_recursion}
 use Rattle.std.proofs.lemmas.Str.{IsCharBoundary-at_seam, IsCharBoundary-end, IsCharBoundary-from_take}
-use Rattle.std.proofs.lemmas.Str.{IsUtf8-append, IsUtf8-drop, IsUtf8-nil, IsUtf8-take}
+use Rattle.std.proofs.lemmas.Str.{IsUtf8-append, IsUtf8-drop, IsUtf8-take}
 use Rattle.std.proofs.lemmas.Str.{IsUtf8-from_ascii}
 use Rattle.std.proofs.lemmas.Str.Ascii.{IsAscii-from_all}
 use Rattle.semver_texts.specs.Texts.{Text}
@@ -76,9 +76,6 @@ module _ (Is : Text → Type 0) (completions : List Text) (t : Text) (w : AreCom
     prefix = subst (Begins Is) (sym (take-length t)) begins;
     no_longer = λ n longer boundary. absurd (omega (arith, boundary.0));
   }
-
-  pub whole_text_longest : Is t → IsLongestPrefix (Begins Is) t (length t)
-  whole_text_longest is = at_end ([], IsUtf8-nil, subst Is (sym (append-nil t)) is)
 
   pub completed_text_longest : GoesOn Is completions t → IsLongestPrefix (Begins Is) t (length t)
   completed_text_longest goes = at_end (begins_from t goes)

@@ -4,3 +4,4 @@ pub mod VersionCompletions
 pub mod VersionPrefixes
 pub mod Reasons
 pub mod ReasonTable
+pub mod Escaping

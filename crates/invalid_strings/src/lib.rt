@@ -8,6 +8,7 @@
 
 pub mod buffers;
 mod bytes;
+pub mod escaped;
 pub mod laws;
 pub mod longest;
 pub mod prefix_bytes;

@@ -10,6 +10,7 @@ use Rattle.std.specs.Str.{IsUtf8}
 use Rattle.std.proofs.lemmas.Bool.{and_from, and_parts, or_right}
 use Rattle.std.proofs.lemmas.Bool.Decides.{nat_tests}
 use Rattle.std.proofs.lemmas.List.Sums.{prefix_len-le-length}
+use Rattle.semver_texts.specs.NpmLimits.{max_length}
 use Rattle.semver_texts.specs.Texts.{Text, begins_with, cut_at_dots, has_no_leading_zero, is_empty, marked}
 use Rattle.semver_texts.specs.declared.grammar.Grammar.{Grammar}
 use Rattle.semver_texts.specs.declared.grammar.Grammar.TheVariants as grammar
@@ -142,7 +143,7 @@ cargo_word x v of w number =
 short : (n m : ℕ) → n ≤ m → nat_le n m ≡ true
 short n m h = grind (arith, nat_tests)
 
-numbers_short : (ts : List Text) → length (join_with_byte 46 ts) ≤ 256 → list_all is_short_number ts ≡ true
+numbers_short : (ts : List Text) → length (join_with_byte 46 ts) ≤ max_length → list_all is_short_number ts ≡ true
 numbers_short [] h = refl
 numbers_short (t ∷ []) h = and_from _ _ (short (length t) 257 (omega (arith, h))) refl
 numbers_short (t ∷ u ∷ ts) h =
@@ -154,7 +155,7 @@ pre_short t h =
     let within = prefix_len-le-length is_ascii_digit t in
     by_test (prefix_len is_ascii_digit t == length t)
     (λ y. rw y (short (length t) 257 (omega (arith, h))))
-    (λ k. rw k (and_from _ _ (short (prefix_len is_ascii_digit t) 256 (omega (arith, h, within)))
+    (λ k. rw k (and_from _ _ (short (prefix_len is_ascii_digit t) max_length (omega (arith, h, within)))
     (short (length t) (prefix_len is_ascii_digit t + 251) (omega (arith, h)))))
 
 pres_short : (ts : List Text) → length (join_with_byte 46 ts) ≤ 250 → list_all is_short_pre ts ≡ true
@@ -164,10 +165,11 @@ pres_short (t ∷ u ∷ ts) h =
     let long = length-append t (46 ∷ join_with_byte 46 (u ∷ ts)) in
     and_from _ _ (pre_short t (omega (arith, h, long))) (pres_short (u ∷ ts) (omega (arith, h, long)))
 
--- if a version with three components has at most 256 bytes, no part of its pre-release is too long,
+-- if a version with three components has at most as many bytes as npm allows, no part of its
+-- pre-release is too long,
 -- since at least six bytes are before the pre-release
 after_three : (a b c : Text) (pre : List Text) (n : ℕ) → is_component a ≡ true → is_component b ≡ true → is_component c ≡ true
-    → length (join_with_byte 46 (a ∷ b ∷ c ∷ []) ++ (marked (codes "-") pre ++ [])) ≤ n → n ≤ 256
+    → length (join_with_byte 46 (a ∷ b ∷ c ∷ []) ++ (marked (codes "-") pre ++ [])) ≤ n → n ≤ max_length
     → list_all is_short_pre pre ≡ true
 after_three a b c [] n x y z h k = refl
 after_three a b c (t ∷ ts) n x y z h k =
@@ -182,7 +184,7 @@ after_three a b c (t ∷ ts) n x y z h k =
     pres_short (t ∷ ts) (omega (arith, h, k, x', y', z', l, m, o, q))
 
 parts_short : (v : VersionRefValue) (p : PartialTree) (n : ℕ) → list_all is_component (components (partial_with p v)) ≡ true
-    → length (core_with p v) ≤ n → n ≤ 256 → has_short_parts (partial_with p v) ≡ true
+    → length (core_with p v) ≤ n → n ≤ max_length → has_short_parts (partial_with p v) ≡ true
 parts_short v (one a) n each h k =
     let x = with_number v.major a in
     let l = length-append x [] in
@@ -212,12 +214,12 @@ numbers_within v (three a b c pre build) =
     let part = marked (codes "-") (pre_parts (partial_with (three a b c pre build) v)) in
     omega (arith, length-append numbers part, length-append numbers (part ++ []), length-append part [])
 
-if_short : (b : Bool) (n m : ℕ) → n ≤ 256 → m ≤ 256 → is_short_version (if b then n else m) ≡ true
-if_short true n m h k = short n 256 h
-if_short false n m h k = short m 256 k
+if_short : (b : Bool) (n m : ℕ) → n ≤ max_length → m ≤ max_length → is_short_version (if b then n else m) ≡ true
+if_short true n m h k = short n max_length h
+if_short false n m h k = short m max_length k
 
 read_by_npm : (role : Role) (v : VersionRefValue) (p : PartialTree) (n : ℕ) → IsOfGrammar grammar.Npm v
-    → list_all is_component (components (partial_with p v)) ≡ true → length (core_with p v) ≤ n → n ≤ 256
+    → list_all is_component (components (partial_with p v)) ≡ true → length (core_with p v) ≤ n → n ≤ max_length
     → is_word_of_npm role (partial_with p v) n ≡ true
 read_by_npm role v p n of each h k =
     let within = numbers_within v p in
@@ -227,7 +229,7 @@ read_by_npm role v p n of each h k =
     (if_short (is_taken_whole role (partial_with p v)) n (length (numbers_and_pre (partial_with p v))) k (omega (arith, h, k, within)))))
 
 npm_word : (role : Role) (x : WrittenVersion) (v : VersionRefValue) → IsOfGrammar grammar.Npm v
-    → (w : IsWrittenAs (SpellsWord grammar.Npm role) x) → length (text_with x v) ≤ 256
+    → (w : IsWrittenAs (SpellsWord grammar.Npm role) x) → length (text_with x v) ≤ max_length
     → SpellsWord grammar.Npm role (partial_with w.tree v) (text_with x v)
 npm_word role x v of w long =
     let (front, back, mark, spelled, taken, text) = w.good in

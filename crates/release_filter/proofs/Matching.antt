@@ -1,7 +1,11 @@
 -- The versions in the set of a range text, and small lemmas.
 use Rattle.std.proofs.Common.{◌≡◌, ◌<◌, ◌^◌, ◌==◌, ◌∷◌, arith, length, ℕ, List, [], Some}
 use Rattle.std.proofs.Common.{◌&&◌, ◌∙◌, ap, sym, Bool, true, false, refl, rules}
-use Rattle.semver_texts.specs.Versions.{PlainVersion}
+use Rattle.semver_texts.specs.Texts.{Text}
+use Rattle.semver_texts.specs.ToolVersions.{SpellsIn}
+use Rattle.semver_texts.specs.Versions.{PlainVersion, VersionValue}
+use Rattle.semver_texts.specs.declared.grammar.Grammar.{Grammar}
+use Rattle.semver_texts.specs.declared.grammar.Grammar.TheVariants.{Crate, Cargo, Npm}
 use Rattle.semver_ranges.specs.RangeTree.{SetTree}
 use Rattle.semver_ranges.specs.declared.range.Compat.{Compat}
 use Rattle.version_sets.specs.PreReleaseRules.{is_kept, meets_text_with, numbers_fit}
@@ -29,6 +33,12 @@ fitting v fits = grind (arith, rules)
 
 pub all_fit : (v : PlainVersion) → v.major < 2 ^ 64 → v.minor < 2 ^ 64 → v.patch < 2 ^ 64 → numbers_fit v ≡ true
 all_fit v major minor patch = grind (arith, rules)
+
+-- the numbers of a version that a text spells fit
+pub spelled_fits : (grammar : Grammar) (v : VersionValue) (text : Text) → SpellsIn grammar v text → numbers_fit v.plain ≡ true
+spelled_fits Crate v text spelled = all_fit v.plain spelled.spells.major spelled.spells.minor spelled.spells.patch
+spelled_fits Cargo v text spelled = all_fit v.plain spelled.major spelled.minor spelled.patch
+spelled_fits Npm v text (npm, short) = all_fit v.plain npm.spells.major npm.spells.minor npm.spells.patch
 
 -- a version is in the set of a range text if and only if the text keeps it
 pub member_as_meant : (mode : Compat) (tree : SetTree) (set : SetValue) (v : Version)

@@ -83,7 +83,6 @@ impl Judge {
         let Some(version) = read_ref_in(rest, self.range.meaning().dialect.grammar()) else {
             return Judged::NotAVersion(text);
         };
-        laws::numbers_of_refs_fit(&version);
         if self.range.contains_ref(&version) {
             Judged::Kept(version, self.given(line, prefix.len()))
         } else {

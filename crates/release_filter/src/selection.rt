@@ -76,7 +76,7 @@ impl IndexedLine<'_> {
         ensures { result ≡ ordering_then (precedence (read_plain self.now.line.now.version)
             (read_plain other.now.line.now.version)) (nat_cmp self.now.index other.now.index) }
     {
-        let versions = self.line.version.compare(&other.line.version);
+        let versions = self.line.version.compare_read(&other.line.version);
         versions.then(self.index.cmp(&other.index))
     }
 }

@@ -1,6 +1,6 @@
 //! Reads the arguments.
 
-use command_line::{ArgumentError, MeaningOptions};
+use command_line::{ArgumentError, MeaningOptions, Quoted};
 use release_filter::{LineEnd, LineOptions, Selection};
 use std::alloc::Global;
 use std::env;
@@ -246,7 +246,7 @@ pub fn requested(rt: &(impl Env + AllocGlobal)) -> Result<Request, ArgumentError
             "--version" if options.has_more => return Ok(Request::Version),
             text if options.has_more && text.starts_with('-') && text != "-" => {
                 if !options.take(rt, text)? {
-                    return Err(ArgumentError::UnknownOption(argument));
+                    return Err(ArgumentError::UnknownOption(Quoted { text: argument }));
                 }
             }
             _ if range.is_some() => push(&mut files, argument)?,

@@ -1,7 +1,9 @@
 -- There is at most one lowest version.
 use Rattle.std.proofs.Common.{IfSome, ◌≡◌, ◌≢◌, ◌↔◌, [], refl, sym, ap, ◌∙◌, Option, Some, None, option_map}
+use Rattle.std.proofs.Common.{IfOk, Result, alloc_error}
 use Rattle.std.specs.Cmp.{IsTotalOrder}
 use Rattle.std.specs.Ordering.{ordering_reverse}
+use Rattle.std.specs.declared.alloc.AllocError.{AllocError}
 use Rattle.std.specs.declared.cmp.Ordering.{Ordering}
 use Rattle.std.specs.declared.cmp.Ordering.TheVariants.{Less, Equal, Greater}
 use Rattle.semver_texts.specs.Digits.{plain_kept}
@@ -9,11 +11,36 @@ use Rattle.semver_parser.specs.Precedence.{precedence}
 use Rattle.semver_parser.specs.Versions.{PlainVersion}
 use Rattle.semver_parser.specs.VersionViews.{version_value}
 use Rattle.semver_parser.specs.declared.version.Version.{Version}
-use Rattle.version_sets.specs.VersionSets.{SetValue, Fits, IsIn, IsLowest, IsRelease, HasNone}
+use Rattle.version_sets.specs.VersionSets.{SetValue, IsIn, IsLowest, IsRelease, HasNone}
 use Rattle.version_sets.specs.Comparisons.{IsLowestOf, TellsLowest}
 use Rattle.version_sets.specs.Releases.{release_value}
 use Rattle.version_sets.specs.declared.Release.{Release}
+use Rattle.result_laws.specs.OneResult.{AreOne}
+use Rattle.result_laws.proofs.OneResult.{one_made, said}
 use Rattle.result_laws.proofs.SameSets.{plainly}
+
+-- the clauses of a call about the lowest version with K in a set: which it is, that it has no build
+-- metadata, and when there is none
+abbrev IsThat : (K : PlainVersion → Type 0) → SetValue → Option Version → Type 0
+IsThat K set x = IfSome x (λ version. (v : PlainVersion) × IsLowest K set v × ((version_value version).plain ≡ plain_kept v))
+
+abbrev HasNoBuild : Option Version → Type 0
+HasNoBuild x = IfSome x (λ version. (version_value version).build ≡ [])
+
+abbrev IsNoneIfNone : (K : PlainVersion → Type 0) → SetValue → Option Version → Type 0
+IsNoneIfNone K set x = (x ≡ None) ↔ HasNone K set
+
+-- these clauses imply `TellsLowest`, which is how the clauses of a comparison are stated
+lower_one : (K : PlainVersion → Type 0) (set : SetValue) (x : Option Version) → IsThat K set x → HasNoBuild x → IsNoneIfNone K set x
+    → TellsLowest (λ v. K v × IsIn v set) x
+lower_one K set None lowest no_build none = λ v one. none.0 refl v one.0 one.1
+lower_one K set (Some version) (v, lowest, is) no_build none =
+    let tells : IsLowestOf (λ v. K v × IsIn v set) (plainly v) = record {
+      is_one = (lowest.is_of_kind, lowest.is_in);
+      no_build = refl;
+      lowest = λ w one. lowest.lowest w one.0 one.1;
+    } in
+    (plainly v, tells, λ i. record { plain = is i; build = no_build i })
 
 module _ (total : IsTotalOrder precedence) (exact : (v w : PlainVersion) → (precedence v w ≡ Equal) ↔ (v ≡ w)) where
   -- two versions are equal if neither is below the other
@@ -35,6 +62,13 @@ module _ (total : IsTotalOrder precedence) (exact : (v w : PlainVersion) → (pr
       let build : p.0.build ≡ q.0.build = p.1.no_build ∙ sym q.1.no_build in
       ap Some (p.2 ∙ (λ i. record { plain = plain_kept (plain i); build = build i }) ∙ sym q.2)
 
+  -- two results of a call with these clauses count as the same
+  pub one_call : (K : PlainVersion → Type 0) (set : SetValue) (r s : Result (Option Version) AllocError)
+      → IfOk r (IsThat K set) → IfOk r HasNoBuild → IfOk r (IsNoneIfNone K set)
+      → IfOk s (IsThat K set) → IfOk s HasNoBuild → IfOk s (IsNoneIfNone K set) → AreOne alloc_error (option_map version_value) r s
+  one_call K set r s p b n p' b' n' = one_made (option_map version_value) r s (λ x y is is'. one_lowest _ x y
+      (lower_one K set x (said _ is p) (said _ is b) (said _ is n)) (lower_one K set y (said _ is' p') (said _ is' b') (said _ is' n')))
+
   pub one_lowest_release : (set : SetValue) (x y : Option Release) → IfSome x (λ r. IsLowest IsRelease set (release_value r))
       → (x ≡ None) ↔ HasNone IsRelease set → IfSome y (λ r. IsLowest IsRelease set (release_value r))
       → (y ≡ None) ↔ HasNone IsRelease set → x ≡ y
@@ -44,17 +78,3 @@ module _ (total : IsTotalOrder precedence) (exact : (v w : PlainVersion) → (pr
       let e = level (release_value a) (release_value b) (q.lowest (release_value a) p.is_of_kind p.is_in)
       (p.lowest (release_value b) q.is_of_kind q.is_in) in
       ap Some (λ i. record { major = (e i).major; minor = (e i).minor; patch = (e i).patch })
-
--- the clauses of `VersionSet::lowest` imply `TellsLowest`, which is how the clauses of a comparison
--- are stated
-pub lower_one : (set : SetValue) (x : Option Version)
-    → IfSome x (λ version. (v : PlainVersion) × IsLowest Fits set v × ((version_value version).plain ≡ plain_kept v))
-    → IfSome x (λ v. (version_value v).build ≡ []) → (x ≡ None) ↔ HasNone Fits set → TellsLowest (λ v. Fits v × IsIn v set) x
-lower_one set None lowest no_build none = λ v one. none.0 refl v one.0 one.1
-lower_one set (Some version) (v, lowest, is) no_build none =
-    let tells : IsLowestOf (λ v. Fits v × IsIn v set) (plainly v) = record {
-      is_one = (lowest.is_of_kind, lowest.is_in);
-      no_build = refl;
-      lowest = λ w one. lowest.lowest w one.0 one.1;
-    } in
-    (plainly v, tells, λ i. record { plain = is i; build = no_build i })

@@ -5,7 +5,6 @@ ghost use Rattle.semver_parser.specs.RangeViews.{set_of};
 ghost use Rattle.result_laws.specs.OneResult.{AreOne, itself};
 
 use invalid_ranges::laws::{one_limit_offset, one_offset, one_reason};
-use invalid_ranges::offset::error_offset;
 use invalid_ranges::refusals::{Refusal, refused};
 use range_terms::terms::Terms;
 use semver_parser::{Compat, RangeError, RangeSet};
@@ -80,21 +79,6 @@ pub fn one_rewrite(alloc: Global, dialect: Dialect, range: &str) -> Answers
     (
         dialect::rewrite(alloc, dialect, range),
         dialect::rewrite(alloc, dialect, range),
-    )
-}
-
-/// `offset::error_offset` has only one permitted result.
-pub fn one_error_offset(
-    alloc: Global,
-    dialect: Dialect,
-    text: &str,
-) -> (Result<usize, AllocError>, Result<usize, AllocError>)
-    ensures one { AreOne alloc_error itself result.0 result.1 }
-{
-    one_offset();
-    (
-        error_offset(alloc, dialect, text),
-        error_offset(alloc, dialect, text),
     )
 }
 

@@ -3,8 +3,6 @@
 ghost use Rattle.std.specs.Prelude.{◌≡◌, alloc_error, IfOk, option_map};
 ghost use Rattle.semver_parser.specs.VersionViews.{version_value};
 ghost use Rattle.semver_parser.specs.VersionRefs.{version_of};
-ghost use Rattle.semver_texts.specs.Digits.{digits_in};
-ghost use Rattle.tool_ranges.specs.Dialects.{grammar_of};
 ghost use Rattle.version_sets.specs.VersionSets.{Fits};
 ghost use Rattle.result_laws.specs.OneResult.{AreOne, itself};
 ghost use Rattle.result_laws.specs.SameSets.{AreAlike, comparison_value};
@@ -81,7 +79,6 @@ pub fn satisfies_as_the_set(
     range: &str,
     meaning: Meaning,
 ) -> (Result<bool, RangeError>, Result<bool, RangeError>)
-    requires { version.now.digits ≡ digits_in (grammar_of meaning.dialect) }
     ensures same { AreOne RangeError.OutOfMemory itself result.0 result.1 }
 {
     semver_versions::laws::numbers_of_refs_fit(version);
@@ -176,6 +173,24 @@ pub fn one_lowest(
 {
     laws::precedence_is_total();
     (set.lowest(alloc), set.lowest(alloc))
+}
+
+/// `VersionSet::lowest_within` has only one permitted result.
+pub fn one_lowest_within(
+    alloc: Global,
+    set: &VersionSet,
+    most: u64,
+) -> (
+    Result<Option<Version>, AllocError>,
+    Result<Option<Version>, AllocError>,
+)
+    ensures one { AreOne alloc_error (option_map version_value) result.0 result.1 }
+{
+    laws::precedence_is_total();
+    (
+        set.lowest_within(alloc, most),
+        set.lowest_within(alloc, most),
+    )
 }
 
 /// `VersionSet::lowest_release` has only one permitted result.

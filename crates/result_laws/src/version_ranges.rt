@@ -1,14 +1,17 @@
 //! Functions that read a range, combine two, or check versions against one.
 
-ghost use Rattle.std.specs.Prelude.{◌≡◌, IfOk, List};
+ghost use Rattle.std.specs.Prelude.{◌≡◌, alloc_error, IfOk, List, option_map};
+ghost use Rattle.semver_parser.specs.VersionViews.{version_value};
 ghost use Rattle.result_laws.specs.OneResult.{AreOne, itself};
 ghost use Rattle.std.specs.Borrow.{Bor};
 ghost use Rattle.std.specs.Iterator.{Drains, IsFinite};
 ghost use Rattle.semver_texts.specs.Texts.{Text};
 ghost use Rattle.result_laws.specs.SameSets.{AreAlikeRanges};
 
+use semver_parser::laws::precedence_is_total;
+use semver_parser::version::Version;
 use semver_ranges::RangeError;
-use std::alloc::Global;
+use std::alloc::{AllocError, Global};
 use tool_ranges::laws::ranges_read_digits;
 use tool_ranges::meaning::Meaning;
 use tool_ranges::range_operations::OperationError;
@@ -55,6 +58,20 @@ pub fn one_range(
     let second = VersionRange::parse(alloc, range, meaning);
     results_are_alike(&first, &second);
     (first, second)
+}
+
+/// `VersionRange::lowest_version` has only one permitted result.
+pub fn one_lowest_version(
+    alloc: Global,
+    range: &VersionRange,
+) -> (
+    Result<Option<Version>, AllocError>,
+    Result<Option<Version>, AllocError>,
+)
+    ensures one { AreOne alloc_error (option_map version_value) result.0 result.1 }
+{
+    precedence_is_total();
+    (range.lowest_version(alloc), range.lowest_version(alloc))
 }
 
 /// `VersionRange::contains_bytes` has only one permitted result.

@@ -85,7 +85,7 @@ impl ReadVersion {
 
     // Determined by: equation.
     /// Compares two versions by precedence.
-    pub fn compare(&self, other: &ReadVersion) -> Ordering
+    pub fn compare_read(&self, other: &ReadVersion) -> Ordering
         ensures { result ≡ precedence (read_plain self.now) (read_plain other.now) }
     {
         self.compare_version(&other.version, other.digits)

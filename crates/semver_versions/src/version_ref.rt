@@ -281,6 +281,36 @@ impl<'t> VersionRef<'t> {
     }
 
     // Determined by: equation.
+    /// Returns the same version, whose numeric identifiers are read as `digits` says.
+    ///
+    /// ```
+    /// use semver_parser::{Dialect, Digits, VersionRef};
+    ///
+    /// let version = VersionRef::parse("1.2.3", Dialect::Npm)?;
+    /// assert_eq!(version.read_by(Digits::Kept).digits(), Digits::Kept);
+    /// # Ok::<(), semver_parser::Error>(())
+    /// ```
+    #[must_use]
+    #[inline(always)]
+    pub fn read_by(&self, digits: Digits) -> VersionRef<'t>
+        ensures version { result ≡ record self.now { digits = digits } }
+        // Its numbers are at most 2^64 - 1.
+        ensures fits { (result.major < 2 ^ 64) × (result.minor < 2 ^ 64)
+            × (result.patch < 2 ^ 64) }
+    {
+        VersionRef {
+            major: self.major,
+            minor: self.minor,
+            patch: self.patch,
+            pre: self.pre,
+            build: self.build,
+            before_pre: self.before_pre,
+            before_build: self.before_build,
+            digits,
+        }
+    }
+
+    // Determined by: equation.
     /// Returns the identifiers of the pre-release for comparing. They are read one by one, as they
     /// are needed. It does not allocate.
     #[must_use]

@@ -30,7 +30,8 @@ use Rattle.tool_ranges.specs.Dialects.{SpellsAs, TreeOf, fits_as}
 use Rattle.tool_ranges.specs.NpmMeaning.{matches_everything}
 use Rattle.tool_ranges.specs.ToolTable.{fits_in}
 use Rattle.tool_ranges.specs.Steps.Cursors.{ComesFirst, HasLeftIn, events_in, ranges_of, read_as, text_events}
-use Rattle.tool_ranges.specs.Steps.Matching.{Says, after, begun, counts, ended, lower_of, range_every, range_met, taken, term_fits, term_met}
+use Rattle.tool_ranges.specs.Steps.Matching.{Says, after, begun, counts, ended, lower_of, range_every, range_met, taken, term_met}
+use Rattle.tool_ranges.specs.FittingTerms.{term_fits}
 use Rattle.tool_ranges.specs.Steps.Reading.{IsRead, IsRefusedAs}
 use Rattle.tool_ranges.proofs.Comparators.{same_ranges}
 use Rattle.tool_ranges.proofs.ReadTrees.{sound_as}

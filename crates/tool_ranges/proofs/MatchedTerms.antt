@@ -20,7 +20,8 @@ use Rattle.tool_ranges.specs.declared.dialect.Dialect.{Dialect}
 use Rattle.tool_ranges.specs.declared.dialect.Dialect.TheVariants.{Cargo, Npm, CrateCargo, CrateNpm}
 use Rattle.tool_ranges.specs.Dialects.{grammar_of}
 use Rattle.tool_ranges.specs.NpmMeaning.{asks_nothing_by, is_zero, matches_everything}
-use Rattle.tool_ranges.specs.Steps.Matching.{states_at, term_fits, term_met}
+use Rattle.tool_ranges.specs.Steps.Matching.{states_at, term_met}
+use Rattle.tool_ranges.specs.FittingTerms.{term_fits}
 use Rattle.tool_ranges.specs.Steps.Table.{is_counted_within, is_within}
 use Rattle.tool_ranges.proofs.CargoCells.{cargo_all, cargo_counted, cargo_release, own_within}
 use Rattle.tool_ranges.proofs.FitCells.{term_stated}

@@ -20,9 +20,10 @@ use Rattle.semver_ranges.specs.Steps.PartialViews.{stated_of, version_of}
 use Rattle.version_sets.specs.Steps.Cuts.{SideValue}
 use Rattle.tool_ranges.specs.declared.dialect.Dialect.{Dialect}
 use Rattle.tool_ranges.specs.declared.dialect.Dialect.TheVariants.{Cargo, Npm, CrateCargo, CrateNpm}
-use Rattle.tool_ranges.specs.Steps.Matching.{term_fits}
+use Rattle.tool_ranges.specs.FittingTerms.{term_fits}
 use Rattle.tool_ranges.specs.Steps.Printed.{at_side, lower_comparator, printed, printed_term, upper_comparator}
-use Rattle.tool_ranges.specs.Steps.Table.{ends_past, limit, may_rise, sides}
+use Rattle.tool_ranges.specs.DialectTable.{limit}
+use Rattle.tool_ranges.specs.Steps.Table.{ends_past, may_rise, sides}
 use Rattle.tool_ranges.proofs.FitCells.{read_fits, term_stated}
 use Rattle.tool_ranges.proofs.TableLaws.{rises_too}
 

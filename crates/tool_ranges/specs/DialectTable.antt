@@ -1,5 +1,5 @@
--- The number and the name of each dialect.
-use Rattle.std.specs.Prelude.{ℤ, pos, codes}
+-- The number and the name of each dialect, and the highest number in its versions and ranges.
+use Rattle.std.specs.Prelude.{ℕ, ◌-◌, ◌^◌, ℤ, pos, codes}
 use Rattle.semver_texts.specs.Texts.{Text}
 use Rattle.tool_ranges.specs.declared.dialect.Dialect.{Dialect}
 use Rattle.tool_ranges.specs.declared.dialect.Dialect.TheVariants.{Cargo, Npm, CrateCargo}
@@ -18,3 +18,8 @@ name_of Cargo = codes "cargo"
 name_of Npm = codes "npm"
 name_of CrateCargo = codes "crate-cargo"
 name_of CrateNpm = codes "crate-npm"
+
+-- the highest number in a version or a range, also for a bound that is raised
+abbrev pub limit : Dialect → ℕ
+limit Npm = 2 ^ 53 - 1
+limit dialect = 2 ^ 64 - 1

@@ -1,14 +1,14 @@
 //! The meaning of a range string: its dialect, and which pre-releases satisfy it.
 
 ghost use Rattle.std.specs.Prelude.{◌≡◌, ◌≢◌, ◌&&◌, Bool, true, Err, IfOk};
-ghost use Rattle.semver_texts.specs.Digits.{digits_in};
+ghost use Rattle.semver_texts.specs.Digits.{digits_in, version_by};
 ghost use Rattle.semver_texts.specs.Texts.{Text, is_empty};
 ghost use Rattle.semver_texts.specs.Versions.{PlainVersion, without_build};
 ghost use Rattle.semver_texts.specs.declared.grammar.Digits.{Digits};
 ghost use Rattle.semver_texts.specs.declared.grammar.Digits.TheVariants.{AnySize};
 ghost use Rattle.tool_ranges.specs.declared.dialect.Dialect.{Dialect as SomeDialect};
 ghost use Rattle.tool_ranges.specs.declared.dialect.Dialect.TheVariants as dialect;
-ghost use Rattle.semver_versions.specs.VersionRefs.{version_of};
+ghost use Rattle.semver_versions.specs.VersionRefs.{kept_version_of};
 ghost use Rattle.semver_ranges.specs.RangeTexts.{RefusesExactly};
 ghost use Rattle.semver_ranges.specs.RangeTree.{SetTree, Spells};
 ghost use Rattle.version_sets.specs.Printable.{IsPrintable};
@@ -20,7 +20,6 @@ use crate::dialect::Dialect;
 use crate::matching::{self, answer};
 use crate::sets;
 use semver_ranges::RangeError;
-use semver_versions::laws;
 use semver_versions::version::VersionRef;
 use std::alloc::Global;
 use version_sets::{PreReleases, VersionSet};
@@ -96,18 +95,20 @@ pub fn satisfies(
     // defined.
     ensures refusals { RefusesAs meaning.dialect range.now result }
     ensures no_memory { result ≢ Err RangeError.OutOfMemory }
-    // The result is whether the version satisfies the range by definition.
+    // The result is whether the version, whose numeric identifiers are read as the dialect reads
+    // them, satisfies the range by definition.
     ensures meaning { IfOk result (λ met. (tree : TreeOf meaning.dialect)
         → SpellsAs meaning.dialect tree range.now
-        → met ≡ meant_as meaning tree (version_of version.now)) }
+        → met ≡ meant_as meaning tree
+        (version_by (digits_in (grammar_of meaning.dialect)) (kept_version_of version.now))) }
 {
-    laws::numbers_of_refs_fit(version);
+    let version = version.read_by(meaning.dialect.grammar().digits());
     let rule = meaning.pre_releases;
     match meaning.dialect {
-        Dialect::Cargo => answer(version, range, Dialect::Cargo, rule),
-        Dialect::Npm => answer(version, range, Dialect::Npm, rule),
-        Dialect::CrateCargo => answer(version, range, Dialect::CrateCargo, rule),
-        Dialect::CrateNpm => answer(version, range, Dialect::CrateNpm, rule),
+        Dialect::Cargo => answer(&version, range, Dialect::Cargo, rule),
+        Dialect::Npm => answer(&version, range, Dialect::Npm, rule),
+        Dialect::CrateCargo => answer(&version, range, Dialect::CrateCargo, rule),
+        Dialect::CrateNpm => answer(&version, range, Dialect::CrateNpm, rule),
     }
 }
 

@@ -11,7 +11,7 @@ ghost use Rattle.semver_ranges.specs.Steps.PartialViews.{PartsPass, version_of};
 ghost use Rattle.version_sets.specs.Releases.{release_value};
 ghost use Rattle.version_sets.specs.Steps.Cuts.{side_value};
 ghost use Rattle.tool_ranges.specs.Dialects.{HasSetAs, RefusesAs, SpellsAs, TreeOf};
-ghost use Rattle.tool_ranges.specs.Steps.Matching.{term_fits};
+ghost use Rattle.tool_ranges.specs.FittingTerms.{term_fits};
 ghost use Rattle.tool_ranges.specs.Steps.Printed.{IsPrintedAs, lower_comparator};
 ghost use Rattle.tool_ranges.specs.Steps.Printed.{printed_ranges, printed_term, upper_comparator};
 ghost use Rattle.tool_ranges.specs.Steps.Table.{may_rise};

@@ -13,7 +13,8 @@ ghost use Rattle.tool_ranges.specs.Dialects.{HasSetAs, RefusesAs, SpellsAs, Tree
 ghost use Rattle.tool_ranges.specs.Meanings.{MeansBy, meant_by};
 ghost use Rattle.tool_ranges.specs.Steps.Building.{is_one_of, known, Prints};
 ghost use Rattle.tool_ranges.specs.Steps.Matching.{begun, counts, ended, said, taken, takes_all};
-ghost use Rattle.tool_ranges.specs.Steps.Matching.{states_at, takes_releases, term_fits};
+ghost use Rattle.tool_ranges.specs.Steps.Matching.{states_at, takes_releases};
+ghost use Rattle.tool_ranges.specs.FittingTerms.{term_fits};
 ghost use Rattle.std.specs.List.{list_any};
 ghost use Rattle.std.specs.Prelude.{◌&&◌, ◌||◌};
 ghost use Rattle.version_sets.specs.Steps.Ends.{each_prints, has_numbers, in_each, in_ranges};

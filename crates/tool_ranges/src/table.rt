@@ -6,13 +6,14 @@
 //! the versions from the beginning of the block to the end of a larger block, that of fewer
 //! numbers.
 
-ghost use Rattle.std.specs.Prelude.{◌≡◌, ◌&&◌, ◌-◌, ◌^◌, true, not, option_map, Some};
+ghost use Rattle.std.specs.Prelude.{◌≡◌, ◌&&◌, ◌-◌, ◌^◌, true, false, not, option_map, Some};
 ghost use Rattle.semver_texts.specs.Digits.{plain_by};
 ghost use Rattle.semver_texts.specs.Texts.{is_empty};
 ghost use Rattle.semver_texts.specs.Versions.{numbers, PlainVersion};
 ghost use Rattle.semver_texts.specs.declared.grammar.Digits.{Digits as SomeDigits};
 ghost use Rattle.semver_ranges.specs.RewritingTable.{up};
-ghost use Rattle.semver_ranges.specs.Steps.CursorViews.{form_of};
+ghost use Rattle.semver_ranges.specs.RangeTree.{Simple as SimpleTree};
+ghost use Rattle.semver_ranges.specs.Steps.CursorViews.{IsSimpleOf, form_of};
 ghost use Rattle.semver_ranges.specs.Steps.PartialViews.{PartsPass, place_number, stated_of};
 ghost use Rattle.semver_ranges.specs.Steps.PartialViews.{version_of};
 ghost use Rattle.version_sets.specs.Steps.Cuts.{beside_kept, is_in_interval, side_value};
@@ -25,7 +26,10 @@ ghost use Rattle.tool_ranges.specs.NpmMeaning.{is_zero};
 ghost use Rattle.tool_ranges.specs.Steps.Table.{block_begins, sides, sides_of_nothing, is_within};
 ghost use Rattle.tool_ranges.specs.Steps.Table.{cargo_sides, is_counted_within, is_past_release};
 ghost use Rattle.tool_ranges.specs.Steps.Table.{sides_beside};
-ghost use Rattle.tool_ranges.specs.Steps.Table.{ends_past, limit, may_rise, sides_fit};
+ghost use Rattle.tool_ranges.specs.DialectTable.{limit};
+ghost use Rattle.tool_ranges.specs.FittingTerms.{term_fits, unraised};
+ghost use Rattle.tool_ranges.specs.Steps.Table.{ends_past, may_rise, raised_for, raised_place};
+ghost use Rattle.tool_ranges.specs.Steps.Table.{sides_fit};
 
 use crate::dialect::Dialect;
 use semver_ranges::grammar::{Form, Simple};
@@ -82,11 +86,7 @@ fn cut<'t>(partial: &Partial<'t>, side: Side) -> Cut<'t>
     ensures version { beside_kept result ≡ version_of partial.now }
     ensures side { result.side ≡ side }
 {
-    Cut {
-        numbers: numbers(partial),
-        pre: partial.pre(),
-        side,
-    }
+    Cut::new(numbers(partial), partial.pre(), side)
 }
 
 /// Returns the interval of the pre-releases that satisfy a term, if they count by default.
@@ -200,11 +200,7 @@ fn release_of<'t>(partial: &Partial<'t>, lower: Option<Side>, is_one: bool) -> O
     match lower {
         None => None,
         Some(Side::Past) => Some(cut(partial, Side::Past)),
-        Some(Side::Above(place)) => Some(Cut {
-            numbers: raised(partial, place),
-            pre: &[],
-            side: Side::At,
-        }),
+        Some(Side::Above(place)) => Some(Cut::new(raised(partial, place), &[], Side::At)),
         Some(Side::Below | Side::At) if is_zero(partial) && !is_one => None,
         Some(Side::Below | Side::At) => Some(cut(partial, Side::At)),
     }
@@ -251,6 +247,42 @@ pub(crate) fn fits(simple: &Simple<'_>, dialect: Dialect) -> bool
     let partial = &simple.partial;
     let (lower, upper) = sides(simple, dialect);
     partial.states_at_most(most) & may_rise(partial, lower, most) & may_rise(partial, upper, most)
+}
+
+/// Returns the index of the number of a term that is raised and can't be, if the term doesn't fit
+/// because of that number. If one of its own numbers is above the limit, it returns 0.
+pub(crate) fn unraised(simple: &Simple<'_>, dialect: Dialect) -> usize
+    ensures { (s : SimpleTree) → IsSimpleOf s simple.now → term_fits dialect s ≡ false
+        → result ≡ unraised dialect s }
+{
+    if !simple.partial.states_at_most(limit(dialect)) {
+        return 0;
+    }
+    let (lower, upper) = sides(simple, dialect);
+    raised_place(lower, upper)
+}
+
+/// Returns the index of the number that is raised for the lower side, or else for the upper one. It
+/// is 0 if none is.
+fn raised_place(lower: Option<Side>, upper: Option<Side>) -> usize
+    ensures { result ≡ raised_place (option_map side_value lower, option_map side_value upper) }
+{
+    match (lower, upper) {
+        (Some(Side::Above(place)), _) => index(place),
+        (_, Some(Side::Above(place))) => index(place),
+        _ => 0,
+    }
+}
+
+/// Returns the index of the number at a place, counted from 0.
+fn index(place: Place) -> usize
+    ensures { result ≡ raised_for (Some (above (place_number place))) }
+{
+    match place {
+        Place::Major => 0,
+        Place::Minor => 1,
+        Place::Patch => 2,
+    }
 }
 
 // Determined by: equation.

@@ -1,23 +1,26 @@
 //! A range that was read: a set of versions, and the meaning with which it was read.
 
-ghost use Rattle.std.specs.Prelude.{◌≡◌, ◌≢◌, ◌↔◌, Err, IfOk, true};
-ghost use Rattle.semver_texts.specs.Digits.{digits_in};
+ghost use Rattle.std.specs.Prelude.{◌≡◌, ◌≢◌, ◌↔◌, [], None, Err, IfErr, IfOk, IfSome, true};
+ghost use Rattle.semver_texts.specs.Digits.{digits_in, plain_kept};
 ghost use Rattle.semver_texts.specs.VersionViews.{version_value};
 ghost use Rattle.semver_texts.specs.Texts.{Text};
 ghost use Rattle.semver_texts.specs.Versions.{PlainVersion};
 ghost use Rattle.semver_versions.specs.VersionRefs.{IsVersionRefIn, kept_version_of, version_of};
+ghost use Rattle.tool_ranges.specs.DialectTable.{limit};
 ghost use Rattle.tool_ranges.specs.Dialects.{RefusesAs, grammar_of};
 ghost use Rattle.tool_ranges.specs.Meanings.{MeansAs};
 ghost use Rattle.tool_ranges.specs.VersionRanges.{ContainsText, versions_grammar};
 ghost use Rattle.version_sets.specs.Printable.{IsPrintable};
-ghost use Rattle.version_sets.specs.VersionSets.{IsIn, contains, contains_kept};
+ghost use Rattle.version_sets.specs.VersionSets.{HasNone, IsIn, IsLowest, IsPreRelease, IsWithin};
+ghost use Rattle.version_sets.specs.VersionSets.{contains, contains_kept};
 
 use crate::meaning::{self, Meaning};
 use crate::range_operations::OperationError;
 use crate::satisfying::SatisfiesError;
+use crate::table::limit;
 use semver_ranges::RangeError;
 use semver_versions::version::{Version, VersionRef, read_ref_in};
-use std::alloc::Global;
+use std::alloc::{AllocError, Global};
 use std::fmt;
 use std::marker::Model;
 use version_sets::VersionSet;
@@ -88,6 +91,39 @@ impl VersionRange {
     {
         let versions = meaning::read(alloc, meaning, range)?;
         Ok(VersionRange { versions, meaning })
+    }
+
+    // Determined by: law result_laws::version_ranges::one_lowest_version.
+    // In Rust: try_lowest_version.
+    /// Returns the lowest version of the dialect that the range contains, without build metadata,
+    /// or `None` if and only if it contains none. A version of npm's dialect has no number above
+    /// 2^53 - 1, so the lowest one in `>1.2.9007199254740991` is 1.3.0.
+    ///
+    /// It allocates only if the result is a pre-release. `Err` means out of memory.
+    ///
+    /// ```
+    /// use semver_parser::{Dialect, VersionRange};
+    ///
+    /// let range = VersionRange::parse(">1.2.9007199254740991", Dialect::Npm)?;
+    /// assert_eq!(range.try_lowest_version().unwrap().unwrap().to_string(), "1.3.0");
+    /// # Ok::<(), semver_parser::Error>(())
+    /// ```
+    pub fn lowest_version(&self, alloc: Global) -> Result<Option<Version>, AllocError>
+        // A `Version` keeps a number of 2^64 or more as a string.
+        ensures lowest { IfOk result (λ lowest. IfSome lowest (λ version. (v : PlainVersion)
+            × IsLowest (IsWithin (limit self.now.meaning.dialect)) self.now.versions v
+            × ((version_value version).plain ≡ plain_kept v))) }
+        ensures no_build { IfOk result (λ lowest. IfSome lowest (λ version.
+            (version_value version).build ≡ [])) }
+        ensures none { IfOk result (λ lowest. (lowest ≡ None)
+            ↔ HasNone (IsWithin (limit self.now.meaning.dialect)) self.now.versions) }
+        // It can run out of memory only if that version is a pre-release.
+        ensures out_of_memory { IfErr result (λ _. (v : PlainVersion)
+            × IsLowest (IsWithin (limit self.now.meaning.dialect)) self.now.versions v
+            × IsPreRelease v) }
+    {
+        self.versions
+            .lowest_within(alloc, limit(self.meaning.dialect))
     }
 
     // Determined by: equation.

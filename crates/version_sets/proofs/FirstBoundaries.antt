@@ -1,6 +1,6 @@
 -- The first boundary of a kind is the lowest version of that kind in a set. The lowest version in a
 -- set is the lower of the first boundaries of both kinds.
-use Rattle.std.proofs.Common.{arith, ◌≡◌, ◌≢◌, ◌↔◌, Bool, true, false, ◌&&◌, cond, List, [], ◌∷◌, refl, Ordering, is_lt}
+use Rattle.std.proofs.Common.{arith, ◌≡◌, ◌≢◌, ◌<◌, ◌^◌, ℕ, ◌↔◌, Bool, true, false, ◌&&◌, cond, List, [], ◌∷◌, refl, Ordering, is_lt}
 use Rattle.std.proofs.Common.{sym, ap, ◌∙◌, subst, true≢false, Less, Option, Some, None, map, Bor}
 use Rattle.std.specs.Option.{option_copied}
 use Rattle.std.specs.Prelude.{MatchOption, IfSome, slice_get, option_map}
@@ -16,7 +16,8 @@ use Rattle.semver_texts.specs.Texts.{is_empty}
 use Rattle.semver_texts.specs.Versions.{PlainVersion, VersionValue, without_build}
 use Rattle.semver_texts.specs.Precedence.{precedence}
 use Rattle.version_sets.specs.Boundaries.{is_inside}
-use Rattle.version_sets.specs.VersionSets.{SetValue, contains, Fits, IsIn, IsRelease, IsPreRelease, AreBoundaries, IsNormal, IsLowest, HasNone}
+use Rattle.version_sets.specs.VersionSets.{SetValue, contains, Fits, IsIn, IsRelease, IsPreRelease, IsWithin, AreBoundaries, IsNormal, IsLowest, HasNone}
+use Rattle.version_sets.specs.Steps.Within.{IsFirstInside, IsReleaseWithin, IsPreReleaseWithin}
 use Rattle.semver_texts.specs.Steps.PrecedenceLaws.{precedence_total}
 use Rattle.version_sets.proofs.SetLaws.{contains-release, contains-pre_release, contains-combined, combined-normal}
 use Rattle.version_sets.proofs.BoundaryLaws.{is_inside-first, is_inside-below, by_order, turned_below}
@@ -50,46 +51,80 @@ module _ (set : SetValue) (s : IsNormal set) where
 
 -- ---- the lowest version of either kind
 
-module _ (set : SetValue) where
-  -- a version in the set is a release or a pre-release
-  by_kind : (w : PlainVersion) {G : Type 0} → IsIn w set → (IsRelease w → G) → (IsPreRelease w → G) → G
-  by_kind w h f g = by_test (is_empty w.pre) (λ t. f (h.0, t)) (λ t. g (h.0, t))
+-- a version with K is one with R or with Q, which are both kinds of K
+module _ (set : SetValue) (K R Q : PlainVersion → Type 0) (by_kind : (w : PlainVersion) (G : Type 0) → K w → (R w → G) → (Q w → G) → G)
+    (of_r : (w : PlainVersion) → R w → K w) (of_q : (w : PlainVersion) → Q w → K w) where
+  neither : HasNone R set → HasNone Q set → HasNone K set
+  neither r q = λ v k h. by_kind v _ k (λ is. r v is h) (λ is. q v is h)
 
-  neither : HasNone IsRelease set → HasNone IsPreRelease set → HasNone Fits set
-  neither r p = λ v fits h. by_kind v h (λ k. r v k h) (λ k. p v k h)
-
-  -- a version in the set is the lowest if no release and no pre-release in the set is below it
-  lower_one : (b : PlainVersion) → IsIn b set → ((w : PlainVersion) → IsRelease w → IsIn w set → precedence w b ≢ Less)
-      → ((w : PlainVersion) → IsPreRelease w → IsIn w set → precedence w b ≢ Less) → IsLowest Fits set b
-  lower_one b h f g = record { is_of_kind = h.0; is_in = h; lowest = λ w fits i. by_kind w i (λ k. f w k i) (λ k. g w k i) }
+  -- a version in the set is the lowest if none with R and none with Q in the set is below it
+  lower_one : (b : PlainVersion) → K b → IsIn b set → ((w : PlainVersion) → R w → IsIn w set → precedence w b ≢ Less)
+      → ((w : PlainVersion) → Q w → IsIn w set → precedence w b ≢ Less) → IsLowest K set b
+  lower_one b k h f g = record { is_of_kind = k; is_in = h; lowest = λ w is i. by_kind w _ is (λ r. f w r i) (λ q. g w q i) }
 
   below_then : (b v p : PlainVersion) → precedence v b ≢ Less → precedence v p ≡ Less → precedence b p ≡ Less
   below_then b v p n e =
       by_order (precedence v b) (λ l. absurd (n l)) (λ t. sym (precedence_total.congr v b p t) ∙ e)
       (λ g. precedence_total.trans b v p (turned_below precedence precedence_total v b g) e)
 
-  -- the lower of the lowest release and the lowest pre-release is the lowest version in the set
-  lower_is : (r p : Option PlainVersion) → TellsPlain IsRelease set r → TellsPlain IsPreRelease set p → TellsPlain Fits set (lower r p)
+  -- the lower of the lowest with R and the lowest with Q is the lowest with K in the set
+  lower_is : (r p : Option PlainVersion) → TellsPlain R set r → TellsPlain Q set p → TellsPlain K set (lower r p)
   lower_is None None f g = neither f g
-  lower_is (Some b) None l g = lower_one b l.is_in l.lowest (λ w k h. absurd (g w k h))
-  lower_is None (Some p) f m = lower_one p m.is_in (λ w k h e. f w k h) m.lowest
+  lower_is (Some b) None l g = lower_one b (of_r b l.is_of_kind) l.is_in l.lowest (λ w k h. absurd (g w k h))
+  lower_is None (Some p) f m = lower_one p (of_q p m.is_of_kind) m.is_in (λ w k h e. f w k h) m.lowest
   lower_is (Some b) (Some p) l m = at (is_lt (precedence b p)) refl
     where
       less : (o : Ordering) → is_lt o ≡ true → o ≡ Less
       less o e = grind arith
 
-      at : (t : Bool) → is_lt (precedence b p) ≡ t → TellsPlain Fits set (cond t (Some b) (Some p))
-      at true e = lower_one b l.is_in l.lowest (λ w k h below. m.lowest w k h (precedence_total.trans w b p below (less _ e)))
-      at false e =
-          lower_one p m.is_in (λ w k h below. true≢false (sym (ap is_lt (below_then b w p (l.lowest w k h) below)) ∙ e)) m.lowest
+      at : (t : Bool) → is_lt (precedence b p) ≡ t → TellsPlain K set (cond t (Some b) (Some p))
+      at true e = lower_one b (of_r b l.is_of_kind) l.is_in l.lowest
+          (λ w k h below. m.lowest w k h (precedence_total.trans w b p below (less _ e)))
+      at false e = lower_one p (of_q p m.is_of_kind) m.is_in
+          (λ w k h below. true≢false (sym (ap is_lt (below_then b w p (l.lowest w k h) below)) ∙ e)) m.lowest
+
+module _ (set : SetValue) where
+  -- a version is a release or a pre-release
+  of_kinds : (w : PlainVersion) (G : Type 0) → Fits w → (IsRelease w → G) → (IsPreRelease w → G) → G
+  of_kinds w G fits f g = by_test (is_empty w.pre) (λ t. f (fits, t)) (λ t. g (fits, t))
 
   pub first_is : IsNormal set → TellsPlain Fits set (lower (slice_get set.releases 0) (slice_get set.pre_releases 0))
-  first_is s = lower_is _ _ (first_release set s) (first_pre_release set s)
+  first_is s = lower_is set Fits IsRelease IsPreRelease of_kinds (λ w k. k.0) (λ w k. k.0) _ _ (first_release set s) (first_pre_release set s)
+
+  -- what is first inside the boundaries of a kind is the lowest version of that kind in the set
+  inside_tells : (P : PlainVersion → Type 0) (xs : List PlainVersion) (found : Option PlainVersion)
+      → ((v : PlainVersion) → P v → Fits v × (contains set v ≡ is_inside precedence xs v)) → IsFirstInside P xs found → TellsPlain P set found
+  inside_tells P xs None is none = λ v p h. true≢false (sym h.1 ∙ (is v p).1 ∙ none v p)
+  inside_tells P xs (Some c) is (p, inside, least) = record {
+    is_of_kind = p;
+    is_in = ((is c p).0, (is c p).1 ∙ inside);
+    lowest = λ w q h. least w q (sym (is w q).1 ∙ h.1);
+  }
+
+  -- the lowest version with numbers within a limit
+  module _ (most : ℕ) (small : most < 2 ^ 64) where
+    within_fits : (v : PlainVersion) → IsWithin most v → Fits v
+    within_fits v w = (omega (arith, small, w.0), omega (arith, small, w.1), omega (arith, small, w.2))
+
+    within_kinds : (w : PlainVersion) (G : Type 0) → IsWithin most w → (IsReleaseWithin most w → G) → (IsPreReleaseWithin most w → G) → G
+    within_kinds w G within f g = by_test (is_empty w.pre) (λ t. f (within, t)) (λ t. g (within, t))
+
+    pub first_within : (r p : Option PlainVersion) → IsFirstInside (IsReleaseWithin most) set.releases r
+        → IsFirstInside (IsPreReleaseWithin most) set.pre_releases p → TellsPlain (IsWithin most) set (lower r p)
+    first_within r p first_r first_p =
+        lower_is set (IsWithin most) (IsReleaseWithin most) (IsPreReleaseWithin most) within_kinds (λ w k. k.0) (λ w k. k.0) r p
+        (inside_tells (IsReleaseWithin most) set.releases r (λ v k. (within_fits v k.0, contains-release set v k.1)) first_r)
+        (inside_tells (IsPreReleaseWithin most) set.pre_releases p (λ v k. (within_fits v k.0, contains-pre_release set v k.1)) first_p)
+
+    pub within_pre_release : (p : PlainVersion) (found : Option PlainVersion) → IsFirstInside (IsPreReleaseWithin most) set.pre_releases found
+        → found ≡ Some p → IsPreRelease p
+    within_pre_release p found first is =
+        let told = subst (IsFirstInside (IsPreReleaseWithin most) set.pre_releases) is first in (within_fits p told.0.0, told.0.1)
 
   -- a set is empty if and only if it has no boundaries
   empty_lists : (xs ys : List PlainVersion) → TellsPlain IsRelease set (slice_get xs 0) → TellsPlain IsPreRelease set (slice_get ys 0)
       → (is_empty xs && is_empty ys ≡ true) ↔ ((v : PlainVersion) → ¬ IsIn v set)
-  empty_lists [] [] f g = (λ _ v h. neither f g v h.0 h, λ _. refl)
+  empty_lists [] [] f g = (λ _ v h. neither set Fits IsRelease IsPreRelease of_kinds (λ w k. k.0) (λ w k. k.0) f g v h.0 h, λ _. refl)
   empty_lists (b ∷ xs) ys f g = (λ h. absurd (true≢false (sym h)), λ none. absurd (none b f.is_in))
   empty_lists [] (b ∷ ys) f g = (λ h. absurd (true≢false (sym h)), λ none. absurd (none b g.is_in))
 
@@ -125,22 +160,22 @@ first_copied {X = X} f o xs ys e is = after o ∙ ap (option_map f) e ∙ ap (λ
 
 -- the result is the lowest version in the set, as it is kept and without build metadata, or `None`
 -- if and only if the set is empty
-pub record IsTold (set : SetValue) (lowest : Option Version) : Type 0 where
-  pub is_lowest : IfSome lowest (λ v. (p : PlainVersion) × IsLowest Fits set p × ((version_value v).plain ≡ plain_kept p))
+pub record IsTold (K : PlainVersion → Type 0) (set : SetValue) (lowest : Option Version) : Type 0 where
+  pub is_lowest : IfSome lowest (λ v. (p : PlainVersion) × IsLowest K set p × ((version_value v).plain ≡ plain_kept p))
   pub no_build : IfSome lowest (λ v. (version_value v).build ≡ [])
-  pub none : (lowest ≡ None) ↔ HasNone Fits set
+  pub none : (lowest ≡ None) ↔ HasNone K set
 
-pub is_told : (set : SetValue) (o : Option PlainVersion) → TellsPlain Fits set o → (lowest : Option Version)
-    → option_map version_value lowest ≡ option_map (λ v. without_build (plain_kept v)) o → IsTold set lowest
-is_told set None told None e = record { is_lowest = tt; no_build = tt; none = (λ _. told, λ _. refl) }
-is_told set None told (Some v) e = absurd (cc)
-is_told set (Some w) told None e = absurd (cc)
-is_told set (Some w) told (Some v) e =
+pub is_told : (K : PlainVersion → Type 0) (set : SetValue) (o : Option PlainVersion) → TellsPlain K set o → (lowest : Option Version)
+    → option_map version_value lowest ≡ option_map (λ v. without_build (plain_kept v)) o → IsTold K set lowest
+is_told K set None told None e = record { is_lowest = tt; no_build = tt; none = (λ _. told, λ _. refl) }
+is_told K set None told (Some v) e = absurd (cc)
+is_told K set (Some w) told None e = absurd (cc)
+is_told K set (Some w) told (Some v) e =
     let same : version_value v ≡ without_build (plain_kept w) = cc in
     record {
       is_lowest = (w, told, ap (λ (u : VersionValue). u.plain) same);
       no_build = ap (λ (u : VersionValue). u.build) same;
-      none = (λ n. cc, λ none. absurd (none w told.is_in.0 told.is_in));
+      none = (λ n. cc, λ none. absurd (none w told.is_of_kind told.is_in));
     }
 
 module _ (how : Combination) (a b : SetValue) (s : IsNormal a) (t : IsNormal b) where
@@ -153,7 +188,7 @@ module _ (how : Combination) (a b : SetValue) (s : IsNormal a) (t : IsNormal b) 
   }
 
   -- the result for a combination is the lowest version that it keeps
-  pub kept_lowest : (lowest : Option Version) → IsTold (combined_sets how a b) lowest → TellsLowest (IsKept how a b) lowest
+  pub kept_lowest : (lowest : Option Version) → IsTold Fits (combined_sets how a b) lowest → TellsLowest (IsKept how a b) lowest
   kept_lowest None told = λ v kept. told.none.0 refl v kept.0 (kept.0, contains-combined how a b s t v ∙ kept.1)
   kept_lowest (Some version) told =
       let w : VersionValue = without_build told.is_lowest.0 in (

@@ -18,3 +18,4 @@ mod KindLaws
 mod ReadBack
 mod SetRangeLaws
 mod WrittenSets
+mod WithinLaws

@@ -12,3 +12,4 @@ pub mod ShownBounds
 pub mod Cuts
 pub mod EndPlaces
 pub mod Ends
+pub mod Within

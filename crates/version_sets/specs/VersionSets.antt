@@ -1,5 +1,5 @@
 -- Sets of versions, which are given by their boundaries, and which versions are in a set.
-use Rattle.std.specs.Prelude.{◌≡◌, ◌≢◌, ◌^◌, ◌<◌, ◌&&◌, Bool, true, false, IsTrue}
+use Rattle.std.specs.Prelude.{◌≡◌, ◌≢◌, ℕ, ◌^◌, ◌<◌, ◌≤◌, ◌&&◌, Bool, true, false, IsTrue}
 use Rattle.std.specs.Prelude.{if◌then◌else◌, List}
 use Rattle.std.specs.List.{AllByRecursion}
 use Rattle.std.specs.Ordering.{eq_by_cmp}
@@ -47,6 +47,10 @@ same_set a b =
     same_digits a.digits b.digits
     && (pointwise (eq_by_cmp precedence) a.releases b.releases
     && pointwise (eq_by_cmp precedence) a.pre_releases b.pre_releases)
+
+-- the numbers of a version are at most `most`
+abbrev pub IsWithin : ℕ → PlainVersion → Type 0
+IsWithin most v = (v.major ≤ most) × (v.minor ≤ most) × (v.patch ≤ most)
 
 -- a version whose numbers fit, as those of every `Version` do, is in the set
 abbrev pub IsIn : PlainVersion → SetValue → Type 0

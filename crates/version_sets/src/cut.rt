@@ -25,12 +25,26 @@ pub enum Side {
 #[derive(Clone, Copy)]
 pub struct Cut<'text> {
     /// The three numbers of the version.
-    pub numbers: Release,
+    pub(crate) numbers: Release,
     /// The identifiers of its pre-release, separated by dots.
-    pub pre: &'text [u8],
+    pub(crate) pre: &'text [u8],
     /// The side of the version on which the cut is.
-    pub side: Side,
+    pub(crate) side: Side,
     ghost parts: { list_all is_part (cut_at_dots pre.now) ≡ true },
+}
+
+impl<'text> Cut<'text> {
+    // Determined by: equation.
+    /// Returns the cut at a side of a version, which has these numbers and this pre-release.
+    #[inline(always)]
+    pub fn new(numbers: Release, pre: &'text [u8], side: Side) -> Cut<'text>
+        requires { list_all is_part (cut_at_dots pre.now) ≡ true }
+        ensures numbers { result.numbers ≡ numbers }
+        ensures pre { result.pre.now ≡ pre.now }
+        ensures side { result.side ≡ side }
+    {
+        Cut { numbers, pre, side }
+    }
 }
 
 /// The versions above one cut and below another. If a cut is missing, there is no bound on that

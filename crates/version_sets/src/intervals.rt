@@ -173,7 +173,7 @@ fn begins_next_numbers(boundary: &ReadVersion, below: &ReadVersion) -> bool
 
 /// Returns whether identifiers, read as `digits` says, are none, or only the lowest, `0`.
 #[tactic(auto, using(crate::proofs::DigitLaws::lowest_by))]
-fn has_lowest_pre(identifiers: &[version::Identifier], digits: Digits) -> bool
+pub(crate) fn has_lowest_pre(identifiers: &[version::Identifier], digits: Digits) -> bool
     ensures { result ≡ lowest_pre (identifiers_by digits (map identifier_value identifiers.now)) }
 {
     let _digits = digits;

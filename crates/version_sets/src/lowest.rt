@@ -6,13 +6,15 @@ ghost use Rattle.semver_texts.specs.Versions.{PlainVersion, without_build as unb
 ghost use Rattle.semver_texts.specs.VersionViews.{version_value};
 ghost use Rattle.version_sets.specs.Releases.{release_value};
 ghost use Rattle.version_sets.specs.VersionSets.{Fits, IsRelease, IsPreRelease};
-ghost use Rattle.version_sets.specs.VersionSets.{IsLowest, HasNone};
+ghost use Rattle.version_sets.specs.VersionSets.{IsLowest, IsWithin, HasNone};
+ghost use Rattle.version_sets.specs.Steps.Within.{first_place};
 ghost use Rattle.version_sets.specs.Steps.Lower.{is_below, lower};
 ghost use Rattle.semver_versions.specs.ReadVersions.{read_plain};
 
 use crate::pre_release::kept_version;
 use crate::release::Release;
 use crate::version_set::VersionSet;
+use crate::within::{FirstPreRelease, first_pre_release, first_release};
 use semver_versions::read_version::ReadVersion;
 use semver_versions::version::Version;
 use std::alloc::{AllocError, Global};
@@ -43,6 +45,37 @@ impl VersionSet {
             × IsLowest Fits self.now v × IsPreRelease v) }
     {
         lower_one(alloc, self.releases.first(), self.pre_releases.first())
+    }
+
+    // Determined by: law result_laws::sets::one_lowest_within.
+    /// Returns the lowest version in the set by precedence whose three numbers are at most `most`,
+    /// without build metadata, or `None` if and only if the set has no such version.
+    ///
+    /// It takes time linear in the number of boundaries, and allocates only if the result is a
+    /// pre-release. `Err` means out of memory.
+    ///
+    /// ```
+    /// use semver_parser::{sets, Dialect};
+    ///
+    /// let set = sets::parse(">1.2.9", Dialect::Npm)?;
+    /// assert_eq!(set.lowest_within(9).unwrap().unwrap().to_string(), "1.3.0");
+    /// # Ok::<(), semver_parser::Error>(())
+    /// ```
+    pub fn lowest_within(&self, alloc: Global, most: u64) -> Result<Option<Version>, AllocError>
+        // A `Version` keeps a number of 2^64 or more as a string.
+        ensures lowest { IfOk result (λ lowest. IfSome lowest (λ version. (v : PlainVersion)
+            × IsLowest (IsWithin most) self.now v
+            × ((version_value version).plain ≡ plain_kept v))) }
+        ensures no_build { IfOk result (λ lowest. IfSome lowest (λ version.
+            (version_value version).build ≡ [])) }
+        ensures none { IfOk result (λ lowest.
+            (lowest ≡ None) ↔ HasNone (IsWithin most) self.now) }
+        // It can run out of memory only if that version is a pre-release.
+        ensures out_of_memory { IfErr result (λ _. (v : PlainVersion)
+            × IsLowest (IsWithin most) self.now v × IsPreRelease v) }
+    {
+        let release = first_release(&self.releases, most);
+        lower_within(alloc, release, first_pre_release(&self.pre_releases, most))
     }
 
     // Determined by: law result_laws::sets::one_lowest_release.
@@ -89,6 +122,41 @@ pub(crate) fn lower_one(
         return Ok(as_version(alloc, release));
     }
     Ok(Some(kept_version(alloc, pre_release)?))
+}
+
+/// Returns the lower of a release and a pre-release, or the only one that is given, without build
+/// metadata. It allocates only if the result is the pre-release. `Err` means out of memory.
+fn lower_within(
+    alloc: Global,
+    release: Option<Release>,
+    pre_release: Option<FirstPreRelease<'_>>,
+) -> Result<Option<Version>, AllocError>
+    ensures lowest { IfOk result (λ lowest. option_map version_value lowest
+        ≡ option_map (λ v. unbuilt (plain_kept v))
+        (lower (option_map release_value release) (option_map first_place pre_release.entry))) }
+    ensures out_of_memory { IfErr result (λ _. (p : PlainVersion)
+        × (option_map first_place pre_release.entry ≡ Some p)
+        × (lower (option_map release_value release) (option_map first_place pre_release.entry)
+        ≡ Some p)) }
+{
+    let Some(pre_release) = pre_release else {
+        return Ok(as_version(alloc, release.as_ref()));
+    };
+    if is_above(&pre_release, &release) {
+        return Ok(as_version(alloc, release.as_ref()));
+    }
+    Ok(Some(pre_release.version(alloc)?))
+}
+
+/// Returns whether a pre-release is above a release, if one is given.
+fn is_above(pre_release: &FirstPreRelease<'_>, release: &Option<Release>) -> bool
+    ensures { result
+        ≡ is_below (option_map release_value release.now) (first_place pre_release.now) }
+{
+    match release {
+        Some(release) => pre_release.is_above(release),
+        None => false,
+    }
 }
 
 /// Returns a release as a version, if one is given.

@@ -19,7 +19,7 @@ impl Boundary for ReadVersion {
     ghost place = { read_plain };
 
     fn compare(&self, other: &ReadVersion) -> Ordering {
-        self.compare(other)
+        self.compare_read(other)
     }
 
     /// Copies the version without its build metadata.

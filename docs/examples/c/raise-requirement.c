@@ -62,8 +62,7 @@ static semver_parser_status raise_to(
     if (status != SEMVER_PARSER_OK || count == 0 || !is_raised(last.op)) {
         return status;
     }
-    status = semver_parser_replace_version(
-        range, last.version.start, version, dialect, made, NULL);
+    status = semver_parser_replace_version(range, &last.version, version, dialect, made, NULL);
     bool is_in = false;
     if (status == SEMVER_PARSER_OK) {
         status = semver_parser_satisfies(

@@ -148,7 +148,8 @@ enum {
     SEMVER_PARSER_INVALID_VERSION = 3,
     /* An allocation failed. */
     SEMVER_PARSER_OUT_OF_MEMORY = 4,
-    /* An option doesn't exist, a reserved field isn't zero, or an index is too large. */
+    /* An option doesn't exist, a reserved field isn't zero, an index is too large, or a range
+     * doesn't have the version that is to be replaced. */
     SEMVER_PARSER_INVALID_ARGUMENT = 5,
     /* The second of two ranges has a different dialect than the first. */
     SEMVER_PARSER_DIFFERENT_DIALECTS = 6,
@@ -228,10 +229,11 @@ typedef struct {
 /* Makes an English sentence for an error:
  * `invalid range "1 || 2" at offset 2: Cargo takes no ||; npm does`. `string` is the string of the
  * call that `error->index` refers to. With `caret`, two more lines follow, indented by four spaces:
- * the string, shortened if it is long and with U+FFFD for control characters, and a caret under the
- * character. For an error that isn't about a string, such as that of ranges in different dialects,
- * the sentence is only its semver_parser_status_text, whatever `string` is. semver_parser_free
- * frees the sentence. */
+ * the string, and a caret under the character. A long string is shortened. Characters other than
+ * the printable ones of ASCII are escaped: `\t`, `\u{2013}`, and `\u{fffd}` for bytes that aren't
+ * UTF-8. For an error that isn't about a string, such as that of ranges in different dialects, the
+ * sentence is only its semver_parser_status_text, whatever `string` is. semver_parser_free frees
+ * the sentence. */
 SEMVER_PARSER_CHECKED(1, 4)
 semver_parser_status semver_parser_error_message(
     const semver_parser_error *error, semver_parser_string string, bool caret, char **message);
@@ -366,8 +368,9 @@ semver_parser_status semver_parser_range_is_disjoint(
 SEMVER_PARSER_NONNULL(1)
 bool semver_parser_range_is_empty(const semver_parser_range *range);
 
-/* Makes a string of the lowest version in the range, or null if the range is empty: for `^1.2.0` it
- * is 1.2.0. semver_parser_free frees it. */
+/* Makes a string of the lowest version of the dialect that is in the range, or null if there is
+ * none: for `^1.2.0` it is 1.2.0. A version of npm's dialect has no number above 2^53 - 1.
+ * semver_parser_free frees it. */
 SEMVER_PARSER_CHECKED(1, 2)
 semver_parser_status semver_parser_range_lowest_version(
     const semver_parser_range *range, char **version);
@@ -519,17 +522,21 @@ semver_parser_status semver_parser_terms_of_range(
     semver_parser_string range, semver_parser_dialect dialect, semver_parser_term *terms,
     size_t capacity, size_t *count, semver_parser_error *error);
 
-/* Makes the string of a range in which a version of a term has the numbers of another version. The
- * version in the range is the one that begins at `start`; if the range is valid and none begins
- * there, the status is INVALID_ARGUMENT. Its form is kept: how many components it has, its wildcards
- * and its `v`. If it has three numbers, the pre-release of the other version is written, too; the
- * build metadata of the other version never is. With 3.1.4 at offset 8, `^1.x || v2` becomes
- * `^1.x || v3`. Check the result with semver_parser_check_range, since a raised bound may be too
- * large. semver_parser_free frees it. INVALID_RANGE, NUMBER_TOO_LARGE, INVALID_VERSION. */
-SEMVER_PARSER_CHECKED(5)
+/* Makes the string of a range in which a version of a term has the numbers of another version.
+ * `written` is the version of the term, as semver_parser_terms_of_range returned it. The string
+ * from which it was read must still be there. If the range is valid, and doesn't have this version
+ * at this offset, the status is INVALID_ARGUMENT. Replace several versions of a range from the last
+ * one to the first, so that the others stay where they are. The form of the version is kept: how
+ * many components it has, its wildcards and its `v`. If it has three numbers, the pre-release of
+ * the other version is written, too; the build metadata of the other version never is. If 3.1.4
+ * replaces the last version of `^1.x || v2`, it becomes `^1.x || v3`. Check the result with
+ * semver_parser_check_range, since a raised bound may be too large. semver_parser_free frees it.
+ * INVALID_RANGE, NUMBER_TOO_LARGE, INVALID_VERSION. */
+SEMVER_PARSER_CHECKED(2, 5)
 semver_parser_status semver_parser_replace_version(
-    semver_parser_string range, size_t start, semver_parser_string version,
-    semver_parser_dialect dialect, char **replaced, semver_parser_error *error);
+    semver_parser_string range, const semver_parser_partial_version *written,
+    semver_parser_string version, semver_parser_dialect dialect, char **replaced,
+    semver_parser_error *error);
 
 /* Returns how an operator of a term or of a comparator is written, or null if there is no such
  * number. BARE is written as an empty string. */

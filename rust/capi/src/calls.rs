@@ -3,7 +3,7 @@
 use crate::errors::Problem;
 use crate::heap::moved;
 use crate::message::printed;
-use crate::types::{dialect, Comparator, Options, StringView, Version};
+use crate::types::{dialect, Comparator, Options, PartialVersion, StringView, Version};
 use alloc::{string::String, vec::Vec};
 use core::{ffi::c_char, ptr, str};
 use proved::layers::{self, SatisfiesError};
@@ -64,19 +64,22 @@ pub fn terms(range: &[u8], number: i32) -> Answer<'_, Terms<'_>> {
     Terms::try_parse(range, dialect).map_err(refused(range, dialect, 0))
 }
 
-/// Returns a range with the numbers of another version at an offset, if a version of a term begins
-/// there. The range is read before the other version, whose error comes last.
+/// Returns a range in which a version of a term, which has to be as it is given, has the numbers of
+/// another version. The range is read before the other version, whose error comes last.
 pub fn replace_version<'a>(
     range: &'a [u8],
-    start: usize,
+    written: &PartialVersion,
     bytes: &'a [u8],
     number: i32,
 ) -> Answer<'a, *mut c_char> {
     let dialect = dialect(number)?;
     let range = text(range, 0)?;
-    let found = layers::version_at(range, start, dialect).map_err(refused(range, dialect, 0))?;
-    let (before, written, after) = found.ok_or(Problem::Argument)?;
-    let version = written.with_version(&version(bytes, dialect, 1)?);
+    let found = layers::version_at(range, written.start, dialect);
+    let (before, it, after) = found
+        .map_err(refused(range, dialect, 0))?
+        .filter(|(_, it, _)| PartialVersion::of(it) == *written)
+        .ok_or(Problem::Argument)?;
+    let version = it.with_version(&version(bytes, dialect, 1)?);
     printed(format_args!("{before}{version}{after}"))
 }
 
@@ -107,7 +110,7 @@ pub fn contains<'a>(range: &VersionRange, bytes: &'a [u8], index: usize) -> Answ
 }
 
 pub fn lowest_version(range: &VersionRange) -> Answer<'_, *mut c_char> {
-    range.versions().lowest()?.map_or(Ok(ptr::null_mut()), printed)
+    range.try_lowest_version()?.map_or(Ok(ptr::null_mut()), printed)
 }
 
 pub fn range_to_string(range: &VersionRange, pre_releases: bool) -> Answer<'_, *mut c_char> {

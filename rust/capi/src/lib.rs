@@ -17,7 +17,7 @@ use core::ffi::c_char;
 use errors::{finish, Error, Problem, Status, OK};
 use message::c_text;
 use proved::VersionRange as Range;
-use types::{items, Comparator, Options, StringView, Term, Version};
+use types::{items, Comparator, Options, PartialVersion, StringView, Term, Version};
 
 /// Defines functions of the header. `name(arguments) -> output = call` has an output, and `error`
 /// if it is listed; `name(arguments) => type = call` returns what the call returns;
@@ -97,7 +97,8 @@ functions! {
     semver_parser_compare_versions(version: StringView, other: StringView, dialect: i32)
         -> order: i32, error = calls::compare_versions;
 
-    semver_parser_replace_version(range: StringView, start: usize, version: StringView, dialect: i32)
+    semver_parser_replace_version(
+        range: StringView, written: &PartialVersion, version: StringView, dialect: i32)
         -> replaced: *mut c_char, error = calls::replace_version;
 
     semver_parser_range_parse(string: StringView, options: Options)

@@ -5,6 +5,7 @@ use alloc::string::String;
 use core::ffi::c_char;
 use core::fmt::{self, Display, Formatter};
 use core::{mem::ManuallyDrop, ptr};
+use proved::layers::Escaped;
 use proved::rattle_std::{FallibleString, FallibleToString};
 use proved::Reason;
 
@@ -61,13 +62,13 @@ pub fn of_error<'a>(error: &Error, of: &[u8], caret: bool) -> Result<*mut c_char
     let left = if begin > 0 { "..." } else { "" };
     let right = if end < of.len() { "..." } else { "" };
     let shown = Shown(&of[begin..end]);
-    let column = left.len() + Shown(&of[begin..offset]).characters().count();
+    let before = format_args!("{left}{}", Shown(&of[begin..offset])).fallible_to_string()?;
     let mut text = String::new();
-    text.write_fmt(format_args!("{status} {left}\"{shown:#}\"{right} at offset "))?;
+    text.write_fmt(format_args!("{status} {left}\"{shown}\"{right} at offset "))?;
     text.write_fmt(format_args!("{}: {reason}", error.offset))?;
     if caret {
         text.write_fmt(format_args!("\n    {left}{shown}{right}\n    "))?;
-        for _ in 0..column {
+        for _ in before.bytes() {
             text.write_fmt(format_args!(" "))?;
         }
         text.write_fmt(format_args!("^"))?;
@@ -81,25 +82,14 @@ fn boundary(bytes: &[u8], offset: usize) -> usize {
     (offset.saturating_sub(3)..=offset).rev().find(|at| !is_within(at)).unwrap_or(offset)
 }
 
-/// Writes characters: each in one column, or escaped with `{:#}`. Bytes that aren't UTF-8 become
-/// U+FFFD.
+/// A string as it is shown. Bytes that aren't UTF-8 are shown as U+FFFD.
 struct Shown<'a>(&'a [u8]);
-
-impl Shown<'_> {
-    fn characters(&self) -> impl Iterator<Item = char> + '_ {
-        let wrong = |bytes: &[u8]| (!bytes.is_empty()).then_some(char::REPLACEMENT_CHARACTER);
-        self.0.utf8_chunks().flat_map(move |it| it.valid().chars().chain(wrong(it.invalid())))
-    }
-}
 
 impl Display for Shown<'_> {
     fn fmt(&self, f: &mut Formatter<'_>) -> fmt::Result {
-        self.characters().try_for_each(|it| match it {
-            '\'' => write!(f, "{it}"),
-            _ if f.alternate() => write!(f, "{}", it.escape_debug()),
-            '\\' | '"' => write!(f, "{it}"),
-            _ if it.escape_debug().len() > 1 => f.write_str("\u{FFFD}"),
-            _ => write!(f, "{it}"),
+        self.0.utf8_chunks().try_for_each(|it| {
+            let wrong = if it.invalid().is_empty() { "" } else { "\u{FFFD}" };
+            write!(f, "{}{}", Escaped { text: it.valid() }, Escaped { text: wrong })
         })
     }
 }

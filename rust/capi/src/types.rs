@@ -26,6 +26,12 @@ impl StringView {
     }
 }
 
+impl PartialEq for StringView {
+    fn eq(&self, other: &StringView) -> bool {
+        self.bytes() == other.bytes()
+    }
+}
+
 /// semver_parser_options.
 #[repr(C)]
 #[derive(Clone, Copy)]
@@ -81,7 +87,7 @@ pub struct Comparator {
 
 /// semver_parser_component.
 #[repr(C)]
-#[derive(Clone, Copy, Default)]
+#[derive(Clone, Copy, Default, PartialEq)]
 pub struct Component {
     kind: i32,
     number: u64,
@@ -99,8 +105,9 @@ impl Component {
 
 /// semver_parser_partial_version.
 #[repr(C)]
+#[derive(PartialEq)]
 pub struct PartialVersion {
-    start: usize,
+    pub start: usize,
     end: usize,
     has_v: bool,
     major: Component,
@@ -111,7 +118,7 @@ pub struct PartialVersion {
 }
 
 impl PartialVersion {
-    fn of(version: &proved::PartialVersion<'_>) -> PartialVersion {
+    pub fn of(version: &proved::PartialVersion<'_>) -> PartialVersion {
         PartialVersion {
             start: version.span.start,
             end: version.span.end,

@@ -27,3 +27,5 @@ pub mod replayed_cases;
 pub mod library_tests;
 #[cfg(test)]
 pub mod filter_tests;
+#[cfg(test)]
+pub mod small_inputs;

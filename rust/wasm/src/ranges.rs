@@ -223,7 +223,7 @@ pub extern "C" fn range_difference(range: &Range, other: &Range) -> *mut Range {
 /// or the status for out of memory.
 #[no_mangle]
 pub extern "C" fn range_lowest(range: &Range) -> i32 {
-    match range.versions().lowest() {
+    match range.try_lowest_version() {
         Ok(Some(version)) => show(version),
         Ok(None) => show(""),
         Err(_) => status::OUT_OF_MEMORY,

@@ -2,9 +2,10 @@
 //! or `REFUSED` if a text is invalid.
 
 use here::filters::filter_text;
+use here::layers::version_at;
 use here::proved::tool_ranges::cargo;
 use here::sets::{self, VersionSet};
-use here::{satisfies, Compat, Dialect, Meaning, PreReleases, VersionRange};
+use here::{satisfies, terms, Compat, Dialect, Meaning, PreReleases, VersionRange, VersionRef};
 use semver::{Version, VersionReq};
 use semver_parser::{version, RangeSet};
 use std::hint::black_box;
@@ -126,6 +127,24 @@ pub fn parser_is_range(text: &str) -> u64 {
 /// Returns 1 if a text is a requirement in the crate `semver`.
 pub fn semver_is_range(text: &str) -> u64 {
     is_read(VersionReq::parse(text).is_ok())
+}
+
+/// Returns how many terms a range has in npm's dialect.
+pub fn here_terms(text: &str) -> u64 {
+    terms(text, Dialect::Npm).map_or(REFUSED, |terms| terms.map(black_box).count() as u64)
+}
+
+/// Gives the last version in a range the numbers of 3.1.4, in npm's dialect. Returns the length of
+/// the new range. The last version begins with the last digit of the text.
+pub fn here_replaced(text: &str) -> u64 {
+    let start = text.rfind(|it: char| it.is_ascii_digit()).unwrap_or(0);
+    let version = VersionRef::parse("3.1.4", Dialect::Npm);
+    match (version_at(text, start, Dialect::Npm), version) {
+        (Ok(Some((before, written, after))), Ok(version)) => {
+            format!("{before}{}{after}", written.with_version(&version)).len() as u64
+        }
+        _ => REFUSED,
+    }
 }
 
 /// Parses versions, and checks for each of the ranges, one on each line, whether its set here

@@ -2,7 +2,8 @@
 //! callgrind.
 
 use crate::calls::{
-    here_meets_npm, here_range, here_set, here_version, here_within, Call, REFUSED,
+    here_meets_npm, here_range, here_replaced, here_set, here_terms, here_version, here_within,
+    Call, REFUSED,
 };
 use crate::cells::grouped;
 use std::env;
@@ -64,31 +65,60 @@ const FORMS: [Form; 9] = [
     },
 ];
 
+/// Short elements, for calls on the terms of a text.
+const SHORT: [&str; 5] = ["1 ", "^1 || ", "1.x ", ">1 <2 ", "1 - 2 || "];
+const ON_TERMS: [(&str, Call); 2] = [("terms of ", here_terms), ("replacing in ", here_replaced)];
+
 const COUNTS: [usize; 4] = [10, 1_000, 10_000, 100_000];
 
-/// Prints the instructions of a call for each form of text and each count of elements, and the
-/// instructions for one element.
-pub fn print_table() -> Result<(), String> {
-    print!("| instructions for a text of | 10 | for each | 1,000 | for each ");
+/// Prints a table of the forms, and one of the calls on terms, separated by an empty line.
+pub fn print_tables() -> Result<(), String> {
+    print_head("instructions for a text of");
+    for form in &FORMS {
+        print_row(form.name, form.name)?;
+    }
+    println!();
+    print_head("instructions for");
+    for (call, _) in ON_TERMS {
+        for short in SHORT {
+            let shown = short.replace('|', "\\|");
+            print_row(&format!("{call}{short}"), &format!("{call}`{shown}`"))?;
+        }
+    }
+    Ok(())
+}
+
+fn print_head(title: &str) {
+    print!("| {title} | 10 | for each | 1,000 | for each ");
     println!("| 10,000 | for each | 100,000 | for each |");
     println!("|---|---|---|---|---|---|---|---|---|");
-    for form in &FORMS {
-        print!("| {} |", form.name);
-        for count in COUNTS {
-            let instructions = instructions(form.name, count)?;
-            print!(" {} | {} |", grouped(instructions), grouped(instructions / count as u64));
-        }
-        println!();
+}
+
+/// Prints the instructions of a call for each count of elements, and the instructions for one
+/// element.
+fn print_row(name: &str, title: &str) -> Result<(), String> {
+    print!("| {title} |");
+    for count in COUNTS {
+        let instructions = instructions(name, count)?;
+        print!(" {} | {} |", grouped(instructions), grouped(instructions / count as u64));
     }
+    println!();
     Ok(())
 }
 
 /// Makes a text of a form, and makes the calls of that form this many times, for callgrind.
 pub fn run(name: &str, count: &str, calls: &str) -> Result<(), String> {
-    let form = FORMS.iter().find(|form| form.name == name).ok_or("no such form")?;
     let count = count.parse().map_err(|_| "no count")?;
     let calls = calls.parse().map_err(|_| "no count of calls")?;
-    if (form.calls)(&(form.text)(count), calls) {
+    let accepts = match FORMS.iter().find(|form| form.name == name) {
+        Some(form) => (form.calls)(&(form.text)(count), calls),
+        None => {
+            let of = |(title, call): &(&str, Call)| Some((*call, name.strip_prefix(title)?));
+            let (call, short) = ON_TERMS.iter().find_map(of).ok_or("no such form")?;
+            reads(call, &short.repeat(count), calls)
+        }
+    };
+    if accepts {
         Ok(())
     } else {
         Err(format!("a text of {count} {name} was refused"))

@@ -38,7 +38,7 @@ fn main() -> ExitCode {
         ["seed", seed] => number(seed).and_then(print_times),
         ["texts"] => texts::write_all(SEED),
         ["texts", seed] => number(seed).and_then(texts::write_all),
-        ["growth"] => growth::print_table(),
+        ["growth"] => growth::print_tables(),
         ["npm"] => npm::print_table(SEED),
         ["run", name, count, calls] => growth::run(name, count, calls),
         _ => Err("usage: bench [seed N | texts [N] | growth | npm]".to_string()),

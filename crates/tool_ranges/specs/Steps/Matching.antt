@@ -11,7 +11,6 @@ use Rattle.semver_ranges.specs.declared.partial.LowerBounds.TheVariants.{Lowest,
 use Rattle.semver_ranges.specs.declared.partial.Partial.{Partial}
 use Rattle.semver_ranges.specs.declared.range.Compat.TheVariants as mode
 use Rattle.semver_ranges.specs.RangeTree.{Simple}
-use Rattle.semver_ranges.specs.RewritingTable.{simple_fits}
 use Rattle.semver_ranges.specs.OwnMeaning.{meets_stated}
 use Rattle.semver_ranges.specs.Partials.{stated, zero_filled}
 use Rattle.semver_ranges.specs.StatedPreReleases.{states_pre_release_at}
@@ -25,8 +24,6 @@ use Rattle.version_sets.specs.declared.rules.PreReleases.TheVariants.{Default, I
 use Rattle.tool_ranges.specs.AnySize.{zero_filled_any}
 use Rattle.tool_ranges.specs.CargoMeaning as cargo
 use Rattle.tool_ranges.specs.NpmMeaning as npm
-use Rattle.tool_ranges.specs.NpmTable.{is_safe_simple}
-use Rattle.tool_ranges.specs.ToolTable.{fits_in}
 use Rattle.tool_ranges.specs.declared.dialect.Dialect.{Dialect}
 use Rattle.tool_ranges.specs.declared.dialect.Dialect.TheVariants.{Cargo, Npm, CrateCargo}
 use Rattle.tool_ranges.specs.declared.dialect.Dialect.TheVariants.{CrateNpm}
@@ -57,7 +54,7 @@ abbrev pub lower_of : Dialect → Bool → LowerBounds
 lower_of Npm true = Lowest
 lower_of dialect all = Stated
 
--- ---- a term: whether a version satisfies it, and whether its numbers fit
+-- ---- whether a version satisfies a term
 abbrev pub term_met : Dialect → Bool → PlainVersion → Simple → Bool
 term_met Cargo all v s =
     cargo.meets_by_count (rule_of all) s.form (stated s.partial) (zero_filled_any s.partial) v
@@ -66,12 +63,6 @@ term_met CrateCargo all v s =
     meets_stated mode.Cargo s.form (stated s.partial) (zero_filled s.partial) v
 term_met CrateNpm all v s =
     meets_stated mode.Npm s.form (stated s.partial) (zero_filled s.partial) v
-
-abbrev pub term_fits : Dialect → Simple → Bool
-term_fits Cargo s = fits_in mode.Cargo s
-term_fits Npm s = is_safe_simple s
-term_fits CrateCargo s = simple_fits mode.Cargo s
-term_fits CrateNpm s = simple_fits mode.Npm s
 
 -- ---- ranges
 

@@ -1,7 +1,7 @@
 -- A means of proof, which no public clause cites: the table of the sides of a term's zero-filled
 -- version at which its versions begin and end, in each dialect.
 use Rattle.std.specs.Prelude.{ℕ, Bool, true, false, ◌&&◌, ◌||◌, ◌==◌, not, if◌then◌else◌, length}
-use Rattle.std.specs.Prelude.{◌-◌, ◌^◌, nat_le, nat_lt, suc, slice_index}
+use Rattle.std.specs.Prelude.{nat_le, nat_lt, suc, slice_index}
 use Rattle.std.specs.List.{list_all}
 use Rattle.std.specs.Prelude.{List, [], ◌∷◌, Option, Some, None}
 use Rattle.std.specs.Ordering.{is_ge}
@@ -17,6 +17,7 @@ use Rattle.version_sets.specs.Steps.Cuts.{is_above_upper, is_between}
 use Rattle.tool_ranges.specs.declared.dialect.Dialect.{Dialect}
 use Rattle.tool_ranges.specs.declared.dialect.Dialect.TheVariants.{Cargo, Npm, CrateCargo}
 use Rattle.tool_ranges.specs.declared.dialect.Dialect.TheVariants.{CrateNpm}
+use Rattle.tool_ranges.specs.DialectTable.{limit}
 use Rattle.tool_ranges.specs.NpmMeaning.{is_zero}
 
 -- the versions that have the stated numbers are a block. This is the side at which it begins. In
@@ -137,10 +138,15 @@ abbrev pub may_rise : ℕ → Option SideValue → List ℕ → Bool
 may_rise most (Some (above (suc k))) ns = nat_lt (slice_index ns k) most
 may_rise most side ns = true
 
--- the highest number of a dialect
-abbrev pub limit : Dialect → ℕ
-limit Npm = 2 ^ 53 - 1
-limit dialect = 2 ^ 64 - 1
+-- the index of the number that is raised for a side, or 0 if none is, and below, of the one that is
+-- raised for the lower side, or else for the upper one
+abbrev pub raised_for : Option SideValue → ℕ
+raised_for (Some (above (suc k))) = k
+raised_for side = 0
+
+abbrev pub raised_place : Option SideValue × Option SideValue → ℕ
+raised_place (Some (above k), upper) = raised_for (Some (above k))
+raised_place (lower, upper) = raised_for upper
 
 -- whether the stated numbers of a term fit, and those that are raised for its sides
 abbrev pub sides_fit : Dialect → Form → List ℕ → PlainVersion → Bool

@@ -2,7 +2,28 @@
 //! Errors in the arguments of a program.
 
 use crate::rattle_std::prelude::*;
+use crate::proved::invalid_strings::escaped::Escaped;
 use crate::rattle_std::AllocError;
+use crate::rattle_std::fmt::{self, Display, Formatter};
+
+/// An argument, which is printed in quotes, with [`Escaped`] characters.
+#[derive(Debug)]
+pub struct Quoted {
+    /// The argument.
+    pub text: String,
+}
+
+impl Display for Quoted {
+    fn fmt(&self, f: &mut Formatter<'_>) -> fmt::Result {
+        write!(
+            f,
+            "\"{}\"",
+            Escaped {
+                text: self.text.as_str()
+            }
+        )
+    }
+}
 
 /// An error in the arguments of a program. Options are printed as they are written.
 #[derive(Debug)]
@@ -10,11 +31,11 @@ pub enum ArgumentError {
     /// The arguments can't be read, or memory ran out.
     Unreadable,
     /// This option is unknown.
-    UnknownOption(String),
+    UnknownOption(Quoted),
     /// Nothing follows `--dialect`, or `--as`.
     NoDialect,
     /// The string after `--dialect` isn't the name of a dialect.
-    UnknownDialect(String),
+    UnknownDialect(Quoted),
     /// Nothing follows `--prefix`.
     NoPrefix,
     /// This option, or another one with the same meaning, was given before.
@@ -39,9 +60,9 @@ impl crate::rattle_std::fmt::Display for ArgumentError {
     fn fmt(&self, f: &mut crate::rattle_std::fmt::Formatter<'_>) -> crate::rattle_std::fmt::Result {
         match self {
             ArgumentError::Unreadable => write!(f, "cannot read arguments"),
-            ArgumentError::UnknownOption(_0) => write!(f, "unknown option: {_0:?}"),
+            ArgumentError::UnknownOption(_0) => write!(f, "unknown option: {_0}"),
             ArgumentError::NoDialect => write!(f, "--dialect needs a name"),
-            ArgumentError::UnknownDialect(_0) => write!(f, "unknown dialect: {_0:?}"),
+            ArgumentError::UnknownDialect(_0) => write!(f, "unknown dialect: {_0}"),
             ArgumentError::NoPrefix => write!(f, "--prefix needs a value"),
             ArgumentError::GivenTwice(_0) => write!(f, "{_0} is given twice"),
             ArgumentError::Contradiction(_0, _1) => write!(f, "{_0} contradicts {_1}"),

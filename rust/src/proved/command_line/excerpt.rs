@@ -2,6 +2,7 @@
 //! A string, or the part of a long one around an offset.
 
 use crate::rattle_std::prelude::*;
+use crate::proved::invalid_strings::escaped::Escaped;
 use crate::rattle_std::AllocError;
 use crate::rattle_std::fmt::{self, Display, Formatter};
 
@@ -34,23 +35,22 @@ impl<'a> Excerpt<'a> {
     }
 
     /// Writes the string in a line of its own, and in the next line a caret below the offset. If
-    /// the string is empty, or has a character that isn't shown in one column, it writes only the
-    /// indentation.
+    /// the string is empty, it writes only the indentation.
     pub(crate) fn write_pointed(&self, out: &mut String) -> Result<(), AllocError> {
         out.fallible_push_str("\n    ")?;
-        let in_columns = self.text.bytes().all(|byte| matches!(byte, b' '..=b'~'));
-        if self.text.is_empty() || !in_columns {
+        if self.text.is_empty() {
             return Ok(());
         }
+        let text = Escaped { text: self.text };
+        write!(out, "{}{text}{}\n    ", self.left_out.0, self.left_out.1)?;
+        let mut before = String::new();
         write!(
-            out,
-            "{}{}{}\n    ",
-            self.left_out.0, self.text, self.left_out.1
+            before,
+            "{}{}",
+            self.left_out.0,
+            Escaped { text: self.before }
         )?;
-        for _ in self.left_out.0.bytes() {
-            out.fallible_push(' ')?;
-        }
-        for _ in self.before.bytes() {
+        for _ in before.bytes() {
             out.fallible_push(' ')?;
         }
         out.fallible_push_str("^ ")
@@ -59,7 +59,8 @@ impl<'a> Excerpt<'a> {
 
 impl Display for Excerpt<'_> {
     fn fmt(&self, f: &mut Formatter<'_>) -> fmt::Result {
-        write!(f, "{}{:?}{}", self.left_out.0, self.text, self.left_out.1)
+        let text = Escaped { text: self.text };
+        write!(f, "{}\"{text}\"{}", self.left_out.0, self.left_out.1)
     }
 }
 

@@ -3,7 +3,7 @@
 //! `--include-prerelease`, `--releases-only` and their short forms.
 
 use crate::rattle_std::prelude::*;
-use crate::proved::command_line::error::ArgumentError;
+use crate::proved::command_line::error::{ArgumentError, Quoted};
 use crate::proved::tool_ranges::dialect::Dialect;
 use crate::proved::tool_ranges::meaning::Meaning;
 use crate::proved::version_sets::PreReleases;
@@ -90,7 +90,9 @@ impl MeaningOptions {
             "npm" => self.set_dialect(Dialect::Npm, "--dialect npm"),
             "crate-cargo" => self.set_dialect(Dialect::CrateCargo, "--dialect crate-cargo"),
             "crate-npm" => self.set_dialect(Dialect::CrateNpm, "--dialect crate-npm"),
-            _ => Err(ArgumentError::UnknownDialect(name.fallible_to_string()?)),
+            _ => Err(ArgumentError::UnknownDialect(Quoted {
+                text: name.fallible_to_string()?,
+            })),
         }
     }
 

@@ -5,6 +5,7 @@
 use crate::rattle_std::prelude::*;
 use crate::proved::command_line::error::ArgumentError;
 use crate::proved::command_line::refused::refused_text;
+use crate::proved::invalid_strings::escaped::Escaped;
 use crate::proved::semver_parser::RangeError;
 use crate::rattle_std::io::{self, ErrorKind};
 use crate::rattle_std::process::ExitCode;
@@ -56,9 +57,10 @@ impl Program {
         error: &RangeError,
         range: &str,
     ) -> ExitCode {
+        let shown = Escaped { text: range };
         let _ = match refused_text(dialect, error, range) {
             Ok(text) => crate::rattle_std::fallible_eprintln!(rt; "{}: {text}", self.name),
-            Err(_) => crate::rattle_std::fallible_eprintln!(rt; "{}: {error}: {range:?}", self.name),
+            Err(_) => crate::rattle_std::fallible_eprintln!(rt; "{}: {error}: \"{shown}\"", self.name),
         };
         ExitCode::from(2)
     }
@@ -71,10 +73,11 @@ impl Program {
         tools: &[(&str, Dialect, &RangeError)],
         range: &str,
     ) -> ExitCode {
+        let shown = Escaped { text: range };
         for (tool, dialect, error) in tools {
             let _ = match refused_text(*dialect, error, range) {
                 Ok(text) => crate::rattle_std::fallible_eprintln!(rt; "{}: {tool}: {text}", self.name),
-                Err(_) => crate::rattle_std::fallible_eprintln!(rt; "{}: {tool}: {error}: {range:?}", self.name),
+                Err(_) => crate::rattle_std::fallible_eprintln!(rt; "{}: {tool}: {error}: \"{shown}\"", self.name),
             };
         }
         ExitCode::from(2)

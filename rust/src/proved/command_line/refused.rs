@@ -71,7 +71,11 @@ fn words_of(error: &RangeError) -> &'static str {
 }
 
 /// Writes the lines of an error with its offset.
-fn write_refusal(out: &mut String, refusal: &Refusal, text: &str) -> Result<(), AllocError> {
+fn write_refusal(
+    out: &mut String,
+    refusal: &Refusal,
+    text: &str,
+) -> Result<(), AllocError> {
     let excerpt = Excerpt::round(text, refusal.offset);
     write!(out, "{}: {excerpt}", words_of(&refusal.error))?;
     excerpt.write_pointed(out)?;

@@ -52,32 +52,15 @@ fn may_end(byte: u8) -> bool {
     byte.is_ascii_alphanumeric() || matches!(byte, b'*' | b'|')
 }
 
-/// Returns the byte offset of the first error in an invalid range string: no range in the dialect
-/// begins with a longer prefix of the string. It is 4 in `1.2 || 3` in Cargo's dialect. It is the
-/// length of the string if something is missing at the end, as in `>=`, or if the only error is a
-/// number that is too large.
-///
-/// It takes O(n log n) time for n bytes. If the string is not a range, it allocates one buffer of n
-/// + 8 bytes.
-///
-/// # Errors
-///
-/// `AllocError` if the allocation of the buffer fails.
-pub fn error_offset(dialect: Dialect, text: &str) -> Result<usize, AllocError> {
-    if is_range(dialect, text) {
-        return Ok(text.len());
-    }
-    prefix_end(dialect, text)
-}
-
-/// Returns the end of the longest prefix of a string with which some range begins.
+/// Returns the end of the longest prefix of a string with which some range begins. It takes
+/// O(n log n) time for n bytes, and allocates one buffer of n + 8 bytes. `AllocError` if that fails.
 pub(crate) fn prefix_end(dialect: Dialect, text: &str) -> Result<usize, AllocError> {
     longest_prefix(&RangeTexts { dialect }, text)
 }
 
 /// Returns whether a string is a range in a dialect, even if one of its numbers is too large.
 /// `1.2 || 3` is one in npm's dialect, but not in Cargo's. It does not allocate.
-pub fn is_range(dialect: Dialect, text: &str) -> bool {
+pub(crate) fn is_range(dialect: Dialect, text: &str) -> bool {
     match check(dialect, text) {
         Ok(()) => true,
         Err(RangeError::NumberTooLarge) => true,

@@ -9,6 +9,7 @@
 use crate::rattle_std::prelude::*;
 pub mod buffers;
 mod bytes;
+pub mod escaped;
 pub mod longest;
 pub mod prefix_bytes;
 pub mod reasons;

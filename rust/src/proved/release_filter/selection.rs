@@ -58,7 +58,7 @@ struct IndexedLine<'k> {
 impl IndexedLine<'_> {
     /// Compares two lines: first by precedence, then by the index.
     fn compare(&self, other: &IndexedLine<'_>) -> Ordering {
-        let versions = self.line.version.compare(&other.line.version);
+        let versions = self.line.version.compare_read(&other.line.version);
         versions.then(self.index.cmp(&other.index))
     }
 }

@@ -3,7 +3,7 @@
 #![cfg(feature = "std")]
 
 use crate::rattle_std::prelude::*;
-use crate::proved::command_line::{ArgumentError, MeaningOptions};
+use crate::proved::command_line::{ArgumentError, MeaningOptions, Quoted};
 use crate::proved::release_filter::{LineEnd, LineOptions, Selection};
 use crate::rattle_std::env;
 use crate::rattle_std::rt::Env;
@@ -245,7 +245,7 @@ pub fn requested(rt: &(impl Env + AllocGlobal)) -> Result<Request, ArgumentError
             "--version" if options.has_more => return Ok(Request::Version),
             text if options.has_more && text.starts_with('-') && text != "-" => {
                 if !options.take(rt, text)? {
-                    return Err(ArgumentError::UnknownOption(argument));
+                    return Err(ArgumentError::UnknownOption(Quoted { text: argument }));
                 }
             }
             _ if range.is_some() => push(&mut files, argument)?,

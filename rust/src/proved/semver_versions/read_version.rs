@@ -67,7 +67,7 @@ impl ReadVersion {
     }
 
     /// Compares two versions by precedence.
-    pub fn compare(&self, other: &ReadVersion) -> Ordering {
+    pub fn compare_read(&self, other: &ReadVersion) -> Ordering {
         self.compare_version(&other.version, other.digits)
     }
 

@@ -201,6 +201,30 @@ impl<'t> VersionRef<'t> {
         self.digits
     }
 
+    /// Returns the same version, whose numeric identifiers are read as `digits` says.
+    ///
+    /// ```
+    /// use semver_parser::{Dialect, Digits, VersionRef};
+    ///
+    /// let version = VersionRef::parse("1.2.3", Dialect::Npm)?;
+    /// assert_eq!(version.read_by(Digits::Kept).digits(), Digits::Kept);
+    /// # Ok::<(), semver_parser::Error>(())
+    /// ```
+    #[must_use]
+    #[inline(always)]
+    pub fn read_by(&self, digits: Digits) -> VersionRef<'t> {
+        VersionRef {
+            major: self.major,
+            minor: self.minor,
+            patch: self.patch,
+            pre: self.pre,
+            build: self.build,
+            before_pre: self.before_pre,
+            before_build: self.before_build,
+            digits,
+        }
+    }
+
     /// Returns the identifiers of the pre-release for comparing. They are read one by one, as they
     /// are needed. It does not allocate.
     #[must_use]

@@ -64,12 +64,13 @@ pub fn satisfies(
     range: &str,
     meaning: Meaning,
 ) -> Result<bool, RangeError> {
+    let version = version.read_by(meaning.dialect.grammar().digits());
     let rule = meaning.pre_releases;
     match meaning.dialect {
-        Dialect::Cargo => answer(version, range, Dialect::Cargo, rule),
-        Dialect::Npm => answer(version, range, Dialect::Npm, rule),
-        Dialect::CrateCargo => answer(version, range, Dialect::CrateCargo, rule),
-        Dialect::CrateNpm => answer(version, range, Dialect::CrateNpm, rule),
+        Dialect::Cargo => answer(&version, range, Dialect::Cargo, rule),
+        Dialect::Npm => answer(&version, range, Dialect::Npm, rule),
+        Dialect::CrateCargo => answer(&version, range, Dialect::CrateCargo, rule),
+        Dialect::CrateNpm => answer(&version, range, Dialect::CrateNpm, rule),
     }
 }
 

@@ -41,11 +41,7 @@ fn beside<'t>(partial: &Partial<'t>, side: Option<Side>) -> Option<Cut<'t>> {
 /// Returns the cut at a side of the zero-filled version of a partial version.
 #[inline(always)]
 fn cut<'t>(partial: &Partial<'t>, side: Side) -> Cut<'t> {
-    Cut {
-        numbers: numbers(partial),
-        pre: partial.pre(),
-        side,
-    }
+    Cut::new(numbers(partial), partial.pre(), side)
 }
 
 /// Returns the interval of the pre-releases that satisfy a term, if they count by default.
@@ -122,11 +118,7 @@ fn release_of<'t>(partial: &Partial<'t>, lower: Option<Side>, is_one: bool) -> O
     match lower {
         None => None,
         Some(Side::Past) => Some(cut(partial, Side::Past)),
-        Some(Side::Above(place)) => Some(Cut {
-            numbers: raised(partial, place),
-            pre: &[],
-            side: Side::At,
-        }),
+        Some(Side::Above(place)) => Some(Cut::new(raised(partial, place), &[], Side::At)),
         Some(Side::Below | Side::At) if is_zero(partial) && !is_one => None,
         Some(Side::Below | Side::At) => Some(cut(partial, Side::At)),
     }
@@ -164,6 +156,35 @@ pub(crate) fn fits(simple: &Simple<'_>, dialect: Dialect) -> bool {
     let partial = &simple.partial;
     let (lower, upper) = sides(simple, dialect);
     partial.states_at_most(most) & may_rise(partial, lower, most) & may_rise(partial, upper, most)
+}
+
+/// Returns the index of the number of a term that is raised and can't be, if the term doesn't fit
+/// because of that number. If one of its own numbers is above the limit, it returns 0.
+pub(crate) fn unraised(simple: &Simple<'_>, dialect: Dialect) -> usize {
+    if !simple.partial.states_at_most(limit(dialect)) {
+        return 0;
+    }
+    let (lower, upper) = sides(simple, dialect);
+    raised_place(lower, upper)
+}
+
+/// Returns the index of the number that is raised for the lower side, or else for the upper one. It
+/// is 0 if none is.
+fn raised_place(lower: Option<Side>, upper: Option<Side>) -> usize {
+    match (lower, upper) {
+        (Some(Side::Above(place)), _) => index(place),
+        (_, Some(Side::Above(place))) => index(place),
+        _ => 0,
+    }
+}
+
+/// Returns the index of the number at a place, counted from 0.
+fn index(place: Place) -> usize {
+    match place {
+        Place::Major => 0,
+        Place::Minor => 1,
+        Place::Patch => 2,
+    }
 }
 
 /// Returns the highest number that a dialect allows.

@@ -5,8 +5,10 @@ use crate::rattle_std::prelude::*;
 use crate::proved::tool_ranges::meaning::{self, Meaning};
 use crate::proved::tool_ranges::range_operations::OperationError;
 use crate::proved::tool_ranges::satisfying::SatisfiesError;
+use crate::proved::tool_ranges::table::limit;
 use crate::proved::semver_ranges::RangeError;
 use crate::proved::semver_versions::version::{Version, VersionRef, read_ref_in};
+use crate::rattle_std::AllocError;
 use crate::rattle_std::fmt;
 use crate::proved::version_sets::VersionSet;
 
@@ -52,6 +54,24 @@ impl VersionRange {
     pub fn try_parse(range: &str, meaning: Meaning) -> Result<VersionRange, RangeError> {
         let versions = meaning::read(meaning, range)?;
         Ok(VersionRange { versions, meaning })
+    }
+
+    /// Returns the lowest version of the dialect that the range contains, without build metadata,
+    /// or `None` if and only if it contains none. A version of npm's dialect has no number above
+    /// 2^53 - 1, so the lowest one in `>1.2.9007199254740991` is 1.3.0.
+    ///
+    /// It allocates only if the result is a pre-release. `Err` means out of memory.
+    ///
+    /// ```
+    /// use semver_parser::{Dialect, VersionRange};
+    ///
+    /// let range = VersionRange::parse(">1.2.9007199254740991", Dialect::Npm)?;
+    /// assert_eq!(range.try_lowest_version().unwrap().unwrap().to_string(), "1.3.0");
+    /// # Ok::<(), semver_parser::Error>(())
+    /// ```
+    pub fn try_lowest_version(&self) -> Result<Option<Version>, AllocError> {
+        self.versions
+            .lowest_within(limit(self.meaning.dialect))
     }
 
     /// Returns the range that contains the versions of a set.

@@ -23,11 +23,19 @@ pub enum Side {
 #[derive(Clone, Copy)]
 pub struct Cut<'text> {
     /// The three numbers of the version.
-    pub numbers: Release,
+    pub(crate) numbers: Release,
     /// The identifiers of its pre-release, separated by dots.
-    pub pre: &'text [u8],
+    pub(crate) pre: &'text [u8],
     /// The side of the version on which the cut is.
-    pub side: Side,
+    pub(crate) side: Side,
+}
+
+impl<'text> Cut<'text> {
+    /// Returns the cut at a side of a version, which has these numbers and this pre-release.
+    #[inline(always)]
+    pub(crate) fn new(numbers: Release, pre: &'text [u8], side: Side) -> Cut<'text> {
+        Cut { numbers, pre, side }
+    }
 }
 
 /// The versions above one cut and below another. If a cut is missing, there is no bound on that

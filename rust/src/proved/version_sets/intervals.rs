@@ -135,7 +135,7 @@ fn begins_next_numbers(boundary: &ReadVersion, below: &ReadVersion) -> bool {
 }
 
 /// Returns whether identifiers, read as `digits` says, are none, or only the lowest, `0`.
-fn has_lowest_pre(identifiers: &[version::Identifier], digits: Digits) -> bool {
+pub(crate) fn has_lowest_pre(identifiers: &[version::Identifier], digits: Digits) -> bool {
     let _digits = digits;
     is_lowest_pre(identifiers)
 }

@@ -26,6 +26,7 @@ mod spans;
 mod successor;
 mod sweep;
 mod version_set;
+mod within;
 
 pub use conjunction::{Conjunction, Ranges};
 pub use cut::{Cut, Interval, Side};

@@ -12,7 +12,7 @@ use crate::rattle_std::cmp::Ordering;
 /// A boundary of pre-releases: a version, and how its numeric identifiers are read.
 impl Boundary for ReadVersion {
     fn compare(&self, other: &ReadVersion) -> Ordering {
-        self.compare(other)
+        self.compare_read(other)
     }
 
     /// Copies the version without its build metadata.

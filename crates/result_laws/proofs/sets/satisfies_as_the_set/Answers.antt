@@ -1,9 +1,8 @@
 use Rattle.std.proofs.Common.{◌≡◌, Bool, Result, Ok, ap, sym, ◌∙◌}
-use Rattle.semver_texts.specs.Digits.{plain_by}
+use Rattle.semver_texts.specs.Digits.{digits_in, plain_by, version_by}
 use Rattle.semver_versions.specs.VersionRefs.{kept_version_of}
 use Rattle.version_sets.specs.VersionSets.{contains}
-use Rattle.semver_parser.specs.VersionRefs.{version_of}
-use Rattle.tool_ranges.specs.Dialects.{HasSetAs, IsTextAs, IsTooLargeAs}
+use Rattle.tool_ranges.specs.Dialects.{HasSetAs, IsTextAs, IsTooLargeAs, grammar_of}
 use Rattle.tool_ranges.proofs.ReadSets.{same_refusal}
 use Rattle.tool_ranges.proofs.ReadingLaws.{answered_too}
 use Rattle.version_sets.specs.declared.VersionSet.{VersionSet}
@@ -19,7 +18,7 @@ pub returns : goal.returns
 returns c =
     let dialect = c.args.meaning.dialect in
     let range = c.args.range.now in
-    let w = version_of c.args.version.now in
+    let w = version_by (digits_in (grammar_of dialect)) (kept_version_of c.args.version.now) in
     let r = c.satisfies.ensures in
     elim c.match-read.branch [
       | in-Ok o ↦ record {
@@ -29,7 +28,7 @@ returns c =
             r.refusals
             (λ a b is is' text. sym (inner is) ∙ o.contains_ref.ensures.of_version
             ∙ ap (λ d. contains o.in-Ok.set (plain_by d (kept_version_of c.args.version.now).plain))
-            (o.in-Ok.ensures.digits ∙ sym c.requires)
+            o.in-Ok.ensures.digits
             ∙ o.in-Ok.ensures.meaning text.0 w text.1 (c.numbers_of_refs_fit.ensures.major, c.numbers_of_refs_fit.ensures.minor, c.numbers_of_refs_fit.ensures.patch) ∙ sym (said _ is' r.meaning text.0 text.1)));
       }
       | in-Err o ↦ record {

@@ -1,10 +1,12 @@
-use Rattle.std.proofs.Common.{◌≡◌, ◌∙◌, refl, subst, sym, IfOk, Bool, Result}
+use Rattle.std.proofs.Common.{◌≡◌, ◌∙◌, ap, refl, subst, sym, IfOk, Bool, Result}
+use Rattle.semver_texts.specs.Digits.{digits_in, version_by}
 use Rattle.semver_texts.specs.Texts.{Text}
 use Rattle.semver_texts.specs.Versions.{PlainVersion, VersionValue, without_build}
+use Rattle.semver_texts.specs.declared.grammar.Digits.{Digits}
 use Rattle.semver_ranges.specs.declared.range_set.RangeError.{RangeError}
-use Rattle.semver_versions.specs.VersionRefs.{version_of}
+use Rattle.semver_versions.specs.VersionRefs.{VersionRefValue, kept_version_of, version_of}
 use Rattle.version_sets.specs.declared.rules.PreReleases.{PreReleases}
-use Rattle.tool_ranges.specs.Dialects.{RefusesAs, SpellsAs, TreeOf}
+use Rattle.tool_ranges.specs.Dialects.{RefusesAs, SpellsAs, TreeOf, grammar_of}
 use Rattle.tool_ranges.specs.Meanings.{meant_by}
 use Rattle.tool_ranges.specs.declared.dialect.Dialect.{Dialect}
 use Rattle.tool_ranges.proofs.MatchedMeanings.{same_plain}
@@ -16,54 +18,75 @@ record Answers (t : Text) (rule : PreReleases) (v : PlainVersion) (r : Result Bo
   pub refusals : RefusesAs d t r
   pub meaning : IfOk r (λ met. (tree : TreeOf d) → SpellsAs d tree t → met ≡ meant_by d rule tree (without_build v))
 
+-- the same for a version that has build metadata
+abbrev Says : Text → PreReleases → Result Bool RangeError → (d : Dialect) → VersionValue → Type 0
+Says t rule r d w = IfOk r (λ met. (tree : TreeOf d) → SpellsAs d tree t → met ≡ meant_by d rule tree w)
+
 with_build : (t : Text) (rule : PreReleases) (w : VersionValue) (r : Result Bool RangeError) (d : Dialect) → Answers t rule w.plain r d
-    → IfOk r (λ met. (tree : TreeOf d) → SpellsAs d tree t → met ≡ meant_by d rule tree w)
+    → Says t rule r d w
 with_build t rule w r d is = IfOk-weaker r _ _ (λ met says tree spelled. says tree spelled ∙ same_plain d rule tree (without_build w.plain) w refl) is.meaning
+
+-- the borrowed version is read as the dialect reads it
+read_as_dialect : (o r : VersionRefValue) (read : Digits) (d : Dialect) → r ≡ record o { digits = read } → read ≡ digits_in (grammar_of d)
+    → version_of r ≡ version_by (digits_in (grammar_of d)) (kept_version_of o)
+read_as_dialect o r read d is digits = ap version_of is ∙ ap (λ read. version_by read (kept_version_of o)) digits
 
 pub returns-in-Cargo : goal.returns-in-Cargo
 returns-in-Cargo c =
     let e = c.answer.ensures in
-    let w = version_of c.args.version.now in
-    let told = subst (Answers c.args.range.now c.args.meaning.pre_releases w.plain c.answer.result) (sym c.in-Cargo.is)
+    let d = c.args.meaning.dialect in
+    let r = c.read_by-version.result in
+    let told = subst (Answers c.args.range.now c.args.meaning.pre_releases (version_of r).plain c.answer.result) (sym c.in-Cargo.is)
     (record { refusals = e.refusals; meaning = e.meaning }) in
+    let same = read_as_dialect c.args.version.now r _ d c.read_by-version.ensures.version (c.digits.ensures ∙ ap digits_in c.grammar.ensures.grammar) in
     record {
       refusals = told.refusals;
       no_memory = e.no_memory;
-      meaning = with_build c.args.range.now c.args.meaning.pre_releases w c.answer.result c.args.meaning.dialect told;
+      meaning = subst (Says c.args.range.now c.args.meaning.pre_releases c.answer.result d) same
+          (with_build c.args.range.now c.args.meaning.pre_releases (version_of r) c.answer.result d told);
     }
 
 pub returns-in-Npm : goal.returns-in-Npm
 returns-in-Npm c =
     let e = c.answer-in-Npm.ensures in
-    let w = version_of c.args.version.now in
-    let told = subst (Answers c.args.range.now c.args.meaning.pre_releases w.plain c.answer-in-Npm.result) (sym c.in-Npm.is)
+    let d = c.args.meaning.dialect in
+    let r = c.read_by-version.result in
+    let told = subst (Answers c.args.range.now c.args.meaning.pre_releases (version_of r).plain c.answer-in-Npm.result) (sym c.in-Npm.is)
     (record { refusals = e.refusals; meaning = e.meaning }) in
+    let same = read_as_dialect c.args.version.now r _ d c.read_by-version.ensures.version (c.digits.ensures ∙ ap digits_in c.grammar.ensures.grammar) in
     record {
       refusals = told.refusals;
       no_memory = e.no_memory;
-      meaning = with_build c.args.range.now c.args.meaning.pre_releases w c.answer-in-Npm.result c.args.meaning.dialect told;
+      meaning = subst (Says c.args.range.now c.args.meaning.pre_releases c.answer-in-Npm.result d) same
+          (with_build c.args.range.now c.args.meaning.pre_releases (version_of r) c.answer-in-Npm.result d told);
     }
 
 pub returns-in-CrateCargo : goal.returns-in-CrateCargo
 returns-in-CrateCargo c =
     let e = c.answer-in-CrateCargo.ensures in
-    let w = version_of c.args.version.now in
-    let told = subst (Answers c.args.range.now c.args.meaning.pre_releases w.plain c.answer-in-CrateCargo.result) (sym c.in-CrateCargo.is)
+    let d = c.args.meaning.dialect in
+    let r = c.read_by-version.result in
+    let told = subst (Answers c.args.range.now c.args.meaning.pre_releases (version_of r).plain c.answer-in-CrateCargo.result) (sym c.in-CrateCargo.is)
     (record { refusals = e.refusals; meaning = e.meaning }) in
+    let same = read_as_dialect c.args.version.now r _ d c.read_by-version.ensures.version (c.digits.ensures ∙ ap digits_in c.grammar.ensures.grammar) in
     record {
       refusals = told.refusals;
       no_memory = e.no_memory;
-      meaning = with_build c.args.range.now c.args.meaning.pre_releases w c.answer-in-CrateCargo.result c.args.meaning.dialect told;
+      meaning = subst (Says c.args.range.now c.args.meaning.pre_releases c.answer-in-CrateCargo.result d) same
+          (with_build c.args.range.now c.args.meaning.pre_releases (version_of r) c.answer-in-CrateCargo.result d told);
     }
 
 pub returns-in-CrateNpm : goal.returns-in-CrateNpm
 returns-in-CrateNpm c =
     let e = c.answer-in-CrateNpm.ensures in
-    let w = version_of c.args.version.now in
-    let told = subst (Answers c.args.range.now c.args.meaning.pre_releases w.plain c.answer-in-CrateNpm.result) (sym c.in-CrateNpm.is)
+    let d = c.args.meaning.dialect in
+    let r = c.read_by-version.result in
+    let told = subst (Answers c.args.range.now c.args.meaning.pre_releases (version_of r).plain c.answer-in-CrateNpm.result) (sym c.in-CrateNpm.is)
     (record { refusals = e.refusals; meaning = e.meaning }) in
+    let same = read_as_dialect c.args.version.now r _ d c.read_by-version.ensures.version (c.digits.ensures ∙ ap digits_in c.grammar.ensures.grammar) in
     record {
       refusals = told.refusals;
       no_memory = e.no_memory;
-      meaning = with_build c.args.range.now c.args.meaning.pre_releases w c.answer-in-CrateNpm.result c.args.meaning.dialect told;
+      meaning = subst (Says c.args.range.now c.args.meaning.pre_releases c.answer-in-CrateNpm.result d) same
+          (with_build c.args.range.now c.args.meaning.pre_releases (version_of r) c.answer-in-CrateNpm.result d told);
     }

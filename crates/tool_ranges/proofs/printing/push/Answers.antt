@@ -6,7 +6,7 @@ use Rattle.semver_ranges.specs.Steps.CursorViews.{IsSimpleOf}
 use Rattle.semver_ranges.specs.Steps.PartialViews.{version_of}
 use Rattle.version_sets.specs.declared.cut.Side.{Side}
 use Rattle.version_sets.specs.Steps.Cuts.{side_value}
-use Rattle.tool_ranges.specs.Steps.Matching.{term_fits}
+use Rattle.tool_ranges.specs.FittingTerms.{term_fits}
 use Rattle.tool_ranges.specs.Steps.Printed.{at_side, lower_comparator, printed_term, upper_comparator}
 use Rattle.tool_ranges.specs.Steps.Table.{ends_past}
 use Rattle.tool_ranges.proofs.PrintedTerms.{apart_sides, both_sides, lower_rises, printed_so, pushed, upper_rises}

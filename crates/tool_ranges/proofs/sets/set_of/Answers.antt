@@ -4,7 +4,7 @@ use Rattle.semver_ranges.specs.Steps.RangeEvents.{Event}
 use Rattle.tool_ranges.specs.Dialects.{grammar_of}
 use Rattle.tool_ranges.specs.Steps.Matching as matching
 use Rattle.tool_ranges.specs.Steps.Cursors.{GivesNext, HasLeftIn, events_in, ranges_of, text_events}
-use Rattle.tool_ranges.specs.Steps.Matching.{after, begun, counts, lower_of, takes_all, term_fits}
+use Rattle.tool_ranges.specs.Steps.Matching.{after, begun, counts, lower_of, takes_all}
 use Rattle.tool_ranges.proofs.LeftEvents.{FirstFits, ended, first_fits}
 use Rattle.tool_ranges.proofs.MatchedEvents.{ranges_fit, says_so}
 use Rattle.tool_ranges.proofs.MatchedMeanings.{same_plain}

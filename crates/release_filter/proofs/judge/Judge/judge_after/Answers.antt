@@ -5,7 +5,7 @@ use Rattle.tool_ranges.specs.declared.meaning.Meaning.{Meaning}
 use Rattle.semver_texts.specs.ToolVersions.{IsVersionTextIn, SpellsIn}
 use Rattle.semver_texts.specs.declared.grammar.Grammar.{Grammar}
 use Rattle.semver_versions.specs.VersionRefs.{IsVersionRefIn, version_of}
-use Rattle.release_filter.proofs.Matching.{all_fit}
+use Rattle.release_filter.proofs.Matching.{spelled_fits}
 use Rattle.release_filter.proofs.Verdicts.{matched, none_spelled}
 use Rattle.release_filter.proofs.judge.Judge.judge_after.Goals as goal
 
@@ -24,8 +24,7 @@ returns-then-contains_ref c =
     let is = c.grammar.ensures.grammar ∙ ap (λ (m : Meaning). grammar_of m.dialect) c.meaning.ensures in
     let borrowed = subst (λ (g : Grammar). IsVersionRefIn g rest o) is ((c.read_ref_in.ensures.borrowed o).0 c.in-Some-read_ref_in.is) in
     let spells = subst (λ (g : Grammar). SpellsIn g (version_of o) rest) is c.in-Some-read_ref_in.ensures.version in
-    let fit = c.numbers_of_refs_fit.ensures in
-    let matches = matched range o _ (all_fit (version_of o).plain fit.major fit.minor fit.patch)
+    let matches = matched range o _ (spelled_fits (versions_grammar range) (version_of o) rest spells)
     (c.contains_ref.ensures.of_text rest borrowed) in (
       c.args.prefix.now,
       version_of o,
@@ -43,7 +42,6 @@ returns-else-contains_ref c =
     let is = c.grammar.ensures.grammar ∙ ap (λ (m : Meaning). grammar_of m.dialect) c.meaning.ensures in
     let borrowed = subst (λ (g : Grammar). IsVersionRefIn g rest o) is ((c.read_ref_in.ensures.borrowed o).0 c.in-Some-read_ref_in.is) in
     let spells = subst (λ (g : Grammar). SpellsIn g (version_of o) rest) is c.in-Some-read_ref_in.ensures.version in
-    let fit = c.numbers_of_refs_fit.ensures in
-    let matches = matched range o _ (all_fit (version_of o).plain fit.major fit.minor fit.patch)
+    let matches = matched range o _ (spelled_fits (versions_grammar range) (version_of o) rest spells)
     (c.contains_ref.ensures.of_text rest borrowed) in
     (c.args.prefix.now, version_of o, (refl, (rest, c.in-Some.ensures, spells)), matches ∙ c.if-contains_ref.false)

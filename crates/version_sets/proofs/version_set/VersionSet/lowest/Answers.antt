@@ -25,15 +25,15 @@ told c =
 
 pub returns-clause-lowest : goal.returns-clause-lowest
 returns-clause-lowest c =
-    answered_so _ c.lower_one.result c.lower_one.ensures.lowest (λ lowest is. (is_told c.args.self.now (answer c) (told c) lowest is).is_lowest)
+    answered_so _ c.lower_one.result c.lower_one.ensures.lowest (λ lowest is. (is_told Fits c.args.self.now (answer c) (told c) lowest is).is_lowest)
 
 pub returns-clause-no_build : goal.returns-clause-no_build
 returns-clause-no_build c =
-    answered_so _ c.lower_one.result c.lower_one.ensures.lowest (λ lowest is. (is_told c.args.self.now (answer c) (told c) lowest is).no_build)
+    answered_so _ c.lower_one.result c.lower_one.ensures.lowest (λ lowest is. (is_told Fits c.args.self.now (answer c) (told c) lowest is).no_build)
 
 pub returns-clause-none : goal.returns-clause-none
 returns-clause-none c =
-    answered_so _ c.lower_one.result c.lower_one.ensures.lowest (λ lowest is. (is_told c.args.self.now (answer c) (told c) lowest is).none)
+    answered_so _ c.lower_one.result c.lower_one.ensures.lowest (λ lowest is. (is_told Fits c.args.self.now (answer c) (told c) lowest is).none)
 
 pub returns-clause-out_of_memory : goal.returns-clause-out_of_memory
 returns-clause-out_of_memory c =

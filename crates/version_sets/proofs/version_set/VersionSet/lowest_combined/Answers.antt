@@ -49,7 +49,7 @@ returns-clause-lowest c =
     answered_so _ c.lower_one.result c.lower_one.ensures.lowest (λ lowest is.
     subst (λ s. TellsLowest (IsKept c.args.how s c.args.other.now) lowest) c.self.view_is
     (subst (λ s. TellsLowest (IsKept c.args.how (first c) s) lowest) c.other.view_is
-    (kept_lowest c.args.how (first c) (second c) c.self.invariant c.other.invariant lowest (is_told _ (answer c) (told c) lowest is))))
+    (kept_lowest c.args.how (first c) (second c) c.self.invariant c.other.invariant lowest (is_told Fits _ (answer c) (told c) lowest is))))
 
 pub returns-clause-out_of_memory : goal.returns-clause-out_of_memory
 returns-clause-out_of_memory c =

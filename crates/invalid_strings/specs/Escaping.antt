@@ -1,0 +1,26 @@
+-- A string as it is shown in a message.
+use Prim.Native.Char.{code}
+use Rattle.std.specs.Prelude.{ℕ, false, ◌==◌, ◌++◌, if◌then◌else◌, [], ◌∷◌, codes}
+use Rattle.std.specs.Int.{is_in_range}
+use Rattle.std.specs.List.{flat_map}
+use Rattle.std.specs.Str.{chars}
+use Rattle.std.specs.Fmt.{digits}
+use Rattle.semver_texts.specs.Texts.{Text}
+
+-- a character beyond the printable ones of ASCII: its number in hexadecimal
+abbrev pub by_number : ℕ → Text
+by_number c = codes "\\u{" ++ digits 16 false c ++ codes "}"
+
+-- a character as it is shown
+abbrev pub escaped_character : ℕ → Text
+escaped_character c =
+    if c == code "\"" then codes "\\\""
+    else (if c == code "\\" then codes "\\\\"
+    else (if c == code "\t" then codes "\\t"
+    else (if c == code "\n" then codes "\\n"
+    else (if c == code "\r" then codes "\\r"
+    else (if is_in_range 32 126 c then c ∷ []
+    else by_number c)))))
+
+abbrev pub escaped : Text → Text
+escaped t = flat_map escaped_character (chars t)

@@ -1,0 +1,14 @@
+use Rattle.version_sets.specs.VersionSets.{IsWithin}
+use Rattle.tool_ranges.specs.DialectTable.{limit}
+use Rattle.result_laws.proofs.LowestVersions.{one_call}
+use Rattle.result_laws.proofs.version_ranges.one_lowest_version.Goals as goal
+
+pub returns : goal.returns
+returns c =
+    let law = c.precedence_is_total.ensures in
+    let r = c.lowest_version.ensures in
+    let s = c.lowest_version-2.ensures in
+    let range = c.args.range.now in
+    record {
+      one = one_call law.total law.same (IsWithin (limit range.meaning.dialect)) range.versions _ _ r.lowest r.no_build r.none s.lowest s.no_build s.none;
+    }
