@@ -40,7 +40,7 @@ pre_parts_kept (PartialTree.one a) h = refl
 pre_parts_kept (PartialTree.two a b) h = refl
 pre_parts_kept (PartialTree.three a b c pre build) h = parts_kept pre h.0
 
-pre_kept : (p : PartialTree) → HasParts p → list_all is_kept (pre_release p) ≡ true
+pub pre_kept : (p : PartialTree) → HasParts p → list_all is_kept (pre_release p) ≡ true
 pre_kept p h = grind (arith, pre_parts_kept p h)
 
 -- if the stated numbers fit, so do the numbers of the zero-filled version

@@ -36,7 +36,7 @@ pub data Step : (Ordering → Ordering) → Bool → Bool → Type 0 where
   level : Step (λ o. o) true true
   higher : Step (λ o. Greater) false false
 
-step : (a x : ℕ) → Step (λ o. ordering_then (nat_cmp a x) o) (nat_eq x a) (nat_eq a x)
+pub step : (a x : ℕ) → Step (λ o. ordering_then (nat_cmp a x) o) (nat_eq x a) (nat_eq a x)
 step a x = elim (cases_order a x) [
   | inl same ↦ rw (same, le-ltb x x (omega arith), eq-eqb x x refl) level
   | inr apart ↦ elim apart [
@@ -45,16 +45,10 @@ step a x = elim (cases_order a x) [
   ]
 ]
 
-and_step : {g h : Ordering → Ordering} {e m e' m' : Bool} → Step g e m → Step h e' m' → Step (λ o. g (h o)) (e && e') (m && m')
+pub and_step : {g h : Ordering → Ordering} {e m e' m' : Bool} → Step g e m → Step h e' m' → Step (λ o. g (h o)) (e && e') (m && m')
 and_step lower b = lower
 and_step level b = b
 and_step higher b = higher
-
--- the numbers of two versions
-pub numbers_step : (v w : PlainVersion)
-    → Step (λ o. compared (nat_cmp v.major w.major) (nat_cmp v.minor w.minor) (nat_cmp v.patch w.patch) o)
-    (pointwise nat_eq (numbers w) (numbers v)) (pointwise nat_eq (numbers v) (numbers w))
-numbers_step v w = and_step (step v.major w.major) (and_step (step v.minor w.minor) (and_step (step v.patch w.patch) level))
 
 -- how a pre-release compares with that of a bound: equal, below or above. The indices are the
 -- order, and whether it is below

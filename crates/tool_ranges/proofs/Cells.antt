@@ -12,10 +12,10 @@ use Rattle.semver_ranges.specs.OwnMeaning.{agrees, agrees_past_zeros}
 use Rattle.semver_ranges.specs.Partials.{filled, leading_place}
 use Rattle.semver_ranges.proofs.CaretPlaces.{same_agreement}
 use Rattle.semver_ranges.specs.ExactBounds.{lowest_pre_release}
-use Rattle.semver_ranges.proofs.Rows.{Step, Tail, same, past, floor}
+use Rattle.semver_ranges.proofs.Rows.{Step, Tail, same, past, floor, step, and_step as after}
 use Rattle.version_sets.specs.Steps.Cuts.{first_numbers}
 use Rattle.tool_ranges.specs.CargoMeaning.{against}
-use Rattle.tool_ranges.proofs.ReadMeanings.{step, after, not_less, is_less}
+use Rattle.tool_ranges.proofs.NumberSteps.{not_less, is_less}
 
 -- ---- orderings
 pub not_ge : (o : Ordering) → not (is_ge o) ≡ is_lt o

@@ -10,7 +10,7 @@ use Rattle.semver_ranges.specs.Steps.RangeEvents.{Event, event_fits, one_simple,
 use Rattle.tool_ranges.specs.declared.dialect.Dialect.{Dialect}
 use Rattle.tool_ranges.specs.Dialects.{TreeOf}
 use Rattle.tool_ranges.specs.Steps.Cursors.{events_in, ranges_of, read_as, text_events}
-use Rattle.tool_ranges.specs.FittingTerms.{term_fits}
+use Rattle.tool_ranges.specs.Sides.{term_fits}
 use Rattle.tool_ranges.specs.Steps.Reading.{IsRead, IsRefusedAs}
 use Rattle.tool_ranges.proofs.MatchedEvents.{ranges_fit}
 

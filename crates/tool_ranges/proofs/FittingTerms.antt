@@ -15,7 +15,8 @@ use Rattle.tool_ranges.specs.declared.dialect.Dialect.{Dialect}
 use Rattle.tool_ranges.specs.declared.dialect.Dialect.TheVariants.{Cargo, Npm, CrateCargo, CrateNpm}
 use Rattle.tool_ranges.specs.CargoMeaning.{as_read}
 use Rattle.tool_ranges.specs.Dialects.{SpellsAs, TreeOf}
-use Rattle.tool_ranges.specs.FittingTerms.{first_unraised, fitting, stating, term_fits, terms_as, terms_of, unraised}
+use Rattle.tool_ranges.specs.FittingTerms.{first_unraised, fitting, stating, terms_as, terms_of, unraised}
+use Rattle.tool_ranges.specs.Sides.{term_fits}
 use Rattle.tool_ranges.specs.Steps.Cursors.{events_in, ranges_of, text_events}
 use Rattle.tool_ranges.proofs.ReadTrees.{complete_as}
 

@@ -14,7 +14,7 @@ use Rattle.semver_ranges.specs.Steps.RangeEvents.{Event, one_simple, next_range,
 use Rattle.tool_ranges.specs.declared.cursor.Cursor.{Cursor}
 use Rattle.tool_ranges.specs.declared.dialect.Dialect.{Dialect}
 use Rattle.tool_ranges.specs.Steps.Cursors.{ComesFirst, GivesNext, HasLeftIn}
-use Rattle.tool_ranges.specs.FittingTerms.{term_fits}
+use Rattle.tool_ranges.specs.Sides.{term_fits}
 
 -- the next event is a term whose numbers fit, and `others` are the events after it
 pub record FirstFits (g : Grammar) (d : Dialect) (left : List Event) (simple : read.Simple) (cursor : Cursor) : Type 0 where

@@ -1,12 +1,7 @@
 mod ComparatorReading
 mod FoundComparators
-mod RequirementPrinted
 mod AnySizes
-mod ReadMeanings
-mod SafeNumbers
 pub mod ReadSets
-mod ToolRows
-mod NpmMeanings
 mod MatchedMeanings
 mod CheckedEvents
 pub mod ReadingLaws
@@ -29,7 +24,9 @@ mod MatchedRanges
 mod BuiltSets
 mod LeftEvents
 mod PrintedTerms
-mod PrintedCells
-mod IncludedCells
-mod IncludedMeanings
+mod NumberSteps
+mod SideComparators
+mod PrintedMeanings
+mod PrintableSets
 mod PrintedSets
+mod IncludedSets

@@ -28,14 +28,14 @@ use Rattle.tool_ranges.specs.declared.matching.Progress.{Progress}
 use Rattle.tool_ranges.specs.CargoMeaning.{as_read}
 use Rattle.tool_ranges.specs.Dialects.{SpellsAs, TreeOf, fits_as}
 use Rattle.tool_ranges.specs.NpmMeaning.{matches_everything}
-use Rattle.tool_ranges.specs.ToolTable.{fits_in}
 use Rattle.tool_ranges.specs.Steps.Cursors.{ComesFirst, HasLeftIn, events_in, ranges_of, read_as, text_events}
 use Rattle.tool_ranges.specs.Steps.Matching.{Says, after, begun, counts, ended, lower_of, range_every, range_met, taken, term_met}
-use Rattle.tool_ranges.specs.FittingTerms.{term_fits}
+use Rattle.tool_ranges.specs.Sides.{term_fits}
 use Rattle.tool_ranges.specs.Steps.Reading.{IsRead, IsRefusedAs}
 use Rattle.tool_ranges.proofs.Comparators.{same_ranges}
 use Rattle.tool_ranges.proofs.ReadTrees.{sound_as}
-use Rattle.tool_ranges.proofs.ToolRows.{npm_table}
+use Rattle.tool_ranges.proofs.FitCells.{own_fits}
+use Rattle.tool_ranges.proofs.PrintableSets.{npm_table}
 
 -- ---- the next term
 pub record FirstTerm (g : Grammar) (o : Option (List Event)) (simple : read.Simple) (cursor : Cursor) : Type 0 where
@@ -58,11 +58,11 @@ front_fits fit (s ∷ ss) = ap (λ b. fit s && b) (front_fits fit ss)
 
 pub ranges_fit : (lower : LowerBounds) (d : Dialect) (tree : TreeOf d)
     → list_all (event_fits (term_fits d)) (events_in (ranges_of lower d tree)) ≡ fits_as d tree
-ranges_fit lower Cargo tree = front_fits (fits_in mode.Cargo) (map as_read tree) ∙ list_all-map (fits_in mode.Cargo) as_read tree
+ranges_fit lower Cargo tree = front_fits (term_fits Cargo) (map as_read tree) ∙ list_all-map (term_fits Cargo) as_read tree
 ranges_fit lower Npm tree = ap (list_all (event_fits (term_fits Npm))) (sym (same_ranges lower tree)) ∙ set_fits npm_table lower tree
-ranges_fit lower CrateCargo tree = ap (list_all (event_fits (term_fits CrateCargo))) (sym (same_ranges lower tree))
+ranges_fit lower CrateCargo tree = (λ i. list_all (event_fits (λ s. (own_fits s).0 i)) (sym (same_ranges lower tree) i))
     ∙ set_fits (port_table lowest_pre_release mode.Cargo) lower tree
-ranges_fit lower CrateNpm tree = ap (list_all (event_fits (term_fits CrateNpm))) (sym (same_ranges lower tree))
+ranges_fit lower CrateNpm tree = (λ i. list_all (event_fits (λ s. (own_fits s).1 i)) (sym (same_ranges lower tree) i))
     ∙ set_fits (port_table lowest_pre_release mode.Npm) lower tree
 
 -- a text has at least one range

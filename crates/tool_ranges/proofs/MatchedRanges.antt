@@ -99,7 +99,7 @@ module _ (v : PlainVersion) where
   every_range : (r : RangeTree) → range_every (yielded Stated r) ≡ npm.is_every_release r
   every_range r = all_terms npm.matches_everything refl (λ l r' a b. rw (a, b) refl) r
 
-  npm_default : (tree : SetTree)
+  pub npm_default : (tree : SetTree)
       → (if list_any range_every (map (yielded Stated) tree) then is_empty v.pre
       else list_any (range_met Npm false v) (map (yielded Stated) tree)) ≡ npm.meets_by_default tree v
   npm_default tree = λ i. if list_any-mapped range_every npm.is_every_release (yielded Stated) every_range tree i then is_empty v.pre
@@ -169,7 +169,7 @@ module _ (v : PlainVersion) where
     some_stated tree = list_any-mapped (λ s. states_pre_release_at (of_simple s) v) (λ s. states_pre_release_at (of_simple s) v) as_read
         (λ s. refl) tree
 
-  cargo_default : (tree : List Simple) → list_any (range_met Cargo false v) (map as_read tree ∷ []) ≡ cargo.meets_by_default tree v
+  pub cargo_default : (tree : List Simple) → list_any (range_met Cargo false v) (map as_read tree ∷ []) ≡ cargo.meets_by_default tree v
   cargo_default tree = or-false _ ∙ (λ i. each_met false tree i && (is_empty v.pre || some_stated false tree i))
 
   cargo_included : (tree : List Simple)

@@ -21,7 +21,7 @@ use Rattle.tool_ranges.specs.declared.dialect.Dialect.TheVariants.{Cargo, Npm, C
 use Rattle.tool_ranges.specs.Dialects.{grammar_of}
 use Rattle.tool_ranges.specs.NpmMeaning.{asks_nothing_by, is_zero, matches_everything}
 use Rattle.tool_ranges.specs.Steps.Matching.{states_at, term_met}
-use Rattle.tool_ranges.specs.FittingTerms.{term_fits}
+use Rattle.tool_ranges.specs.Sides.{term_fits}
 use Rattle.tool_ranges.specs.Steps.Table.{is_counted_within, is_within}
 use Rattle.tool_ranges.proofs.CargoCells.{cargo_all, cargo_counted, cargo_release, own_within}
 use Rattle.tool_ranges.proofs.FitCells.{term_stated}
@@ -47,13 +47,13 @@ module _ (s : Simple) (v : PlainVersion) where
   abbrev Means : Dialect → Bool → Bool → Type 0
   Means d all by_default = looked_within d by_default s.form (stated s.partial) (zero_filled s.partial) v ≡ term_met d all v s
 
-  all_means : (d : Dialect) → Means d true false
+  pub all_means : (d : Dialect) → Means d true false
   all_means Cargo = sym (cargo_all v s.form (stated_shape s.partial) _ (none_any s))
   all_means Npm = sym (npm_all v s.form (stated_shape s.partial) _ (none_any s))
   all_means CrateCargo = sym (own_within v s.form (stated_shape s.partial) _ (none_kept s)).0
   all_means CrateNpm = sym (own_within v s.form (stated_shape s.partial) _ (none_kept s)).1
 
-  release_means : (d : Dialect) → v.pre ≡ [] → Means d false false
+  pub release_means : (d : Dialect) → v.pre ≡ [] → Means d false false
   release_means Cargo release = sym (cargo_release v release s.form (stated_shape s.partial) _ (none_any s))
   release_means Npm release = sym (npm_release v release s.form (stated_shape s.partial) _ (none_any s))
   release_means CrateCargo release = sym (own_within v s.form (stated_shape s.partial) _ (none_kept s)).0

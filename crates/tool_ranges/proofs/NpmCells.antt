@@ -11,14 +11,15 @@ use Rattle.semver_texts.proofs.Lists.{by_test}
 use Rattle.semver_ranges.specs.RangeTree.{Form, bare, equal, less, at_most, greater, at_least, tilde, caret}
 use Rattle.semver_ranges.specs.OwnMeaning.{agrees, agrees_past_zeros}
 use Rattle.semver_ranges.specs.Partials.{filled, leading_place}
-use Rattle.semver_ranges.proofs.Rows.{Shape}
-use Rattle.version_sets.specs.Steps.Cuts.{at, below, first_numbers}
+use Rattle.semver_ranges.proofs.Rows.{Shape, step}
+use Rattle.version_sets.specs.Sides.{at, below}
+use Rattle.version_sets.specs.Steps.Cuts.{first_numbers}
 use Rattle.version_sets.specs.declared.rules.PreReleases.TheVariants.{Default, Included}
 use Rattle.tool_ranges.specs.CargoMeaning.{against}
 use Rattle.tool_ranges.specs.NpmMeaning.{is_zero, is_from, meets_by_count}
 use Rattle.tool_ranges.specs.Steps.Table.{is_within, is_counted_within, is_past_release}
 use Rattle.tool_ranges.specs.declared.dialect.Dialect.TheVariants.{Npm}
-use Rattle.tool_ranges.proofs.ReadMeanings.{step, not_less, is_above, is_above_after}
+use Rattle.tool_ranges.proofs.NumberSteps.{not_less, is_above, is_above_after}
 use Rattle.tool_ranges.proofs.Cells.{Spot, leading_of_two, leading_of_three, agrees_within, past_zeros_within, from_first, numbers_first}
 use Rattle.tool_ranges.proofs.Cells.{not_ge, not_gt, both_eq, one_from, two_from, one_below, two_below, none_from}
 

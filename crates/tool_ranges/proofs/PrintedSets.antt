@@ -1,8 +1,7 @@
--- The ranges that are printed, found from the events of a text, and the comparators that are
--- printed for each tree of Cargo and npm.
+-- The ranges that are printed, found from the events of a text, and those that are printed for each
+-- tree of npm.
 use Rattle.std.proofs.Common.{◌≡◌, List, [], ◌∷◌, ◌++◌, map, refl, sym, ap, ◌∙◌, append_assoc}
 use Rattle.std.proofs.lemmas.List.{map-append}
-use Rattle.std.specs.List.{flat_map}
 use Rattle.semver_texts.specs.Texts.{Text}
 use Rattle.semver_ranges.specs.declared.partial.LowerBounds.{LowerBounds}
 use Rattle.semver_ranges.specs.declared.partial.LowerBounds.TheVariants.{Stated}
@@ -18,18 +17,14 @@ use Rattle.semver_ranges.specs.Steps.RangeEvents.{Event, next_range, yielded}
 use Rattle.semver_ranges.proofs.EventLists.{range_made}
 use Rattle.semver_ranges.proofs.EventSums.{front_made}
 use Rattle.tool_ranges.specs.declared.dialect.Dialect.{Dialect}
-use Rattle.tool_ranges.specs.declared.dialect.Dialect.TheVariants.{Cargo, Npm}
-use Rattle.tool_ranges.specs.CargoGrammar.{SpellsComparators}
-use Rattle.tool_ranges.specs.CargoMeaning.{as_read}
-use Rattle.tool_ranges.specs.CargoTable.{rewritten_requirement, written_one}
+use Rattle.tool_ranges.specs.declared.dialect.Dialect.TheVariants.{Npm}
 use Rattle.tool_ranges.specs.Dialects.{SpellsAs, TreeOf}
-use Rattle.tool_ranges.specs.NpmTable.{rewritten_npm}
-use Rattle.tool_ranges.specs.ToolTable.{written_in}
+use Rattle.tool_ranges.specs.Rewritten.{rewritten_npm}
 use Rattle.tool_ranges.specs.Steps.Cursors.{events_in, ranges_of}
-use Rattle.tool_ranges.specs.Steps.Printed.{printed_ranges, printed_term}
+use Rattle.tool_ranges.specs.Steps.Printed.{printed_ranges}
+use Rattle.tool_ranges.specs.TermComparators.{printed_term}
 use Rattle.tool_ranges.proofs.MatchedEvents.{some_ranges}
-use Rattle.tool_ranges.proofs.PrintedCells.{cargo_term, npm_term}
-use Rattle.tool_ranges.proofs.ToolRows.{npm_table}
+use Rattle.tool_ranges.proofs.PrintableSets.{npm_table}
 
 -- ---- events
 module _ (written : Simple → List PlainComparator) (mode : Compat) where
@@ -66,22 +61,10 @@ printed_events low d mode t tree h =
     ∙ ap (λ rs. ranges_by (printed_term low d) mode [] (events_in rs)) (sym some.2)
 
 -- ---- npm
-npm_range : (r : RangeTree)
-    → range_of_simples (printed_term Stated Npm) mode.Npm (yielded Stated r) ≡ record { comparators = range_by (written_in mode.Npm) r; compat = mode.Npm }
-npm_range r = (λ i. range_of_simples (λ s. npm_term s i) mode.Npm (yielded Stated r)) ∙ range_made npm_table mode.Npm r
+npm_range : (r : RangeTree) → range_of_simples (printed_term Stated Npm) mode.Npm (yielded Stated r)
+    ≡ record { comparators = range_by (printed_term Stated Npm) r; compat = mode.Npm }
+npm_range r = range_made npm_table mode.Npm r
 
 pub npm_ranges : (tree : SetTree) → printed_ranges Stated Npm mode.Npm tree ≡ (rewritten_npm tree).ranges
 npm_ranges [] = refl
 npm_ranges (r ∷ others) = λ i. npm_range r i ∷ npm_ranges others i
-
--- ---- Cargo
-pub requirement_printed : (tree : List Simple) (t : Text) → SpellsComparators tree t
-    → flat_map (printed_term Stated Cargo) (map as_read tree) ≡ flat_map written_one tree
-requirement_printed [] t h = absurd h
-requirement_printed (s ∷ []) t h = ap (λ cs. cs ++ []) (cargo_term s h.is_read)
-requirement_printed (s ∷ next ∷ others) t (front, back, h, more, text) =
-    λ i. cargo_term s h.is_read i ++ requirement_printed (next ∷ others) back more i
-
-pub requirement_ranges : (tree : List Simple) (t : Text) → SpellsComparators tree t
-    → printed_ranges Stated Cargo mode.Cargo tree ≡ (rewritten_requirement tree).ranges
-requirement_ranges tree t h = ap (λ cs. record { comparators = cs; compat = mode.Cargo } ∷ []) (requirement_printed tree t h)

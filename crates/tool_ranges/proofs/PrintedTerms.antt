@@ -17,17 +17,17 @@ use Rattle.semver_ranges.specs.RewritingTable.{PlainComparator, comparator}
 use Rattle.semver_ranges.specs.Partials.{stated, zero_filled}
 use Rattle.semver_ranges.specs.Steps.CursorViews.{IsSimpleOf, form_of}
 use Rattle.semver_ranges.specs.Steps.PartialViews.{stated_of, version_of}
-use Rattle.version_sets.specs.Steps.Cuts.{SideValue}
+use Rattle.version_sets.specs.Sides.{SideValue}
 use Rattle.tool_ranges.specs.declared.dialect.Dialect.{Dialect}
 use Rattle.tool_ranges.specs.declared.dialect.Dialect.TheVariants.{Cargo, Npm, CrateCargo, CrateNpm}
-use Rattle.tool_ranges.specs.FittingTerms.{term_fits}
-use Rattle.tool_ranges.specs.Steps.Printed.{at_side, lower_comparator, printed, printed_term, upper_comparator}
+use Rattle.tool_ranges.specs.Sides.{term_fits}
+use Rattle.tool_ranges.specs.TermComparators.{at_side, lower_comparator, printed, printed_term, upper_comparator}
 use Rattle.tool_ranges.specs.DialectTable.{limit}
-use Rattle.tool_ranges.specs.Steps.Table.{ends_past, may_rise, sides}
+use Rattle.tool_ranges.specs.Sides.{ends_past, may_rise, sides}
 use Rattle.tool_ranges.proofs.FitCells.{read_fits, term_stated}
 use Rattle.tool_ranges.proofs.TableLaws.{rises_too}
 
-within_limit : (d : Dialect) (o : Option SideValue) (v : PlainVersion) → may_rise (limit d) o (numbers v) ≡ true
+pub within_limit : (d : Dialect) (o : Option SideValue) (v : PlainVersion) → may_rise (limit d) o (numbers v) ≡ true
     → may_rise (2 ^ 64 - 1) o (numbers v) ≡ true
 within_limit Npm o v e = rises_too o v e
 within_limit Cargo o v e = e

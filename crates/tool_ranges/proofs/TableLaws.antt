@@ -5,9 +5,11 @@ use Rattle.semver_texts.specs.Digits.{plain_by}
 use Rattle.semver_texts.specs.Texts.{is_empty}
 use Rattle.semver_texts.specs.Versions.{numbers, PlainVersion}
 use Rattle.semver_texts.specs.declared.grammar.Digits.{Digits}
-use Rattle.version_sets.specs.Steps.Cuts.{SideValue, below, at, past, above, is_between}
+use Rattle.version_sets.specs.Sides.{SideValue, below, at, past, above}
+use Rattle.version_sets.specs.Steps.Cuts.{is_between}
 use Rattle.version_sets.proofs.DigitLaws.{by_empty}
-use Rattle.tool_ranges.specs.Steps.Table.{is_between_releases, may_rise}
+use Rattle.tool_ranges.specs.Steps.Table.{is_between_releases}
+use Rattle.tool_ranges.specs.Sides.{may_rise}
 
 module _ (all : Bool → Option SideValue × Option SideValue) (p : PlainVersion) (digits : Digits) where
   same_pre : (not (is_empty p.pre)) ≡ not (is_empty (plain_by digits p).pre)

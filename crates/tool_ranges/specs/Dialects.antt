@@ -1,6 +1,7 @@
 -- The dialects of range texts: their trees, which texts are invalid, and the comparators that a
 -- text is rewritten to.
 use Rattle.std.specs.Prelude.{◌≡◌, Bool, false, List, IsTrue, Result}
+use Rattle.std.specs.List.{list_all}
 use Rattle.semver_ranges.specs.declared.range_set.RangeError.{RangeError}
 use Rattle.semver_texts.specs.Texts.{Text}
 use Rattle.semver_texts.specs.Versions.{PlainVersion}
@@ -11,18 +12,18 @@ use Rattle.semver_ranges.specs.declared.range.Compat.TheVariants as compat
 use Rattle.semver_ranges.specs.OwnMeaning.{meets_tree}
 use Rattle.semver_ranges.specs.RangeTree.{SetTree, Simple, Spells}
 use Rattle.semver_ranges.specs.RangeTexts.{Refuses}
-use Rattle.semver_ranges.specs.RewritingTable.{PlainSet, fits}
+use Rattle.semver_ranges.specs.RewritingTable.{PlainSet, fits, fits_by}
 use Rattle.semver_ranges.specs.ExactBounds.{rewritten_exactly}
 use Rattle.version_sets.specs.declared.rules.PreReleases.TheVariants.{Default}
 use Rattle.tool_ranges.specs.declared.dialect.Dialect.{Dialect}
 use Rattle.tool_ranges.specs.declared.dialect.Dialect.TheVariants.{Cargo, Npm, CrateCargo}
 use Rattle.tool_ranges.specs.declared.dialect.Dialect.TheVariants.{CrateNpm}
 use Rattle.tool_ranges.specs.CargoGrammar.{SpellsRequirement}
-use Rattle.tool_ranges.specs.CargoMeaning.{meets_requirement}
-use Rattle.tool_ranges.specs.CargoTable.{requirement_fits, rewritten_requirement}
+use Rattle.tool_ranges.specs.CargoMeaning.{as_read, meets_requirement}
 use Rattle.tool_ranges.specs.NpmGrammar.{SpellsNpmRange}
 use Rattle.tool_ranges.specs.NpmMeaning.{meets_npm}
-use Rattle.tool_ranges.specs.NpmTable.{npm_fits, rewritten_npm}
+use Rattle.tool_ranges.specs.Rewritten.{rewritten_npm, rewritten_requirement}
+use Rattle.tool_ranges.specs.Sides.{term_fits}
 
 -- the trees that texts of a dialect have
 abbrev pub TreeOf : Dialect → Type 0
@@ -41,8 +42,8 @@ SpellsAs CrateNpm tree t = Spells tree t
 -- whether the numbers that a tree states, and those of its raised bounds, are at most 2^64 - 1, or
 -- at most 2^53 - 1 in npm's dialect
 abbrev pub fits_as : (dialect : Dialect) → TreeOf dialect → Bool
-fits_as Cargo tree = requirement_fits tree
-fits_as Npm tree = npm_fits tree
+fits_as Cargo tree = list_all (λ s. term_fits Cargo (as_read s)) tree
+fits_as Npm tree = fits_by (term_fits Npm) tree
 fits_as CrateCargo tree = fits compat.Cargo tree
 fits_as CrateNpm tree = fits compat.Npm tree
 

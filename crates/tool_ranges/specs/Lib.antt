@@ -1,12 +1,11 @@
 pub mod CargoGrammar
 pub mod CargoMeaning
 pub mod AnySize
-pub mod CargoTable
-pub mod ToolTable
 pub mod NpmGrammar
 pub mod NpmMeaning
-pub mod NpmTable
-pub mod IncludedTable
+pub mod Sides
+pub mod TermComparators
+pub mod Rewritten
 pub mod Steps
 pub mod Dialects
 pub mod FittingTerms

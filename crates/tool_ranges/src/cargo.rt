@@ -12,12 +12,13 @@ ghost use Rattle.semver_ranges.specs.RewritingTable.{fits, rewritten};
 ghost use Rattle.version_sets.specs.declared.rules.PreReleases.TheVariants.{Default};
 ghost use Rattle.tool_ranges.specs.CargoGrammar.{SpellsRequirement};
 ghost use Rattle.tool_ranges.specs.CargoMeaning.{meets_requirement};
-ghost use Rattle.tool_ranges.specs.CargoTable.{rewritten_requirement};
+ghost use Rattle.tool_ranges.specs.Rewritten.{rewritten_requirement};
 ghost use Rattle.tool_ranges.specs.Dialects.{RefusesAs};
-ghost use Rattle.tool_ranges.specs.ToolTable.{fits_in};
+ghost use Rattle.tool_ranges.specs.Sides.{term_fits};
 ghost use Rattle.tool_ranges.specs.declared.dialect.Dialect.TheVariants as dialect;
 ghost use Rattle.tool_ranges.specs.Steps.CargoReading.{in_one_range};
-ghost use Rattle.tool_ranges.specs.Steps.Printed.{IsPrintedAs, printed_term};
+ghost use Rattle.tool_ranges.specs.Steps.Printed.{IsPrintedAs};
+ghost use Rattle.tool_ranges.specs.TermComparators.{printed_term};
 ghost use Rattle.semver_ranges.specs.Steps.CursorViews.{IsSimpleOf};
 
 mod grammar;
@@ -103,7 +104,7 @@ fn rewritten(alloc: Global, requirement: &str) -> Result<RangeSet, RangeError>
 fn set_of_one(alloc: Global, simple: &Simple<'_>) -> Result<RangeSet, AllocError>
     requires { (s : SimpleTree) × IsSimpleOf s simple.now }
     ensures { IfOk result (λ set. (s : SimpleTree) → IsSimpleOf s simple.now
-        → fits_in Cargo s ≡ true
+        → term_fits dialect.Cargo s ≡ true
         → set_of set ≡ in_one_range (printed_term Stated dialect.Cargo s)) }
 {
     let mut comparator_set = Vec::with_capacity(alloc, 2)?;

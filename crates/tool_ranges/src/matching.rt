@@ -12,13 +12,12 @@ ghost use Rattle.version_sets.specs.PreReleaseRules.{numbers_fit};
 ghost use Rattle.version_sets.specs.Steps.Cuts.{is_in_interval};
 ghost use Rattle.tool_ranges.specs.Dialects.{RefusesAs, SpellsAs, TreeOf, grammar_of};
 ghost use Rattle.tool_ranges.specs.Meanings.{meant_by};
-ghost use Rattle.tool_ranges.specs.FittingTerms.{first_unraised, fitting, stating};
-ghost use Rattle.tool_ranges.specs.FittingTerms.{term_fits, terms_as};
+ghost use Rattle.tool_ranges.specs.FittingTerms.{first_unraised, fitting, stating, terms_as};
+ghost use Rattle.tool_ranges.specs.Sides.{term_fits, sides_fit};
 ghost use Rattle.tool_ranges.specs.Steps.Matching.{Says, begun, counts, ended, lower_of, plain_of};
-ghost use Rattle.tool_ranges.specs.Steps.Matching.{said, states_at, taken, takes_all};
-ghost use Rattle.tool_ranges.specs.Steps.Matching.{term_met};
+ghost use Rattle.tool_ranges.specs.Steps.Matching.{said, states_at, taken, takes_all, term_met};
 ghost use Rattle.tool_ranges.specs.Steps.Reading.{IsRead, IsRefusedAs};
-ghost use Rattle.tool_ranges.specs.Steps.Table.{is_counted_within, is_within, sides_fit};
+ghost use Rattle.tool_ranges.specs.Steps.Table.{is_counted_within, is_within};
 ghost use Rattle.tool_ranges.specs.NpmMeaning.{asks_nothing_by, is_zero};
 
 use crate::cursor::Cursor;

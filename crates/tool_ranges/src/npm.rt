@@ -12,10 +12,9 @@ ghost use Rattle.semver_ranges.specs.PrintedRanges.{IsPrintableSet, set_text};
 ghost use Rattle.semver_ranges.specs.RewritingTable.{fits, rewritten};
 ghost use Rattle.version_sets.specs.declared.rules.PreReleases.TheVariants.{Default, Included};
 ghost use Rattle.tool_ranges.specs.AnySize.{set_any};
-ghost use Rattle.tool_ranges.specs.IncludedTable.{rewritten_included};
+ghost use Rattle.tool_ranges.specs.Rewritten.{rewritten_included, rewritten_npm};
 ghost use Rattle.tool_ranges.specs.NpmGrammar.{may_stand, SpellsNpmRange};
 ghost use Rattle.tool_ranges.specs.NpmMeaning.{meets_npm};
-ghost use Rattle.tool_ranges.specs.NpmTable.{rewritten_npm};
 ghost use Rattle.tool_ranges.specs.Dialects.{RefusesAs};
 ghost use Rattle.tool_ranges.specs.declared.dialect.Dialect.TheVariants as dialect;
 

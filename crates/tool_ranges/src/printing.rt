@@ -11,10 +11,10 @@ ghost use Rattle.semver_ranges.specs.Steps.PartialViews.{PartsPass, version_of};
 ghost use Rattle.version_sets.specs.Releases.{release_value};
 ghost use Rattle.version_sets.specs.Steps.Cuts.{side_value};
 ghost use Rattle.tool_ranges.specs.Dialects.{HasSetAs, RefusesAs, SpellsAs, TreeOf};
-ghost use Rattle.tool_ranges.specs.FittingTerms.{term_fits};
-ghost use Rattle.tool_ranges.specs.Steps.Printed.{IsPrintedAs, lower_comparator};
-ghost use Rattle.tool_ranges.specs.Steps.Printed.{printed_ranges, printed_term, upper_comparator};
-ghost use Rattle.tool_ranges.specs.Steps.Table.{may_rise};
+ghost use Rattle.tool_ranges.specs.Sides.{term_fits, may_rise};
+ghost use Rattle.tool_ranges.specs.Steps.Printed.{IsPrintedAs, printed_ranges};
+ghost use Rattle.tool_ranges.specs.TermComparators.{lower_comparator, printed_term};
+ghost use Rattle.tool_ranges.specs.TermComparators.{upper_comparator};
 
 use crate::cursor::Cursor;
 use crate::dialect::Dialect;

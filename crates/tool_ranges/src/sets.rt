@@ -1,6 +1,7 @@
 //! A range string as the set of the versions that satisfy it.
 
-ghost use Rattle.std.specs.Prelude.{◌≡◌, ◌≢◌, true, Err, IfOk, Bool, if◌then◌else◌, not};
+ghost use Rattle.std.specs.Prelude.{◌≡◌, ◌≢◌, true, Err, IfOk, Bool, if◌then◌else◌, not, ◌&&◌};
+ghost use Rattle.std.specs.Prelude.{◌||◌};
 ghost use Rattle.semver_texts.specs.Digits.{digits_in};
 ghost use Rattle.semver_texts.specs.Texts.{is_empty};
 ghost use Rattle.semver_texts.specs.Versions.{PlainVersion, VersionValue, without_build};
@@ -14,9 +15,8 @@ ghost use Rattle.tool_ranges.specs.Meanings.{MeansBy, meant_by};
 ghost use Rattle.tool_ranges.specs.Steps.Building.{is_one_of, known, Prints};
 ghost use Rattle.tool_ranges.specs.Steps.Matching.{begun, counts, ended, said, taken, takes_all};
 ghost use Rattle.tool_ranges.specs.Steps.Matching.{states_at, takes_releases};
-ghost use Rattle.tool_ranges.specs.FittingTerms.{term_fits};
+ghost use Rattle.tool_ranges.specs.Sides.{term_fits};
 ghost use Rattle.std.specs.List.{list_any};
-ghost use Rattle.std.specs.Prelude.{◌&&◌, ◌||◌};
 ghost use Rattle.version_sets.specs.Steps.Ends.{each_prints, has_numbers, in_each, in_ranges};
 ghost use Rattle.version_sets.specs.Steps.Ends.{ranges_print};
 

@@ -19,17 +19,16 @@ ghost use Rattle.semver_ranges.specs.Steps.PartialViews.{version_of};
 ghost use Rattle.version_sets.specs.Steps.Cuts.{beside_kept, is_in_interval, side_value};
 ghost use Rattle.version_sets.specs.Steps.Cuts.{is_above_lower, is_above_upper, is_past_lower};
 ghost use Rattle.version_sets.specs.Steps.Cuts.{is_past_upper, is_between};
-ghost use Rattle.version_sets.specs.Steps.Cuts.{above};
+ghost use Rattle.version_sets.specs.Sides.{above};
 ghost use Rattle.version_sets.specs.Releases.{release_value};
 ghost use Rattle.tool_ranges.specs.declared.dialect.Dialect.TheVariants.{Cargo, Npm};
 ghost use Rattle.tool_ranges.specs.NpmMeaning.{is_zero};
-ghost use Rattle.tool_ranges.specs.Steps.Table.{block_begins, sides, sides_of_nothing, is_within};
-ghost use Rattle.tool_ranges.specs.Steps.Table.{cargo_sides, is_counted_within, is_past_release};
-ghost use Rattle.tool_ranges.specs.Steps.Table.{sides_beside};
+ghost use Rattle.tool_ranges.specs.Sides.{block_begins, sides, sides_of_nothing, term_fits};
+ghost use Rattle.tool_ranges.specs.Sides.{ends_past, may_rise, raised_for, raised_place, sides_fit};
+ghost use Rattle.tool_ranges.specs.Steps.Table.{is_within, cargo_sides, is_counted_within};
+ghost use Rattle.tool_ranges.specs.Steps.Table.{is_past_release, sides_beside};
 ghost use Rattle.tool_ranges.specs.DialectTable.{limit};
-ghost use Rattle.tool_ranges.specs.FittingTerms.{term_fits, unraised};
-ghost use Rattle.tool_ranges.specs.Steps.Table.{ends_past, may_rise, raised_for, raised_place};
-ghost use Rattle.tool_ranges.specs.Steps.Table.{sides_fit};
+ghost use Rattle.tool_ranges.specs.FittingTerms.{unraised};
 
 use crate::dialect::Dialect;
 use semver_ranges::grammar::{Form, Simple};
@@ -249,11 +248,10 @@ pub(crate) fn fits(simple: &Simple<'_>, dialect: Dialect) -> bool
     partial.states_at_most(most) & may_rise(partial, lower, most) & may_rise(partial, upper, most)
 }
 
-/// Returns the index of the number of a term that is raised and can't be, if the term doesn't fit
-/// because of that number. If one of its own numbers is above the limit, it returns 0.
+/// Returns the index of the number of a term that is raised for one of its sides. If one of its own
+/// numbers is above the limit, it returns 0.
 pub(crate) fn unraised(simple: &Simple<'_>, dialect: Dialect) -> usize
-    ensures { (s : SimpleTree) → IsSimpleOf s simple.now → term_fits dialect s ≡ false
-        → result ≡ unraised dialect s }
+    ensures { (s : SimpleTree) → IsSimpleOf s simple.now → result ≡ unraised dialect s }
 {
     if !simple.partial.states_at_most(limit(dialect)) {
         return 0;

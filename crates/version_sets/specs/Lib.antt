@@ -7,4 +7,5 @@ pub mod PreReleaseTable
 pub mod SetRanges
 pub mod DigitViews
 pub mod Printable
+pub mod Sides
 pub mod Steps

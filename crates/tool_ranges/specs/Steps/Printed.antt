@@ -1,63 +1,15 @@
--- A means of proof, which no public clause cites: the comparators that are printed for a range.
--- They are found from the sides of each term's zero-filled version between which the versions of
--- that term are.
-use Rattle.std.specs.Prelude.{◌≡◌, ◌++◌, ◌&&◌, List, [], ◌∷◌, map, not, Option, Some, None}
-use Rattle.std.specs.Prelude.{if◌then◌else◌, is_some}
-use Rattle.semver_texts.specs.Texts.{Text, is_empty}
-use Rattle.semver_texts.specs.Versions.{numbers, PlainVersion}
+-- A means of proof, which no public clause cites: the comparators that are printed for the ranges of
+-- a text.
+use Rattle.std.specs.Prelude.{◌≡◌, List, map}
+use Rattle.semver_texts.specs.Texts.{Text}
 use Rattle.semver_ranges.specs.declared.partial.LowerBounds.{LowerBounds}
-use Rattle.semver_ranges.specs.declared.partial.LowerBounds.TheVariants.{Stated, Lowest}
 use Rattle.semver_ranges.specs.declared.range.Compat.{Compat}
-use Rattle.semver_ranges.specs.declared.range.Op.TheVariants.{Lt, Lte, Gt, Gte, Eq}
-use Rattle.semver_ranges.specs.RangeTree.{Simple}
-use Rattle.semver_ranges.specs.Partials.{stated, zero_filled}
-use Rattle.semver_ranges.specs.ExactBounds.{exact_bound}
-use Rattle.semver_ranges.specs.RewritingTable.{PlainComparator, PlainRange, PlainSet}
-use Rattle.semver_ranges.specs.RewritingTable.{comparator, up}
+use Rattle.semver_ranges.specs.RewritingTable.{PlainRange, PlainSet}
 use Rattle.semver_ranges.specs.Steps.DesugaredViews.{range_of_simples}
-use Rattle.version_sets.specs.Steps.Cuts.{SideValue, below, at, past, above}
 use Rattle.tool_ranges.specs.declared.dialect.Dialect.{Dialect}
 use Rattle.tool_ranges.specs.Dialects.{SpellsAs, TreeOf}
+use Rattle.tool_ranges.specs.TermComparators.{printed_term}
 use Rattle.tool_ranges.specs.Steps.Cursors.{ranges_of}
-use Rattle.tool_ranges.specs.Steps.Table.{ends_past, sides}
-
--- the comparator of a lower side
-abbrev pub lower_comparator : LowerBounds → SideValue → PlainVersion → PlainComparator
-lower_comparator Stated (above k) z = comparator Gte (up k (numbers z))
-lower_comparator Lowest (above k) z = comparator Gte (exact_bound (up k (numbers z)))
-lower_comparator Stated below z = comparator Gte z
-lower_comparator Lowest below z = comparator Gte (exact_bound z)
-lower_comparator lower past z = comparator Gt z
-lower_comparator lower at z = comparator Gte z
-
--- the comparator of an upper side
-abbrev pub upper_comparator : SideValue → PlainVersion → PlainComparator
-upper_comparator (above k) z = comparator Lt (exact_bound (up k (numbers z)))
-upper_comparator past z = comparator Lte z
-upper_comparator at z = comparator Lt z
-upper_comparator below z = comparator Lt (exact_bound z)
-
--- the comparator of a side, if there is one
-abbrev pub at_side : (SideValue → PlainVersion → PlainComparator) → Option SideValue → PlainVersion
-    → List PlainComparator
-at_side comparator_of None z = []
-at_side comparator_of (Some side) z = comparator_of side z ∷ []
-
--- the comparators of two sides. If there is a lower side, and the upper one is directly above the
--- version, only the version is between them
-abbrev pub printed : LowerBounds → Option SideValue → Option SideValue → PlainVersion
-    → List PlainComparator
-printed lower first last z =
-    if is_some first && ends_past last then comparator Eq z ∷ []
-    else at_side (lower_comparator lower) first z ++ at_side upper_comparator last z
-
--- the comparators of a term
-abbrev pub printed_term : LowerBounds → Dialect → Simple → List PlainComparator
-printed_term lower dialect s =
-    printed lower
-    (sides dialect s.form (stated s.partial) (not (is_empty (zero_filled s.partial).pre))).0
-    (sides dialect s.form (stated s.partial) (not (is_empty (zero_filled s.partial).pre))).1
-    (zero_filled s.partial)
 
 -- the comparators of the ranges of a tree
 abbrev pub printed_ranges : LowerBounds → (dialect : Dialect) → Compat → TreeOf dialect

@@ -13,16 +13,9 @@ use Rattle.semver_ranges.specs.Partials.{kept}
 use Rattle.semver_ranges.specs.Steps.PartialViews.{place_number}
 use Rattle.version_sets.specs.declared.cut.Cut.{Cut}
 use Rattle.version_sets.specs.declared.cut.Interval.{Interval}
+use Rattle.version_sets.specs.Sides.{SideValue, below, at, past, above}
 use Rattle.version_sets.specs.declared.cut.Side.{Side}
 use Rattle.version_sets.specs.declared.cut.Side.TheVariants.{Below, At, Past, Above}
-
--- the sides of a version: below every version with its three numbers, directly below it, directly
--- above it, and above every version with its first n numbers
-pub data SideValue : Type 0 where
-  below : SideValue
-  at : SideValue
-  past : SideValue
-  above : ℕ → SideValue
 
 abbrev pub side_value : Side → SideValue
 side_value Below = below

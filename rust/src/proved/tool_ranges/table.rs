@@ -158,8 +158,8 @@ pub(crate) fn fits(simple: &Simple<'_>, dialect: Dialect) -> bool {
     partial.states_at_most(most) & may_rise(partial, lower, most) & may_rise(partial, upper, most)
 }
 
-/// Returns the index of the number of a term that is raised and can't be, if the term doesn't fit
-/// because of that number. If one of its own numbers is above the limit, it returns 0.
+/// Returns the index of the number of a term that is raised for one of its sides. If one of its own
+/// numbers is above the limit, it returns 0.
 pub(crate) fn unraised(simple: &Simple<'_>, dialect: Dialect) -> usize {
     if !simple.partial.states_at_most(limit(dialect)) {
         return 0;

@@ -1,5 +1,5 @@
 use Rattle.semver_parser.specs.RangeViews.{set_of}
-use Rattle.tool_ranges.specs.NpmTable.{rewritten_npm}
+use Rattle.tool_ranges.specs.Rewritten.{rewritten_npm}
 use Rattle.result_laws.proofs.OneResult.{one_rewritten}
 use Rattle.result_laws.proofs.ranges.one_npm_rewrite.Goals as goal
 

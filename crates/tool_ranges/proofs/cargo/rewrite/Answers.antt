@@ -1,4 +1,4 @@
-use Rattle.std.proofs.Common.{◌≡◌, ap, sym, ◌∙◌, subst, List, []}
+use Rattle.std.proofs.Common.{◌≡◌, ap, sym, subst, List, []}
 use Rattle.std.specs.Prelude.{IfOk, IsTrue, Result, Ok, Err}
 use Rattle.semver_texts.specs.Texts.{Text}
 use Rattle.semver_texts.specs.Versions.{PlainVersion}
@@ -14,13 +14,12 @@ use Rattle.semver_ranges.specs.RewritingTable.{PlainSet, fits, rewritten}
 use Rattle.version_sets.specs.declared.rules.PreReleases.TheVariants.{Default}
 use Rattle.tool_ranges.specs.CargoGrammar.{SpellsRequirement}
 use Rattle.tool_ranges.specs.CargoMeaning.{meets_requirement}
-use Rattle.tool_ranges.specs.CargoTable.{rewritten_requirement}
+use Rattle.tool_ranges.specs.Rewritten.{rewritten_requirement}
 use Rattle.tool_ranges.specs.Dialects.{HasSetAs}
 use Rattle.tool_ranges.specs.declared.dialect.Dialect.TheVariants as dialect
 use Rattle.tool_ranges.specs.Steps.Printed.{IsPrintedAs}
-use Rattle.tool_ranges.proofs.PrintedSets.{requirement_ranges}
-use Rattle.tool_ranges.proofs.ReadMeanings.{requirement_meets}
-use Rattle.tool_ranges.proofs.RequirementPrinted.{requirement_printable, reads_back}
+use Rattle.tool_ranges.proofs.PrintableSets.{requirement_printable, reads_back}
+use Rattle.tool_ranges.proofs.PrintedMeanings.{cargo_meets}
 use Rattle.tool_ranges.proofs.cargo.rewrite.Goals as goal
 
 module _ (t : Text) where
@@ -29,7 +28,7 @@ module _ (t : Text) where
 
   spelled : (set : PlainSet) → IsPrintedAs Stated dialect.Cargo Cargo t set → (tree : List Simple) → SpellsRequirement tree t
       → set ≡ rewritten_requirement tree
-  spelled set is tree h = is tree h ∙ ap (λ ranges. record { ranges = ranges; compat = Cargo }) (requirement_ranges tree t h.comparators)
+  spelled set is tree h = is tree h
 
   as_rewritten : (r : Result RangeSet RangeError) → Printed r
       → IfOk r (λ set. (tree : List Simple) → SpellsRequirement tree t → set_of set ≡ rewritten_requirement tree)
@@ -38,8 +37,7 @@ module _ (t : Text) where
 
   releases : (r : Result RangeSet RangeError) → Printed r → IfOk r (λ set. (tree : List Simple) (v : PlainVersion)
       → SpellsRequirement tree t → v.pre ≡ [] → meets_set v (set_of set) ≡ meets_requirement Default tree v)
-  releases (Ok set) is = λ tree v h release.
-      ap (meets_set v) (spelled (set_of set) is tree h) ∙ requirement_meets v tree t release h.comparators
+  releases (Ok set) is = λ tree v h release. cargo_meets v release tree (set_of set) (is tree h)
   releases (Err e) is = tt
 
   one_printable : (set : PlainSet) → HasSetAs dialect.Cargo t → IsPrintedAs Stated dialect.Cargo Cargo t set → IsPrintableSet set

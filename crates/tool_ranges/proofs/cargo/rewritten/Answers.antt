@@ -8,13 +8,14 @@ use Rattle.semver_ranges.specs.RangeTree.{Simple}
 use Rattle.semver_ranges.specs.RewritingTable.{PlainSet}
 use Rattle.semver_ranges.specs.Steps.CursorViews.{IsSimpleOf, form_of}
 use Rattle.semver_ranges.specs.Steps.PartialViews.{stated_of, version_of}
-use Rattle.tool_ranges.specs.Steps.Table.{sides_fit}
+use Rattle.tool_ranges.specs.Sides.{sides_fit}
 use Rattle.tool_ranges.specs.declared.dialect.Dialect.TheVariants.{Cargo}
 use Rattle.tool_ranges.specs.CargoMeaning.{as_read}
-use Rattle.tool_ranges.specs.ToolTable.{fits_in}
+use Rattle.tool_ranges.specs.Sides.{term_fits}
 use Rattle.tool_ranges.specs.Steps.CargoReading.{after_comma, comparator_at, in_one_range}
 use Rattle.tool_ranges.specs.Steps.Cursors.{read_as}
-use Rattle.tool_ranges.specs.Steps.Printed.{IsPrintedAs, printed_ranges, printed_term}
+use Rattle.tool_ranges.specs.Steps.Printed.{IsPrintedAs, printed_ranges}
+use Rattle.tool_ranges.specs.TermComparators.{printed_term}
 use Rattle.tool_ranges.proofs.FitCells.{read_fits}
 use Rattle.tool_ranges.proofs.ReadTrees.{answered_as, out_of_memory_as, refused_as, same_read}
 use Rattle.tool_ranges.proofs.cargo.rewritten.Goals as goal
@@ -42,7 +43,7 @@ one c =
 
 fits_so : (t : Text) (simple : read.Simple) (here : One t simple) (f b : Bool)
     → f ≡ (simple.partial.fits && sides_fit Cargo (form_of simple.form) (stated_of simple.partial) (version_of simple.partial)) → f ≡ b
-    → fits_in mode.Cargo (as_read here.s) ≡ b
+    → term_fits Cargo (as_read here.s) ≡ b
 fits_so t simple here f b is e = sym (read_fits (as_read here.s) simple here.is Cargo) ∙ sym is ∙ e
 
 pub returns-then-not-fits-clause-refusals : goal.returns-then-not-fits-clause-refusals

@@ -3,7 +3,7 @@ use Rattle.semver_ranges.specs.Steps.RangeEvents.{Event}
 use Rattle.semver_ranges.proofs.StatedNumbers.{states_kind}
 use Rattle.tool_ranges.specs.Dialects.{SpellsAs, TreeOf, grammar_of}
 use Rattle.tool_ranges.specs.Steps.Cursors.{GivesNext, HasLeftIn}
-use Rattle.tool_ranges.specs.FittingTerms.{term_fits}
+use Rattle.tool_ranges.specs.Sides.{term_fits}
 use Rattle.tool_ranges.proofs.FitCells.{read_fits}
 use Rattle.tool_ranges.proofs.MatchedEvents.{FirstTerm, first_term}
 use Rattle.tool_ranges.proofs.ReadTrees.{complete_as}
@@ -51,7 +51,7 @@ returns-then-not-fits c =
     unfit in
     record {
       fitting = λ tree spelled. sym (ends _ _ (text_terms d tree c.args.range.now spelled)).0;
-      unraised = λ tree spelled. c.unraised.ensures here.s here.is unfit ∙ (ends _ _ (text_terms d tree c.args.range.now spelled)).1;
+      unraised = λ tree spelled. c.unraised.ensures here.s here.is ∙ (ends _ _ (text_terms d tree c.args.range.now spelled)).1;
     }
 
 pub loop-event-preserved-then-not-states_nothing : goal.loop-event-preserved-then-not-states_nothing

@@ -16,14 +16,13 @@ use Rattle.semver_ranges.proofs.AnsweredLaws.{set_printable}
 use Rattle.version_sets.specs.declared.rules.PreReleases.TheVariants.{Default}
 use Rattle.tool_ranges.specs.NpmGrammar.{SpellsNpmRange}
 use Rattle.tool_ranges.specs.NpmMeaning.{meets_npm}
-use Rattle.tool_ranges.specs.NpmTable.{rewritten_npm}
+use Rattle.tool_ranges.specs.Rewritten.{rewritten_npm}
 use Rattle.tool_ranges.specs.Dialects.{HasSetAs}
 use Rattle.tool_ranges.specs.declared.dialect.Dialect.TheVariants as dialect
 use Rattle.tool_ranges.specs.Steps.Printed.{IsPrintedAs}
-use Rattle.tool_ranges.proofs.NpmMeanings.{npm_meets}
+use Rattle.tool_ranges.proofs.PrintableSets.{npm_prints, reads_back}
+use Rattle.tool_ranges.proofs.PrintedMeanings.{npm_meets}
 use Rattle.tool_ranges.proofs.PrintedSets.{npm_ranges}
-use Rattle.tool_ranges.proofs.RequirementPrinted.{reads_back}
-use Rattle.tool_ranges.proofs.ToolRows.{npm_prints}
 use Rattle.tool_ranges.proofs.npm.rewrite.Goals as goal
 
 module _ (t : Text) where
@@ -40,7 +39,7 @@ module _ (t : Text) where
 
   releases : (r : Result RangeSet RangeError) → Printed r → IfOk r (λ set. (tree : SetTree) (v : PlainVersion)
       → SpellsNpmRange tree t → v.pre ≡ [] → meets_set v (set_of set) ≡ meets_npm Default tree v)
-  releases (Ok set) is = λ tree v h release. ap (meets_set v) (spelled (set_of set) is tree h) ∙ npm_meets v release tree
+  releases (Ok set) is = λ tree v h release. npm_meets v release tree (set_of set) (is tree h)
   releases (Err e) is = tt
 
   one_printable : (set : PlainSet) → HasSetAs dialect.Npm t → IsPrintedAs Stated dialect.Npm Npm t set → IsPrintableSet set

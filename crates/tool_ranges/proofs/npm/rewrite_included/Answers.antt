@@ -11,13 +11,13 @@ use Rattle.semver_ranges.specs.RangeTree.{SetTree}
 use Rattle.semver_ranges.specs.RangeViews.{set_of}
 use Rattle.version_sets.specs.declared.rules.PreReleases.TheVariants.{Included}
 use Rattle.tool_ranges.specs.AnySize.{set_any}
-use Rattle.tool_ranges.specs.IncludedTable.{rewritten_included}
+use Rattle.tool_ranges.specs.Rewritten.{rewritten_included}
 use Rattle.tool_ranges.specs.NpmGrammar.{SpellsNpmRange}
 use Rattle.tool_ranges.specs.NpmMeaning.{meets_npm}
 use Rattle.tool_ranges.specs.declared.dialect.Dialect.TheVariants as dialect
 use Rattle.tool_ranges.specs.Steps.Printed.{IsPrintedAs}
-use Rattle.tool_ranges.proofs.IncludedCells.{included_ranges}
-use Rattle.tool_ranges.proofs.IncludedMeanings.{included_meets}
+use Rattle.tool_ranges.proofs.IncludedSets.{included_ranges}
+use Rattle.tool_ranges.proofs.PrintedMeanings.{included_meets}
 use Rattle.tool_ranges.proofs.npm.rewrite_included.Goals as goal
 
 module _ (t : Text) where

@@ -6,9 +6,9 @@ use Rattle.semver_ranges.specs.Steps.CursorViews.{IsSimpleOf}
 use Rattle.semver_ranges.specs.Steps.PartialViews.{version_of}
 use Rattle.version_sets.specs.declared.cut.Side.{Side}
 use Rattle.version_sets.specs.Steps.Cuts.{side_value}
-use Rattle.tool_ranges.specs.FittingTerms.{term_fits}
-use Rattle.tool_ranges.specs.Steps.Printed.{at_side, lower_comparator, printed_term, upper_comparator}
-use Rattle.tool_ranges.specs.Steps.Table.{ends_past}
+use Rattle.tool_ranges.specs.Sides.{term_fits}
+use Rattle.tool_ranges.specs.TermComparators.{at_side, lower_comparator, printed_term, upper_comparator}
+use Rattle.tool_ranges.specs.Sides.{ends_past}
 use Rattle.tool_ranges.proofs.PrintedTerms.{apart_sides, both_sides, lower_rises, printed_so, pushed, upper_rises}
 use Rattle.tool_ranges.proofs.printing.push.Goals as goal
 use Rattle.tool_ranges.proofs.printing.push.Goals.{Joined-first, in-Some+in_ok-lower_comparator+in_ok-push-2, in_default}

@@ -5,7 +5,8 @@ use Rattle.semver_ranges.specs.Steps.DesugaredViews.{ranges_by}
 use Rattle.semver_ranges.specs.Steps.RangeEvents.{Event}
 use Rattle.tool_ranges.specs.Dialects.{grammar_of}
 use Rattle.tool_ranges.specs.Steps.Cursors.{GivesNext, HasLeftIn, events_in, ranges_of}
-use Rattle.tool_ranges.specs.Steps.Printed.{printed_ranges, printed_term}
+use Rattle.tool_ranges.specs.Steps.Printed.{printed_ranges}
+use Rattle.tool_ranges.specs.TermComparators.{printed_term}
 use Rattle.tool_ranges.proofs.LeftEvents.{FirstFits, ended, first_fits, next_first}
 use Rattle.tool_ranges.proofs.MatchedEvents.{ranges_fit}
 use Rattle.tool_ranges.proofs.PrintedSets.{printed_events, range_ended, text_ended}

@@ -5,8 +5,9 @@ use Rattle.semver_ranges.specs.Steps.DesugaredViews.{ranges_by}
 use Rattle.semver_ranges.specs.Steps.RangeEvents.{Event, event_fits}
 use Rattle.tool_ranges.specs.Dialects.{SpellsAs, TreeOf, grammar_of}
 use Rattle.tool_ranges.specs.Steps.Cursors.{HasLeftIn, size_of}
-use Rattle.tool_ranges.specs.FittingTerms.{term_fits}
-use Rattle.tool_ranges.specs.Steps.Printed.{printed_ranges, printed_term}
+use Rattle.tool_ranges.specs.Sides.{term_fits}
+use Rattle.tool_ranges.specs.Steps.Printed.{printed_ranges}
+use Rattle.tool_ranges.specs.TermComparators.{printed_term}
 use Rattle.tool_ranges.proofs.printing.ranges.Given as goal
 
 abbrev pub invariant-loop-event : goal.invariant-loop-event

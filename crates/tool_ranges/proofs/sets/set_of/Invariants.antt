@@ -8,7 +8,7 @@ use Rattle.tool_ranges.specs.Dialects.{SpellsAs, TreeOf, grammar_of}
 use Rattle.tool_ranges.specs.Steps.Building.{known, Prints}
 use Rattle.tool_ranges.specs.Steps.Cursors.{HasLeftIn, events_in, ranges_of, size_of}
 use Rattle.tool_ranges.specs.Steps.Matching.{after, begun, counts, lower_of}
-use Rattle.tool_ranges.specs.FittingTerms.{term_fits}
+use Rattle.tool_ranges.specs.Sides.{term_fits}
 use Rattle.tool_ranges.proofs.sets.set_of.Given as goal
 
 abbrev pub invariant-loop-event : goal.invariant-loop-event

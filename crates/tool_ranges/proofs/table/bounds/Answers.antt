@@ -1,7 +1,7 @@
 use Rattle.std.proofs.Common.{◌∙◌}
 use Rattle.semver_ranges.specs.Steps.CursorViews.{form_of}
 use Rattle.semver_ranges.specs.Steps.PartialViews.{stated_of, version_of}
-use Rattle.tool_ranges.specs.Steps.Table.{sides}
+use Rattle.tool_ranges.specs.Sides.{sides}
 use Rattle.tool_ranges.proofs.TableLaws.{same_sides}
 use Rattle.tool_ranges.proofs.table.bounds.Goals as goal
 

@@ -4,7 +4,7 @@ use Rattle.semver_texts.specs.Versions.{numbers}
 use Rattle.semver_ranges.specs.Steps.CursorViews.{form_of}
 use Rattle.semver_ranges.specs.Steps.PartialViews.{stated_of, version_of}
 use Rattle.tool_ranges.specs.DialectTable.{limit}
-use Rattle.tool_ranges.specs.Steps.Table.{sides}
+use Rattle.tool_ranges.specs.Sides.{sides}
 use Rattle.tool_ranges.proofs.TableLaws.{fit_so}
 use Rattle.tool_ranges.proofs.table.fits.Goals as goal
 

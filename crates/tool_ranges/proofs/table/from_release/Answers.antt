@@ -9,7 +9,8 @@ use Rattle.semver_texts.specs.Versions.{numbers}
 use Rattle.semver_ranges.specs.Steps.CursorViews.{form_of}
 use Rattle.semver_ranges.specs.Steps.PartialViews.{stated_of, version_of}
 use Rattle.tool_ranges.specs.declared.dialect.Dialect.TheVariants.{Npm}
-use Rattle.tool_ranges.specs.Steps.Table.{is_past_release, may_rise, sides}
+use Rattle.tool_ranges.specs.Steps.Table.{is_past_release}
+use Rattle.tool_ranges.specs.Sides.{may_rise, sides}
 use Rattle.tool_ranges.proofs.TableLaws.{rises_too, same_releases}
 use Rattle.tool_ranges.proofs.table.from_release.Goals as goal
 

@@ -14,7 +14,7 @@ use Rattle.version_sets.specs.Steps.Cuts.{is_in_interval}
 use Rattle.version_sets.specs.Steps.Ends.{has_numbers, in_each, in_ranges}
 use Rattle.tool_ranges.specs.Dialects.{grammar_of}
 use Rattle.tool_ranges.specs.Steps.Matching.{counts, term_met}
-use Rattle.tool_ranges.specs.FittingTerms.{term_fits}
+use Rattle.tool_ranges.specs.Sides.{term_fits}
 use Rattle.tool_ranges.proofs.FitCells.{read_fits}
 use Rattle.tool_ranges.proofs.MatchedTerms.{each_kind, everything, stated_at}
 use Rattle.tool_ranges.proofs.sets.Building.push_term.Goals as goal

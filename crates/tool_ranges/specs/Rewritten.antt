@@ -1,0 +1,71 @@
+-- The plain comparators that a range text is rewritten to in Cargo's and npm's dialects: those of
+-- its terms.
+use Rattle.std.specs.Prelude.{if◌then◌else◌, List, [], ◌∷◌, ◌++◌, map}
+use Rattle.std.specs.List.{flat_map}
+use Rattle.semver_texts.specs.Texts.{is_empty}
+use Rattle.semver_ranges.specs.declared.partial.LowerBounds.TheVariants.{Stated, Lowest}
+use Rattle.semver_ranges.specs.declared.range.Compat.TheVariants.{Cargo, Npm}
+use Rattle.semver_ranges.specs.declared.range.Op.TheVariants.{Gte}
+use Rattle.semver_ranges.specs.ExactBounds.{exact_bound}
+use Rattle.semver_ranges.specs.Partials.{states_nothing, zero_filled, zero_version}
+use Rattle.semver_ranges.specs.RangeTree.{Simple, PartialTree, RangeTree, empty, hyphen, simples}
+use Rattle.semver_ranges.specs.RangeTree.{SetTree}
+use Rattle.semver_ranges.specs.RewritingTable.{PlainComparator, PlainSet, comparator, set_by}
+use Rattle.semver_ranges.specs.Terms.{right_side}
+use Rattle.tool_ranges.specs.declared.dialect.Dialect.TheVariants as dialect
+use Rattle.tool_ranges.specs.CargoMeaning.{as_read}
+use Rattle.tool_ranges.specs.TermComparators.{printed_term}
+
+-- ---- Cargo
+
+-- the set that a requirement is rewritten to: one range, in Cargo mode. It has the comparators of
+-- each term with the operator that Cargo reads
+abbrev pub rewritten_requirement : List Simple → PlainSet
+rewritten_requirement tree =
+    record {
+      ranges = record {
+        comparators = flat_map (printed_term Stated dialect.Cargo) (map as_read tree);
+        compat = Cargo;
+      }
+          ∷ [];
+      compat = Cargo;
+    }
+
+-- ---- npm
+
+-- the set that a text is rewritten to: its ranges in order, in npm mode. An empty range, a hyphen
+-- range without a number, and any other term that matches everything, is rewritten to `>=0.0.0`
+abbrev pub rewritten_npm : SetTree → PlainSet
+rewritten_npm tree = set_by (printed_term Stated dialect.Npm) Npm tree
+
+-- ---- npm, with node-semver's `includePrerelease`
+
+-- the comparators of a term. A lower bound that includes the pre-releases of its numbers is the
+-- lowest of these, such as `>=1.2.0-0`, so it is right for pre-releases, too
+abbrev pub included_simple : Simple → List PlainComparator
+included_simple s = printed_term Lowest dialect.Npm s
+
+-- the comparator of the left side of a hyphen range, which includes the pre-releases of its numbers
+-- unless it states a pre-release
+abbrev pub included_left : PartialTree → List PlainComparator
+included_left p =
+    if is_empty (zero_filled p).pre then comparator Gte (exact_bound (zero_filled p)) ∷ []
+    else comparator Gte (zero_filled p) ∷ []
+
+-- the comparators of a range: `>=0.0.0-0` if it is empty or both sides state nothing; if only one
+-- side states nothing, those of the other side
+abbrev pub included_range : RangeTree → List PlainComparator
+included_range empty = comparator Gte (exact_bound zero_version) ∷ []
+included_range (hyphen left right) =
+    if states_nothing right then included_left left
+    else (if states_nothing left then included_simple (right_side right)
+    else included_left left ++ included_simple (right_side right))
+included_range (simples first others) = flat_map included_simple (first ∷ others)
+
+-- the set that a text is rewritten to: its ranges in order, in npm mode
+abbrev pub rewritten_included : SetTree → PlainSet
+rewritten_included tree =
+    record {
+      ranges = map (λ r. record { comparators = included_range r; compat = Npm }) tree;
+      compat = Npm;
+    }
