@@ -16,7 +16,7 @@ use Rattle.version_sets.specs.Comparisons.{IsLowestOf, TellsLowest}
 use Rattle.version_sets.specs.Releases.{release_value}
 use Rattle.version_sets.specs.declared.Release.{Release}
 use Rattle.result_laws.specs.OneResult.{AreOne}
-use Rattle.result_laws.proofs.OneResult.{one_made, said}
+use Rattle.result_laws.proofs.OneResult.{one_made, of_ok}
 use Rattle.result_laws.proofs.SameSets.{plainly}
 
 -- the clauses of a call about the lowest version with K in a set: which it is, that it has no build
@@ -67,7 +67,7 @@ module _ (total : IsTotalOrder precedence) (exact : (v w : PlainVersion) → (pr
       → IfOk r (IsThat K set) → IfOk r HasNoBuild → IfOk r (IsNoneIfNone K set)
       → IfOk s (IsThat K set) → IfOk s HasNoBuild → IfOk s (IsNoneIfNone K set) → AreOne alloc_error (option_map version_value) r s
   one_call K set r s p b n p' b' n' = one_made (option_map version_value) r s (λ x y is is'. one_lowest _ x y
-      (lower_one K set x (said _ is p) (said _ is b) (said _ is n)) (lower_one K set y (said _ is' p') (said _ is' b') (said _ is' n')))
+      (lower_one K set x (of_ok _ is p) (of_ok _ is b) (of_ok _ is n)) (lower_one K set y (of_ok _ is' p') (of_ok _ is' b') (of_ok _ is' n')))
 
   pub one_lowest_release : (set : SetValue) (x y : Option Release) → IfSome x (λ r. IsLowest IsRelease set (release_value r))
       → (x ≡ None) ↔ HasNone IsRelease set → IfSome y (λ r. IsLowest IsRelease set (release_value r))

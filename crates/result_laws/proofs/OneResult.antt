@@ -7,8 +7,8 @@ use Rattle.semver_parser.specs.RangeTexts.{Refuses}
 use Rattle.result_laws.specs.OneResult.{AreOne, itself, seen}
 
 -- a clause about the value of a result holds for that value
-pub said : {A E : Type 0} (P : A → Type 0) {r : Result A E} {a : A} → r ≡ Ok a → IfOk r P → P a
-said P is h = subst (λ r. IfOk r P) is h
+pub of_ok : {A E : Type 0} (P : A → Type 0) {r : Result A E} {a : A} → r ≡ Ok a → IfOk r P → P a
+of_ok P is h = subst (λ r. IfOk r P) is h
 
 -- two results that follow `Refuses` for the same text count as the same if their values have equal
 -- views whenever the text fits
@@ -40,7 +40,7 @@ pub one_rewritten : {A V Tree T L : Type 0} {Spells Fits : Tree → Type 0} (vie
     → Refuses T L ((tree : Tree) × Spells tree × Fits tree) s → IfOk r (λ a. (tree : Tree) → Spells tree → view a ≡ rewritten tree)
     → IfOk s (λ a. (tree : Tree) → Spells tree → view a ≡ rewritten tree) → AreOne OutOfMemory view r s
 one_rewritten view rewritten r s p q h k =
-    one view r s p q (λ a b is is' text. said _ is h text.0 text.1 ∙ sym (said _ is' k text.0 text.1))
+    one view r s p q (λ a b is is' text. of_ok _ is h text.0 text.1 ∙ sym (of_ok _ is' k text.0 text.1))
 
 -- two results whose only error is out of memory count as the same if their values have equal views
 pub one_made : {A V : Type 0} (view : A → V) (r s : Result A AllocError)

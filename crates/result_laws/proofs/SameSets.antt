@@ -10,7 +10,7 @@ use Rattle.version_sets.specs.declared.SetError.{SetError}
 use Rattle.version_sets.specs.declared.SetError.TheVariants.{DifferentDigits, OutOfMemory as NoMemory}
 use Rattle.result_laws.specs.OneResult.{AreOne, itself, seen}
 use Rattle.result_laws.specs.SameSets.{AreAlike}
-use Rattle.result_laws.proofs.OneResult.{one, said}
+use Rattle.result_laws.proofs.OneResult.{one, of_ok}
 
 -- two sets that are returned satisfy `AreAlike`
 abbrev pub Alike : {E : Type 0} → Result SetValue E → Result SetValue E → Type 0
@@ -30,7 +30,7 @@ pub one_read : {T L F : Type 0} {P : SetValue → Type 0} (d : Digits) (r s : Re
     → Refuses T L F s → Alike r s → ReadsAs d r → ReadsAs d s → IfOk r P → IfOk s P → (F → Agree P) → AreOne OutOfMemory itself r s
 one_read d r s p q alike dr ds h k agree =
     one itself r s p q (λ a b is is' text.
-    said _ is' (said _ is alike) (said _ is dr ∙ sym (said _ is' ds)) (agree text a b (said _ is h) (said _ is' k)))
+    of_ok _ is' (of_ok _ is alike) (of_ok _ is dr ∙ sym (of_ok _ is' ds)) (agree text a b (of_ok _ is h) (of_ok _ is' k)))
 
 -- two results of a call on two sets count as the same if they fail with `DifferentDigits` under the
 -- same condition, and their values have equal views
@@ -49,7 +49,7 @@ pub one_set_combined : {P : SetValue → Type 0} (D : Type 0) (d : Digits) (r s 
     → IfOk r P → IfOk s P → Agree P → AreOne NoMemory itself r s
 one_set_combined D d r s p q alike dr ds h k agree =
     one_combined_answer itself D r s p q
-    (λ a b is is'. said _ is' (said _ is alike) (said _ is dr ∙ sym (said _ is' ds)) (agree a b (said _ is h) (said _ is' k)))
+    (λ a b is is'. of_ok _ is' (of_ok _ is alike) (of_ok _ is dr ∙ sym (of_ok _ is' ds)) (agree a b (of_ok _ is h) (of_ok _ is' k)))
 
 -- sets whose versions are decided by the same test contain the same versions
 pub by_test : (test : PlainVersion → Bool) → Agree (λ set. (v : PlainVersion) → contains set v ≡ test v)

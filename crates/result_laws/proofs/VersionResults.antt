@@ -27,14 +27,14 @@ use Rattle.semver_tokens.specs.declared.parser.Error.TheVariants as error
 use Rattle.semver_tokens.proofs.ReadingSteps.{reads_once}
 use Rattle.semver_versions.proofs.OneVersion.{one_core, same_identifier}
 use Rattle.result_laws.specs.OneResult.{AreOne}
-use Rattle.result_laws.proofs.OneResult.{one_found, one_made, said}
+use Rattle.result_laws.proofs.OneResult.{one_found, one_made, of_ok}
 use Rattle.result_laws.specs.SeenTexts.{seen_numbers, seen_text}
 
 pub one_read : (P : VersionValue → Type 0) (r s : Result (Option Version) AllocError)
     → ((v : VersionValue) → IfOk r (λ found. (option_map version_value found ≡ Some v) ↔ P v))
     → ((v : VersionValue) → IfOk s (λ found. (option_map version_value found ≡ Some v) ↔ P v))
     → AreOne alloc_error (option_map version_value) r s
-one_read P r s f g = one_made (option_map version_value) r s (λ a b is is'. one_found P _ _ (λ v. said _ is (f v)) (λ v. said _ is' (g v)))
+one_read P r s f g = one_made (option_map version_value) r s (λ a b is is'. one_found P _ _ (λ v. of_ok _ is (f v)) (λ v. of_ok _ is' (g v)))
 
 -- ---- numbers and parts
 

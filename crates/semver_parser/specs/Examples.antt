@@ -15,9 +15,9 @@ use Rattle.semver_texts.specs.Texts.{Text}
 use Rattle.semver_texts.specs.Precedence.{precedence}
 use Rattle.semver_texts.specs.Versions.{IdentifierValue, numeric, alphanumeric, PlainVersion}
 use Rattle.semver_ranges.specs.Partials.{filled}
-use Rattle.semver_ranges.specs.OwnMeaning.{meets_tree}
+use Rattle.semver_ranges.specs.CrateMeaning.{meets_tree}
 use Rattle.semver_ranges.specs.RewritingTable.{rewritten, fits}
-use Rattle.semver_ranges.specs.Meeting.{meets_set}
+use Rattle.semver_ranges.specs.SatisfiedComparators.{meets_set}
 use Rattle.semver_ranges.specs.StatedPreReleases.{meets_tree_as_stated}
 use Rattle.semver_ranges.specs.PrintedRanges.{set_text}
 

@@ -20,10 +20,10 @@ pub use Rattle.semver_ranges.specs.RangeTree
 pub use Rattle.semver_ranges.specs.RangeTexts
 pub use Rattle.semver_ranges.specs.Partials
 pub use Rattle.semver_ranges.specs.Terms
-pub use Rattle.semver_ranges.specs.OwnMeaning
+pub use Rattle.semver_ranges.specs.CrateMeaning
 pub use Rattle.semver_ranges.specs.RewritingTable
 pub use Rattle.semver_ranges.specs.ExactBounds
-pub use Rattle.semver_ranges.specs.Meeting
+pub use Rattle.semver_ranges.specs.SatisfiedComparators
 pub use Rattle.semver_ranges.specs.StatedPreReleases
 pub use Rattle.semver_ranges.specs.PrintedRanges
 pub use Rattle.semver_ranges.specs.RangeViews

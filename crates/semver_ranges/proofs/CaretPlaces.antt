@@ -4,7 +4,7 @@ use Rattle.std.proofs.Common.{arith}
 use Rattle.std.proofs.Common.{◌≡◌, ℕ, nat_eq, List, [], ◌∷◌, take, refl}
 use Rattle.std.specs.List.{starts_with}
 use Rattle.semver_ranges.specs.Partials.{leading_place}
-use Rattle.semver_ranges.specs.OwnMeaning.{agrees_past_zeros}
+use Rattle.semver_ranges.specs.CrateMeaning.{agrees_past_zeros}
 
 pub same_agreement : (s numbers : List ℕ) → agrees_past_zeros s numbers ≡ starts_with nat_eq numbers (take (leading_place s) s)
 same_agreement [] numbers = refl

@@ -7,9 +7,9 @@ use Rattle.semver_ranges.specs.declared.range.Compat.{Compat}
 use Rattle.semver_ranges.specs.RangeTree.{SetTree}
 use Rattle.semver_texts.specs.Precedence.{precedence}
 use Rattle.semver_texts.specs.Versions.{PlainVersion}
-use Rattle.semver_ranges.specs.OwnMeaning.{meets_term, meets_tree}
+use Rattle.semver_ranges.specs.CrateMeaning.{meets_term, meets_tree}
 use Rattle.semver_ranges.specs.ExactBounds.{lowest_pre_release, exact_bound, rewritten_exactly}
-use Rattle.semver_ranges.specs.Meeting.{meets_set, is_pre_release_of}
+use Rattle.semver_ranges.specs.SatisfiedComparators.{meets_set, is_pre_release_of}
 use Rattle.semver_ranges.proofs.Rows.{floor, lower_tail, exact_row}
 use Rattle.semver_ranges.proofs.SetMeanings.{stated_shape, set_meets}
 

@@ -9,9 +9,9 @@ use Rattle.semver_texts.specs.Texts.{is_empty}
 use Rattle.semver_texts.specs.Versions.{PlainVersion}
 use Rattle.semver_ranges.specs.Partials.{pre_release}
 use Rattle.semver_ranges.specs.Terms.{terms}
-use Rattle.semver_ranges.specs.OwnMeaning.{meets_tree}
+use Rattle.semver_ranges.specs.CrateMeaning.{meets_tree}
 use Rattle.semver_ranges.specs.RewritingTable.{rewritten}
-use Rattle.semver_ranges.specs.Meeting.{meets_set, is_pre_release_of, meets_term_or_bound, meets_tree_or_bounds}
+use Rattle.semver_ranges.specs.SatisfiedComparators.{meets_set, is_pre_release_of, meets_term_or_bound, meets_tree_or_bounds}
 use Rattle.semver_ranges.proofs.Rows.{row}
 use Rattle.semver_ranges.proofs.SetMeanings.{stated_shape, set_meets}
 use Rattle.semver_ranges.proofs.Tests.{list_all-weaker, list_any-weaker, list_all-same, list_any-same}

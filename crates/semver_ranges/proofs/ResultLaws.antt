@@ -14,10 +14,10 @@ use Rattle.semver_ranges.specs.RangeTree.{SetTree, Spells}
 use Rattle.semver_ranges.specs.RangeTexts.{IsTooLarge, RefusesExactly}
 use Rattle.semver_texts.specs.Texts.{Text}
 use Rattle.semver_texts.specs.Versions.{IdentifierValue, PlainVersion}
-use Rattle.semver_ranges.specs.OwnMeaning.{meets_tree}
+use Rattle.semver_ranges.specs.CrateMeaning.{meets_tree}
 use Rattle.semver_ranges.specs.RewritingTable.{PlainSet, fits, written_set, rewritten}
 use Rattle.semver_ranges.specs.ExactBounds.{lowest_pre_release}
-use Rattle.semver_ranges.specs.Meeting.{meets_set, meets_tree_or_bounds}
+use Rattle.semver_ranges.specs.SatisfiedComparators.{meets_set, meets_tree_or_bounds}
 use Rattle.semver_ranges.specs.PrintedRanges.{is_kept, IsPrintableSet, set_text}
 use Rattle.semver_ranges.specs.Steps.Reading.{read}
 use Rattle.semver_ranges.specs.RangeViews.{set_of}

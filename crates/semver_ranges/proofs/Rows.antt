@@ -17,11 +17,11 @@ use Rattle.semver_texts.specs.Texts.{is_empty}
 use Rattle.semver_texts.specs.Precedence.{precedence, pre_cmp}
 use Rattle.semver_texts.specs.Versions.{numbers, IdentifierValue, numeric, alphanumeric, PlainVersion}
 use Rattle.semver_ranges.specs.Partials.{filled}
-use Rattle.semver_ranges.specs.OwnMeaning.{meets_stated, agrees}
+use Rattle.semver_ranges.specs.CrateMeaning.{meets_stated, agrees}
 use Rattle.semver_ranges.specs.RewritingTable.{cell, up, up_with}
 use Rattle.semver_ranges.specs.RewritingTable.{written_cell, cell_comparators, cell_raised}
 use Rattle.semver_ranges.specs.ExactBounds.{lowest_pre_release}
-use Rattle.semver_ranges.specs.Meeting.{meets_comparator, has_pre_release, is_pre_release_of}
+use Rattle.semver_ranges.specs.SatisfiedComparators.{meets_comparator, has_pre_release, is_pre_release_of}
 use Rattle.semver_ranges.proofs.CaretPlaces.{same_agreement}
 
 -- the order of two versions, from the orders of their three numbers and of their pre-releases

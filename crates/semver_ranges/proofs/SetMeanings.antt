@@ -15,7 +15,7 @@ use Rattle.semver_ranges.specs.Partials.{stated, zero_version}
 use Rattle.semver_ranges.specs.Terms.{Term, of_simple, of_nothing, left_side, right_side, terms}
 use Rattle.semver_ranges.specs.RewritingTable.{PlainComparator, comparator}
 use Rattle.semver_ranges.specs.RewritingTable.{range_by, set_by, written_simple, written_set}
-use Rattle.semver_ranges.specs.Meeting.{meets_comparator, meets_set}
+use Rattle.semver_ranges.specs.SatisfiedComparators.{meets_comparator, meets_set}
 use Rattle.semver_ranges.proofs.Rows.{Shape}
 use Rattle.semver_ranges.proofs.Tables.{IsTable, nothing_is, port_table}
 use Rattle.semver_ranges.proofs.Tests.{list_any-mapped}

@@ -16,11 +16,11 @@ use Rattle.semver_texts.specs.Texts.{is_empty}
 use Rattle.semver_texts.specs.Versions.{numbers, IdentifierValue, PlainVersion}
 use Rattle.semver_ranges.specs.Partials.{kept, stated, pre_parts, pre_release, filled, zero_filled}
 use Rattle.semver_ranges.specs.Terms.{Term, of_simple, terms}
-use Rattle.semver_ranges.specs.OwnMeaning.{meets_term, meets_tree}
+use Rattle.semver_ranges.specs.CrateMeaning.{meets_term, meets_tree}
 use Rattle.semver_ranges.specs.RewritingTable.{PlainComparator, Cell, from_zero, below_zero, against, below, between, cell}
 use Rattle.semver_ranges.specs.RewritingTable.{three_stated, comparator, up_with, written_cell, written_simple, written_range}
 use Rattle.semver_ranges.specs.ExactBounds.{lowest_pre_release, rewritten_exactly}
-use Rattle.semver_ranges.specs.Meeting.{has_pre_release, meets_comparator}
+use Rattle.semver_ranges.specs.SatisfiedComparators.{has_pre_release, meets_comparator}
 use Rattle.semver_ranges.specs.StatedPreReleases.{states_pre_release_at, counts_in, meets_tree_as_stated, has_pre_release_at}
 use Rattle.semver_ranges.specs.StatedPreReleases.{meets_set_as_stated}
 use Rattle.semver_ranges.proofs.Rows.{lower_tail, floor, Shape, none, one, two, three, exact_row}

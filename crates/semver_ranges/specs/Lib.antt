@@ -2,11 +2,11 @@ pub mod NpmLengths
 pub mod RangeTree
 pub mod Partials
 pub mod Terms
-pub mod OwnMeaning
+pub mod CrateMeaning
 pub mod RewritingTable
 pub mod RangeTexts
 pub mod ExactBounds
-pub mod Meeting
+pub mod SatisfiedComparators
 pub mod StatedPreReleases
 pub mod PrintedRanges
 pub mod RangeViews

@@ -8,10 +8,10 @@ use Rattle.semver_ranges.specs.declared.range_set.RangeError.TheVariants.{OutOfM
 use Rattle.semver_ranges.specs.RangeTree.{SetTree, Spells}
 use Rattle.semver_texts.specs.Texts.{Text}
 use Rattle.semver_texts.specs.Versions.{PlainVersion}
-use Rattle.semver_ranges.specs.OwnMeaning.{meets_tree}
+use Rattle.semver_ranges.specs.CrateMeaning.{meets_tree}
 use Rattle.semver_ranges.specs.RewritingTable.{PlainSet, rewritten}
 use Rattle.semver_ranges.specs.RangeTexts.{RefusesExactly}
-use Rattle.semver_ranges.specs.Meeting.{meets_set, meets_tree_or_bounds}
+use Rattle.semver_ranges.specs.SatisfiedComparators.{meets_set, meets_tree_or_bounds}
 use Rattle.semver_ranges.specs.PrintedRanges.{IsPrintableSet, set_text}
 use Rattle.semver_ranges.specs.RangeViews.{set_of}
 

@@ -10,9 +10,9 @@ use Rattle.semver_texts.specs.Texts.{is_empty}
 use Rattle.semver_texts.specs.Versions.{numbers, PlainVersion}
 use Rattle.semver_ranges.specs.Partials.{stated, pre_release}
 use Rattle.semver_ranges.specs.Terms.{Term, of_simple, of_nothing, terms}
-use Rattle.semver_ranges.specs.OwnMeaning.{meets_term}
+use Rattle.semver_ranges.specs.CrateMeaning.{meets_term}
 use Rattle.semver_ranges.specs.RewritingTable.{PlainComparator, PlainRange, PlainSet}
-use Rattle.semver_ranges.specs.Meeting.{has_pre_release, meets_range}
+use Rattle.semver_ranges.specs.SatisfiedComparators.{has_pre_release, meets_range}
 
 -- whether a term states the three numbers of a version, and a pre-release
 abbrev pub states_pre_release_at : Term → PlainVersion → Bool

@@ -7,7 +7,7 @@ use Rattle.semver_texts.specs.Versions.{IdentifierValue, PlainVersion, numbers}
 use Rattle.semver_texts.specs.declared.grammar.Digits.TheVariants.{AnySize}
 use Rattle.semver_ranges.specs.RangeTree.{Form, PartialTree}
 use Rattle.semver_ranges.specs.Partials.{pre_release}
-use Rattle.semver_ranges.specs.Meeting.{meets_comparator, meets_range, meets_set, op_holds}
+use Rattle.semver_ranges.specs.SatisfiedComparators.{meets_comparator, meets_range, meets_set, op_holds}
 use Rattle.semver_ranges.specs.RewritingTable.{PlainComparator, PlainRange, PlainSet}
 use Rattle.version_sets.proofs.DigitLaws.{by_empty, released}
 use Rattle.tool_ranges.specs.AnySize.{comparator_any, range_any, set_any}

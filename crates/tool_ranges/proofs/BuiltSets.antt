@@ -7,7 +7,7 @@ use Rattle.version_sets.specs.declared.rules.PreReleases.TheVariants.{Default, I
 use Rattle.tool_ranges.specs.declared.dialect.Dialect.{Dialect}
 use Rattle.tool_ranges.specs.declared.dialect.Dialect.TheVariants.{Cargo, Npm, CrateCargo, CrateNpm}
 use Rattle.tool_ranges.specs.declared.matching.Progress.{Progress}
-use Rattle.tool_ranges.specs.Steps.Matching.{counts, said, takes_releases}
+use Rattle.tool_ranges.specs.Steps.Matching.{counts, is_met, takes_releases}
 
 -- adding the releases of a range and its pre-releases that count, in either order, adds every
 -- version that satisfies the range and counts in it
@@ -45,29 +45,29 @@ and_itself : (b : Bool) → (b && b) ≡ b
 and_itself true = refl
 and_itself false = refl
 
-pub every_said : (d : Dialect) (rule : PreReleases) (v : PlainVersion) (p : Progress) → (p.every && takes_releases d rule) ≡ true
-    → said d rule v p ≡ is_empty v.pre
-every_said Npm Default v p e = by p.every e where
+pub every_is_met : (d : Dialect) (rule : PreReleases) (v : PlainVersion) (p : Progress) → (p.matched_all && takes_releases d rule) ≡ true
+    → is_met d rule v p ≡ is_empty v.pre
+every_is_met Npm Default v p e = by p.matched_all e where
   by : (b : Bool) → (b && true) ≡ true → (if b then is_empty v.pre else p.met) ≡ is_empty v.pre
   by true e = refl
   by false e = cc
-every_said Npm Excluded v p e = by p.every e where
+every_is_met Npm Excluded v p e = by p.matched_all e where
   by : (b : Bool) → (b && true) ≡ true → (is_empty v.pre && (if b then is_empty v.pre else p.met)) ≡ is_empty v.pre
   by true e = and_itself (is_empty v.pre)
   by false e = cc
-every_said Npm Included v p e = absurd (no p.every e) where
+every_is_met Npm Included v p e = absurd (no p.matched_all e) where
   no : (b : Bool) → (b && false) ≡ true → ⊥
   no true e = cc
   no false e = cc
-every_said Cargo rule v p e = absurd (no p.every e) where
+every_is_met Cargo rule v p e = absurd (no p.matched_all e) where
   no : (b : Bool) → (b && false) ≡ true → ⊥
   no true e = cc
   no false e = cc
-every_said CrateCargo rule v p e = absurd (no p.every e) where
+every_is_met CrateCargo rule v p e = absurd (no p.matched_all e) where
   no : (b : Bool) → (b && false) ≡ true → ⊥
   no true e = cc
   no false e = cc
-every_said CrateNpm rule v p e = absurd (no p.every e) where
+every_is_met CrateNpm rule v p e = absurd (no p.matched_all e) where
   no : (b : Bool) → (b && false) ≡ true → ⊥
   no true e = cc
   no false e = cc
@@ -78,23 +78,23 @@ abbrev pub met_of : PreReleases → PlainVersion → Progress → Bool
 met_of Excluded v p = is_empty v.pre && p.met
 met_of rule v p = p.met
 
-pub met_said : (d : Dialect) (rule : PreReleases) (v : PlainVersion) (p : Progress) → (p.every && takes_releases d rule) ≡ false
-    → said d rule v p ≡ met_of rule v p
-met_said Npm Default v p e = by p.every e where
+pub met_is_met : (d : Dialect) (rule : PreReleases) (v : PlainVersion) (p : Progress) → (p.matched_all && takes_releases d rule) ≡ false
+    → is_met d rule v p ≡ met_of rule v p
+met_is_met Npm Default v p e = by p.matched_all e where
   by : (b : Bool) → (b && true) ≡ false → (if b then is_empty v.pre else p.met) ≡ p.met
   by true e = cc
   by false e = refl
-met_said Npm Excluded v p e = by p.every e where
+met_is_met Npm Excluded v p e = by p.matched_all e where
   by : (b : Bool) → (b && true) ≡ false → (is_empty v.pre && (if b then is_empty v.pre else p.met)) ≡ (is_empty v.pre && p.met)
   by true e = cc
   by false e = refl
-met_said Npm Included v p e = refl
-met_said Cargo Default v p e = refl
-met_said Cargo Included v p e = refl
-met_said Cargo Excluded v p e = refl
-met_said CrateCargo Default v p e = refl
-met_said CrateCargo Included v p e = refl
-met_said CrateCargo Excluded v p e = refl
-met_said CrateNpm Default v p e = refl
-met_said CrateNpm Included v p e = refl
-met_said CrateNpm Excluded v p e = refl
+met_is_met Npm Included v p e = refl
+met_is_met Cargo Default v p e = refl
+met_is_met Cargo Included v p e = refl
+met_is_met Cargo Excluded v p e = refl
+met_is_met CrateCargo Default v p e = refl
+met_is_met CrateCargo Included v p e = refl
+met_is_met CrateCargo Excluded v p e = refl
+met_is_met CrateNpm Default v p e = refl
+met_is_met CrateNpm Included v p e = refl
+met_is_met CrateNpm Excluded v p e = refl

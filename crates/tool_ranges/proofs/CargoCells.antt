@@ -10,7 +10,7 @@ use Rattle.semver_texts.specs.Versions.{numbers, IdentifierValue, PlainVersion}
 use Rattle.semver_ranges.specs.declared.range.Compat.{Compat}
 use Rattle.semver_ranges.specs.declared.range.Compat.TheVariants as mode
 use Rattle.semver_ranges.specs.RangeTree.{Form, bare, equal, less, at_most, greater, at_least, tilde, caret}
-use Rattle.semver_ranges.specs.OwnMeaning.{agrees, agrees_past_zeros, meets_form, meets_stated}
+use Rattle.semver_ranges.specs.CrateMeaning.{agrees, agrees_past_zeros, meets_form, meets_stated}
 use Rattle.semver_ranges.specs.Partials.{filled, leading_place}
 use Rattle.semver_ranges.proofs.Rows.{Shape}
 use Rattle.version_sets.specs.Steps.Cuts.{first_numbers}

@@ -8,7 +8,7 @@ use Rattle.std.specs.declared.cmp.Ordering.TheVariants.{Less, Equal, Greater}
 use Rattle.semver_texts.specs.Precedence.{precedence, pre_cmp}
 use Rattle.semver_texts.specs.Versions.{numbers, IdentifierValue, PlainVersion}
 use Rattle.semver_texts.proofs.Lists.{by_test}
-use Rattle.semver_ranges.specs.OwnMeaning.{agrees, agrees_past_zeros}
+use Rattle.semver_ranges.specs.CrateMeaning.{agrees, agrees_past_zeros}
 use Rattle.semver_ranges.specs.Partials.{filled, leading_place}
 use Rattle.semver_ranges.proofs.CaretPlaces.{same_agreement}
 use Rattle.semver_ranges.specs.ExactBounds.{lowest_pre_release}

@@ -2,6 +2,7 @@
 -- those of `rewritten_included`.
 use Rattle.std.proofs.Common.{◌≡◌, true, false, ◌++◌, ◌==◌, ℕ, List, [], ◌∷◌, length, refl, ◌∙◌, append-nil}
 use Rattle.std.specs.List.{flat_map}
+use Rattle.semver_texts.specs.Texts.{Text}
 use Rattle.semver_texts.specs.Versions.{IdentifierValue}
 use Rattle.semver_texts.proofs.Lists.{by_test}
 use Rattle.semver_ranges.specs.declared.partial.LowerBounds.TheVariants.{Lowest}
@@ -9,8 +10,8 @@ use Rattle.semver_ranges.specs.declared.range.Compat.TheVariants as mode
 use Rattle.semver_ranges.specs.declared.range.Op.TheVariants.{Gte}
 use Rattle.semver_ranges.specs.ExactBounds.{exact_bound}
 use Rattle.semver_ranges.specs.Partials.{filled, stated, states_nothing}
-use Rattle.semver_ranges.specs.RangeTree.{at_least, PartialTree, one, two, three}
-use Rattle.semver_ranges.specs.RangeTree.{RangeTree, SetTree, empty, hyphen, simples, is_wildcard}
+use Rattle.semver_ranges.specs.RangeTree.{at_least, PartialTree, three}
+use Rattle.semver_ranges.specs.RangeTree.{RangeTree, SetTree, empty, hyphen, simples}
 use Rattle.semver_ranges.specs.RewritingTable.{comparator}
 use Rattle.semver_ranges.specs.Terms.{left_side, right_side}
 use Rattle.semver_ranges.specs.Steps.PartialViews.{begun_as}
@@ -23,6 +24,7 @@ use Rattle.tool_ranges.specs.Rewritten.{included_left, included_range, rewritten
 use Rattle.tool_ranges.specs.Sides.{sides}
 use Rattle.tool_ranges.specs.TermComparators.{printed, printed_term}
 use Rattle.tool_ranges.specs.Steps.Printed.{printed_ranges}
+use Rattle.tool_ranges.proofs.MatchedRanges.{for_three}
 
 -- ---- the left side of a hyphen range, which begins with the lowest pre-release
 left_few : {s : List ℕ} → Shape s → (length s == 3) ≡ false
@@ -41,20 +43,15 @@ left_three (Shape.one x) e i p = cc
 left_three (Shape.two x y) e i p = cc
 left_three (Shape.three x y w) e i p = refl
 
+left_of : (a b c : Text) (pre build : List Text) → (length (stated (three a b c pre build)) == 3) ≡ true
+    → printed_term Lowest Npm (left_side (begun_as Lowest (three a b c pre build))) ≡ included_left (three a b c pre build)
+left_of a b c [] build y = rw y (left_three (stated_shape (three a b c [] build)) y _ _)
+left_of a b c (part ∷ parts) build y = rw y (left_three (stated_shape (three a b c (part ∷ parts) build)) y _ _)
+
 left_term : (p : PartialTree) → printed_term Lowest Npm (left_side (begun_as Lowest p)) ≡ included_left p
-left_term p = by_test (length (stated p) == 3) (λ y. whole p y) (λ n. rw (begun_stated Lowest p, n) (left_few (stated_shape p) n)) where
-  whole : (p : PartialTree) → (length (stated p) == 3) ≡ true
-      → printed_term Lowest Npm (left_side (begun_as Lowest p)) ≡ included_left p
-  whole (one a) y = by_test (is_wildcard a)
-      (λ w. let short : false ≡ true = rw w at y in cc)
-      (λ n. let short : false ≡ true = rw n at y in cc)
-  whole (two a b) y = by_test (is_wildcard a)
-      (λ w. let short : false ≡ true = rw w at y in cc)
-      (λ n. by_test (is_wildcard b)
-      (λ w. let short : false ≡ true = rw (n, w) at y in cc)
-      (λ m. let short : false ≡ true = rw (n, m) at y in cc))
-  whole (three a b c [] build) y = rw y (left_three (stated_shape (three a b c [] build)) y _ _)
-  whole (three a b c (part ∷ parts) build) y = rw y (left_three (stated_shape (three a b c (part ∷ parts) build)) y _ _)
+left_term p = by_test (length (stated p) == 3)
+    (for_three (λ p. printed_term Lowest Npm (left_side (begun_as Lowest p)) ≡ included_left p) left_of p)
+    (λ n. rw (begun_stated Lowest p, n) (left_few (stated_shape p) n))
 
 -- ---- ranges
 range_is : (r : RangeTree) → flat_map (printed_term Lowest Npm) (yielded Lowest r) ≡ included_range r

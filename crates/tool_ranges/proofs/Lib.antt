@@ -1,32 +1,40 @@
+-- a text has one tree in each dialect, and the cursor returns its terms
 mod ComparatorReading
 mod FoundComparators
-mod AnySizes
-pub mod ReadSets
-mod MatchedMeanings
-mod CheckedEvents
-pub mod ReadingLaws
-mod FittingTerms
-mod SatisfiesErrors
-mod HighestMembers
-mod HighestStrings
-pub mod OneHighest
-mod ContainedTexts
-mod TableLaws
-mod Cells
-mod NpmCells
-mod CargoCells
 mod Comparators
 mod ReadTrees
+pub mod ReadingLaws
+mod LeftEvents
+-- the table of sides, and which numbers fit
+mod NumberSteps
+mod TableLaws
 mod FitCells
+mod CheckedEvents
+mod FittingTerms
+-- a version is between the sides of a term if and only if it satisfies the term
+mod Cells
+mod CargoCells
+mod NpmCells
+-- whether one version satisfies a text
 mod MatchedTerms
 mod MatchedEvents
 mod MatchedRanges
+mod MatchedMeanings
+mod SatisfiesErrors
+-- the set of the versions that satisfy a text
 mod BuiltSets
-mod LeftEvents
-mod PrintedTerms
-mod NumberSteps
+pub mod ReadSets
+mod ContainedTexts
+-- the comparators of a text
+mod AnySizes
 mod SideComparators
+mod PrintedTerms
+mod PrintedSets
 mod PrintedMeanings
 mod PrintableSets
-mod PrintedSets
 mod IncludedSets
+mod RewrittenSets
+-- the highest and the lowest of many versions
+mod HighestMembers
+mod HighestStrings
+pub mod OneHighest

@@ -105,7 +105,7 @@ module _ (d : Dialect) (all : Bool) (v : PlainVersion) where
   folded t ss = record t {
     here = t.here && list_all (term_met d all v) ss;
     counts = t.counts || list_any (λ s. states_pre_release_at (of_simple s) v) ss;
-    nothing = t.nothing && list_all (λ s. matches_everything (of_simple s)) ss;
+    matches_all = t.matches_all && list_all (λ s. matches_everything (of_simple s)) ss;
   }
 
   and_assoc : (a b c : Bool) → ((a && b) && c) ≡ (a && (b && c))
@@ -121,22 +121,22 @@ module _ (d : Dialect) (all : Bool) (v : PlainVersion) where
   front_after t [] es = λ i. after d all v (record {
     here = sym (and-true t.here) i;
     counts = sym (or-false t.counts) i;
-    nothing = sym (and-true t.nothing) i;
+    matches_all = sym (and-true t.matches_all) i;
     met = t.met;
-    every = t.every;
+    matched_all = t.matched_all;
   }) es
   front_after t (s ∷ ss) es = front_after (taken d all v s t) ss es ∙ (λ i. after d all v (record {
     here = and_assoc t.here (term_met d all v s) (list_all (term_met d all v) ss) i;
     counts = or_assoc t.counts (states_pre_release_at (of_simple s) v)
         (list_any (λ (x : Simple). states_pre_release_at (of_simple x) v) ss) i;
-    nothing = and_assoc t.nothing (matches_everything (of_simple s)) (list_all (λ (x : Simple). matches_everything (of_simple x)) ss) i;
+    matches_all = and_assoc t.matches_all (matches_everything (of_simple s)) (list_all (λ (x : Simple). matches_everything (of_simple x)) ss) i;
     met = t.met;
-    every = t.every;
+    matched_all = t.matched_all;
   }) es)
 
   -- the progress at the beginning of a range
   abbrev fresh : Bool → Bool → Progress
-  fresh met every = record { here = true; counts = counts all v; nothing = true; met = met; every = every }
+  fresh met matched = record { here = true; counts = counts all v; matches_all = true; met = met; matched_all = matched }
 
   ranges_after : (ss : List Simple) (others : List (List Simple)) (met every : Bool)
       → ended (counts all v) (after d all v (fresh met every) (events_in (ss ∷ others)))
@@ -160,7 +160,7 @@ module _ (d : Dialect) (all : Bool) (v : PlainVersion) where
       let end = sym same ∙ ap (λ rs. ended (counts all v) (after d all v (begun (counts all v)) (events_in rs))) some.2
       ∙ ranges_after some.0 some.1 false false in (
         ap (λ (x : Progress). x.met) end ∙ ap (list_any (range_met d all v)) (sym some.2),
-        ap (λ (x : Progress). x.every) end ∙ ap (list_any range_every) (sym some.2),
+        ap (λ (x : Progress). x.matched_all) end ∙ ap (list_any range_every) (sym some.2),
       )
 
   -- ---- a whole text

@@ -6,7 +6,7 @@ use Rattle.std.specs.List.{list_all, list_any}
 use Rattle.std.specs.Ordering.{is_ge}
 use Rattle.std.proofs.lemmas.List.Folds.{list_all-map}
 use Rattle.semver_texts.specs.Precedence.{precedence}
-use Rattle.semver_texts.specs.Texts.{is_empty}
+use Rattle.semver_texts.specs.Texts.{Text, is_empty}
 use Rattle.semver_texts.specs.Versions.{IdentifierValue, PlainVersion, without_build}
 use Rattle.semver_texts.proofs.Lists.{by_test}
 use Rattle.semver_ranges.specs.declared.partial.LowerBounds.TheVariants.{Lowest, Stated}
@@ -16,7 +16,7 @@ use Rattle.semver_ranges.specs.RangeTree.{PartialTree, RangeTree, Simple, SetTre
 use Rattle.semver_ranges.specs.RangeTree.{at_least, is_wildcard}
 use Rattle.semver_ranges.specs.ExactBounds.{lowest_pre_release}
 use Rattle.semver_ranges.specs.Partials.{filled, stated, states_nothing}
-use Rattle.semver_ranges.specs.OwnMeaning.{meets_term}
+use Rattle.semver_ranges.specs.CrateMeaning.{meets_term}
 use Rattle.semver_ranges.specs.StatedPreReleases.{counts_in, states_pre_release_at}
 use Rattle.semver_ranges.specs.Steps.PartialViews.{begun_as}
 use Rattle.semver_ranges.specs.Terms.{Term, of_nothing, of_simple, left_side, right_side, terms}
@@ -36,7 +36,7 @@ use Rattle.tool_ranges.specs.CargoMeaning as cargo
 use Rattle.tool_ranges.specs.Dialects.{TreeOf}
 use Rattle.tool_ranges.specs.Meanings.{meant_by}
 use Rattle.tool_ranges.specs.NpmMeaning as npm
-use Rattle.tool_ranges.specs.Steps.Matching.{Says, range_every, range_met, rule_of, said, takes_all, term_met}
+use Rattle.tool_ranges.specs.Steps.Matching.{Says, range_every, range_met, rule_of, is_met, takes_all, term_met}
 use Rattle.tool_ranges.proofs.Cells.{numbers_ge}
 
 and_twice : (b : Bool) → b ≡ (b && (b && true))
@@ -46,6 +46,20 @@ and_twice false = refl
 or_twice : (b : Bool) → (b || false) ≡ (b || (b || false))
 or_twice true = refl
 or_twice false = refl
+
+-- what holds for partial versions with three components holds for those that state three numbers
+pub for_three : (P : PartialTree → Type 0)
+    → ((a b c : Text) (pre build : List Text) → (length (stated (three a b c pre build)) == 3) ≡ true → P (three a b c pre build))
+    → (p : PartialTree) → (length (stated p) == 3) ≡ true → P p
+for_three P h (one a) y = by_test (is_wildcard a)
+    (λ w. let short : false ≡ true = rw w at y in cc)
+    (λ n. let short : false ≡ true = rw n at y in cc)
+for_three P h (two a b) y = by_test (is_wildcard a)
+    (λ w. let short : false ≡ true = rw w at y in cc)
+    (λ n. by_test (is_wildcard b)
+    (λ w. let short : false ≡ true = rw (n, w) at y in cc)
+    (λ m. let short : false ≡ true = rw (n, m) at y in cc))
+for_three P h (three a b c pre build) y = h a b c pre build y
 
 -- a test of terms that has the same result for an empty range as for a wildcard, and for both sides
 -- of a hyphen range if neither states a number
@@ -129,22 +143,18 @@ module _ (v : PlainVersion) where
     three_from (Shape.two x y) e p = cc
     three_from (Shape.three x y w) e p = refl
 
-    whole : (p : PartialTree) → (length (stated p) == 3) ≡ true
-        → npm.meets_one Included (left_side (begun_as Lowest p)) v ≡ npm.meets_left Included p v
-    whole (one a) y = by_test (is_wildcard a)
-        (λ w. let short : false ≡ true = rw w at y in cc)
-        (λ n. let short : false ≡ true = rw n at y in cc)
-    whole (two a b) y = by_test (is_wildcard a)
-        (λ w. let short : false ≡ true = rw w at y in cc)
-        (λ n. by_test (is_wildcard b)
-        (λ w. let short : false ≡ true = rw (n, w) at y in cc)
-        (λ m. let short : false ≡ true = rw (n, m) at y in cc))
-    whole (three a b c [] build) y =
+    three_of : (a b c : Text) (pre build : List Text) → (length (stated (three a b c pre build)) == 3) ≡ true
+        → npm.meets_one Included (left_side (begun_as Lowest (three a b c pre build))) v ≡ npm.meets_left Included (three a b c pre build) v
+    three_of a b c [] build y =
         let from = from_lowest (stated_shape (three a b c [] build)) y in
         let meets = three_from (stated_shape (three a b c [] build)) y lowest_pre_release in
         rw y (meets ∙ from)
-    whole (three a b c (part ∷ parts) build) y =
+    three_of a b c (part ∷ parts) build y =
         let meets = three_from (stated_shape (three a b c (part ∷ parts) build)) y in rw y (meets _)
+
+    whole : (p : PartialTree) → (length (stated p) == 3) ≡ true
+        → npm.meets_one Included (left_side (begun_as Lowest p)) v ≡ npm.meets_left Included p v
+    whole = for_three (λ p. npm.meets_one Included (left_side (begun_as Lowest p)) v ≡ npm.meets_left Included p v) three_of
 
   pub included_range : (r : RangeTree) → range_met Npm true v (yielded Lowest r) ≡ npm.meets_range Included r v
   included_range empty = refl
@@ -207,7 +217,7 @@ module _ (v : PlainVersion) where
 
 module _ (v : PlainVersion) (fit : numbers_fit v ≡ true) where
   pub means : (d : Dialect) (rule : PreReleases) (tree : TreeOf d) (progress : Progress) → Says d (takes_all rule) v progress tree
-      → said d rule v progress ≡ meant_by d rule tree (without_build v)
+      → is_met d rule v progress ≡ meant_by d rule tree (without_build v)
   means Cargo Default tree progress says = says.0 ∙ cargo_default v tree
   means Cargo Included tree progress says = says.0 ∙ cargo_included v tree
   means Cargo Excluded tree progress says = ap (λ b. is_empty v.pre && b) (says.0 ∙ cargo_default v tree)

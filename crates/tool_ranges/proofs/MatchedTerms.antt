@@ -39,13 +39,13 @@ none_kept s n = rw n refl
 
 -- whether a version is within the bounds of a term; if `by_default` is true, within those for
 -- pre-releases that count by default
-abbrev pub looked_within : Dialect → Bool → Form → List ℕ → PlainVersion → PlainVersion → Bool
-looked_within d by_default form s z v = if by_default then is_counted_within d form s (plain_by (digits_in (grammar_of d)) z) v
+abbrev pub is_within_interval : Dialect → Bool → Form → List ℕ → PlainVersion → PlainVersion → Bool
+is_within_interval d by_default form s z v = if by_default then is_counted_within d form s (plain_by (digits_in (grammar_of d)) z) v
     else is_within d form s (plain_by (digits_in (grammar_of d)) z) v
 
 module _ (s : Simple) (v : PlainVersion) where
   abbrev Means : Dialect → Bool → Bool → Type 0
-  Means d all by_default = looked_within d by_default s.form (stated s.partial) (zero_filled s.partial) v ≡ term_met d all v s
+  Means d all by_default = is_within_interval d by_default s.form (stated s.partial) (zero_filled s.partial) v ≡ term_met d all v s
 
   pub all_means : (d : Dialect) → Means d true false
   all_means Cargo = sym (cargo_all v s.form (stated_shape s.partial) _ (none_any s))
@@ -76,26 +76,26 @@ module _ (d : Dialect) (s : Simple) (simple : read.Simple) (is : IsSimpleOf s si
   same_read : (stated_of simple.partial ≡ stated s.partial) × (version_of simple.partial ≡ zero_filled s.partial)
   same_read = is.1.1 (sym is.1.0 ∙ term_stated d s fit)
 
-  pub said : (says : Form → List ℕ → PlainVersion → Bool)
+  pub of_tree : (says : Form → List ℕ → PlainVersion → Bool)
       → says (form_of simple.form) (stated_of simple.partial) (version_of simple.partial) ≡ says s.form (stated s.partial) (zero_filled s.partial)
-  said says i = says (is.0 i) (same_read.0 i) (same_read.1 i)
+  of_tree says i = says (is.0 i) (same_read.0 i) (same_read.1 i)
 
   -- whether it states the numbers of a version, and a pre-release
   pub stated_at : (v : PlainVersion) → states_at simple.partial v ≡ states_pre_release_at (of_simple s) v
-  stated_at v = said (λ f n z. not (is_empty z.pre) && pointwise nat_eq (numbers v) n)
+  stated_at v = of_tree (λ f n z. not (is_empty z.pre) && pointwise nat_eq (numbers v) n)
 
   -- whether it matches everything
   pub everything : asks_nothing_by (form_of simple.form) (is_empty (stated_of simple.partial)) (is_zero (version_of simple.partial))
       ≡ matches_everything (of_simple s)
-  everything = said (λ f n z. asks_nothing_by f (is_empty n) (is_zero z))
+  everything = of_tree (λ f n z. asks_nothing_by f (is_empty n) (is_zero z))
 
   -- whether a version satisfies it: `a` for a release, and `b` for a pre-release
   pub each_kind : (v : PlainVersion) (all a b : Bool)
-      → a ≡ looked_within d false (form_of simple.form) (stated_of simple.partial) (version_of simple.partial) v
-      → b ≡ looked_within d (not all) (form_of simple.form) (stated_of simple.partial) (version_of simple.partial) v
+      → a ≡ is_within_interval d false (form_of simple.form) (stated_of simple.partial) (version_of simple.partial) v
+      → b ≡ is_within_interval d (not all) (form_of simple.form) (stated_of simple.partial) (version_of simple.partial) v
       → (if is_empty v.pre then a else b) ≡ term_met d all v s
   each_kind v all a b e f = by_test (is_empty v.pre)
-      (λ y. rw y (e ∙ said (λ f n z. looked_within d false f n z v)
+      (λ y. rw y (e ∙ of_tree (λ f n z. is_within_interval d false f n z v)
       ∙ term_means s v d all false (sym (ap (λ b. not all && not b) y ∙ and-false (not all)))))
-      (λ n. rw n (f ∙ said (λ f n z. looked_within d (not all) f n z v)
+      (λ n. rw n (f ∙ of_tree (λ f n z. is_within_interval d (not all) f n z v)
       ∙ term_means s v d all (not all) (sym (ap (λ b. not all && not b) n ∙ and-true (not all)))))

@@ -9,7 +9,7 @@ use Rattle.semver_texts.specs.Texts.{is_empty}
 use Rattle.semver_texts.specs.Versions.{numbers, IdentifierValue, PlainVersion}
 use Rattle.semver_texts.proofs.Lists.{by_test}
 use Rattle.semver_ranges.specs.RangeTree.{Form, bare, equal, less, at_most, greater, at_least, tilde, caret}
-use Rattle.semver_ranges.specs.OwnMeaning.{agrees, agrees_past_zeros}
+use Rattle.semver_ranges.specs.CrateMeaning.{agrees, agrees_past_zeros}
 use Rattle.semver_ranges.specs.Partials.{filled, leading_place}
 use Rattle.semver_ranges.proofs.Rows.{Shape, step}
 use Rattle.version_sets.specs.Sides.{at, below}

@@ -16,7 +16,7 @@ use Rattle.semver_ranges.specs.declared.partial.LowerBounds.{LowerBounds}
 use Rattle.semver_ranges.specs.declared.partial.LowerBounds.TheVariants.{Stated, Lowest}
 use Rattle.semver_ranges.specs.declared.range.Compat.{Compat}
 use Rattle.semver_ranges.specs.declared.range.Compat.TheVariants as mode
-use Rattle.semver_ranges.specs.Meeting.{meets_comparator, meets_range, meets_set}
+use Rattle.semver_ranges.specs.SatisfiedComparators.{meets_comparator, meets_range, meets_set}
 use Rattle.semver_ranges.specs.Partials.{filled, stated, zero_filled}
 use Rattle.semver_ranges.specs.RangeTree.{Form, less, greater, at_least, Simple, SetTree}
 use Rattle.semver_ranges.specs.RewritingTable.{PlainSet}

@@ -18,7 +18,7 @@ use Rattle.semver_texts.proofs.Lists.{by_test}
 use Rattle.semver_ranges.specs.declared.partial.LowerBounds.{LowerBounds}
 use Rattle.semver_ranges.specs.declared.partial.LowerBounds.TheVariants.{Stated, Lowest}
 use Rattle.semver_ranges.specs.ExactBounds.{exact_bound, lowest_pre_release}
-use Rattle.semver_ranges.specs.Meeting.{meets_comparator}
+use Rattle.semver_ranges.specs.SatisfiedComparators.{meets_comparator}
 use Rattle.semver_ranges.specs.Partials.{filled, stated, zero_filled}
 use Rattle.semver_ranges.specs.RangeTree.{Form, bare, equal, less, at_most, greater, at_least, tilde, caret, Simple}
 use Rattle.semver_ranges.specs.RewritingTable.{up, with_pre_release}

@@ -18,7 +18,7 @@ use Rattle.semver_ranges.specs.RangeTree.{Form, bare, equal, less, at_most, grea
 use Rattle.semver_ranges.specs.RangeTree.{caret, PartialTree, Simple, components, is_wildcard}
 use Rattle.semver_ranges.specs.Partials.{stated}
 use Rattle.semver_ranges.specs.Terms.{of_simple}
-use Rattle.semver_ranges.specs.OwnMeaning.{agrees_past_zeros, meets_form}
+use Rattle.semver_ranges.specs.CrateMeaning.{agrees_past_zeros, meets_form}
 use Rattle.semver_ranges.specs.StatedPreReleases.{states_pre_release_at}
 use Rattle.version_sets.specs.declared.rules.PreReleases.{PreReleases}
 use Rattle.version_sets.specs.declared.rules.PreReleases.TheVariants.{Default, Included, Excluded}

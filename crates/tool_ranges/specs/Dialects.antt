@@ -9,7 +9,7 @@ use Rattle.semver_texts.specs.declared.grammar.Grammar.{Grammar}
 use Rattle.semver_texts.specs.declared.grammar.Grammar.TheVariants as grammar
 use Rattle.semver_ranges.specs.declared.range.Compat.{Compat}
 use Rattle.semver_ranges.specs.declared.range.Compat.TheVariants as compat
-use Rattle.semver_ranges.specs.OwnMeaning.{meets_tree}
+use Rattle.semver_ranges.specs.CrateMeaning.{meets_tree}
 use Rattle.semver_ranges.specs.RangeTree.{SetTree, Simple, Spells}
 use Rattle.semver_ranges.specs.RangeTexts.{Refuses}
 use Rattle.semver_ranges.specs.RewritingTable.{PlainSet, fits, fits_by}

@@ -14,7 +14,7 @@ use Rattle.semver_ranges.specs.RangeTree.{PartialTree, Simple, SetTree, RangeTre
 use Rattle.semver_ranges.specs.RangeTree.{simples}
 use Rattle.semver_ranges.specs.Partials.{stated, states_nothing, zero_filled}
 use Rattle.semver_ranges.specs.Terms.{Term, of_simple, of_nothing, left_side, right_side, terms}
-use Rattle.semver_ranges.specs.OwnMeaning.{agrees, agrees_past_zeros}
+use Rattle.semver_ranges.specs.CrateMeaning.{agrees, agrees_past_zeros}
 use Rattle.semver_ranges.specs.RewritingTable.{up}
 use Rattle.semver_ranges.specs.StatedPreReleases.{counts_in}
 use Rattle.version_sets.specs.declared.rules.PreReleases.{PreReleases}

@@ -15,7 +15,7 @@ ghost use Rattle.tool_ranges.specs.Meanings.{meant_by};
 ghost use Rattle.tool_ranges.specs.FittingTerms.{first_unraised, fitting, stating, terms_as};
 ghost use Rattle.tool_ranges.specs.Sides.{term_fits, sides_fit};
 ghost use Rattle.tool_ranges.specs.Steps.Matching.{Says, begun, counts, ended, lower_of, plain_of};
-ghost use Rattle.tool_ranges.specs.Steps.Matching.{said, states_at, taken, takes_all, term_met};
+ghost use Rattle.tool_ranges.specs.Steps.Matching.{is_met, states_at, taken, takes_all, term_met};
 ghost use Rattle.tool_ranges.specs.Steps.Reading.{IsRead, IsRefusedAs};
 ghost use Rattle.tool_ranges.specs.Steps.Table.{is_counted_within, is_within};
 ghost use Rattle.tool_ranges.specs.NpmMeaning.{asks_nothing_by, is_zero};
@@ -45,7 +45,7 @@ pub(crate) fn answer(
         → met ≡ meant_by dialect rule tree (without_build (plain_of version.now))) }
 {
     match matches(version, range, dialect, takes_all(rule)) {
-        Ok(progress) => Ok(said(&progress, is_release(version), dialect, rule)),
+        Ok(progress) => Ok(is_met(&progress, is_release(version), dialect, rule)),
         Err(refusal) => Err(refusal),
     }
 }
@@ -62,12 +62,12 @@ pub(crate) fn takes_all(rule: PreReleases) -> bool
 /// npm's dialect, if some range matches everything, every release satisfies the string by default,
 /// and no pre-release does.
 #[inline(always)]
-fn said(progress: &Progress, is_release: bool, dialect: Dialect, rule: PreReleases) -> bool
+fn is_met(progress: &Progress, is_release: bool, dialect: Dialect, rule: PreReleases) -> bool
     ensures { (v : PlainVersion) → is_release ≡ is_empty v.pre
-        → result ≡ said dialect rule v progress.now }
+        → result ≡ is_met dialect rule v progress.now }
 {
     let met = match (dialect, rule) {
-        (Dialect::Npm, PreReleases::Default | PreReleases::Excluded) if progress.every =>
+        (Dialect::Npm, PreReleases::Default | PreReleases::Excluded) if progress.matched_all =>
             is_release,
         _ => progress.met,
     };
@@ -85,11 +85,11 @@ pub(crate) struct Progress {
     /// Whether it counts in the current range.
     counts: bool,
     /// Whether the current range matches everything so far.
-    nothing: bool,
+    matches_all: bool,
     /// Whether it satisfies an earlier range, and counts in it.
     met: bool,
     /// Whether an earlier range matches everything.
-    every: bool,
+    matched_all: bool,
 }
 
 impl Progress {
@@ -102,9 +102,9 @@ impl Progress {
         Progress {
             here: true,
             counts,
-            nothing: true,
+            matches_all: true,
             met: false,
-            every: false,
+            matched_all: false,
         }
     }
 
@@ -127,7 +127,7 @@ impl Progress {
         Progress {
             here: self.here & meets(simple, version, dialect, by_default),
             counts: self.counts | is_stated_by(version, &simple.partial),
-            nothing: self.nothing & matches_everything(simple),
+            matches_all: self.matches_all & matches_everything(simple),
             ..self
         }
     }
@@ -140,9 +140,9 @@ impl Progress {
         Progress {
             here: true,
             counts,
-            nothing: true,
+            matches_all: true,
             met: self.met | (self.here & self.counts),
-            every: self.every | self.nothing,
+            matched_all: self.matched_all | self.matches_all,
         }
     }
 }
@@ -208,13 +208,17 @@ fn meets(simple: &Simple<'_>, version: &VersionRef<'_>, dialect: Dialect, by_def
         → by_default ≡ (not all && not (is_empty (plain_of version.now).pre))
         → result ≡ term_met dialect all (plain_of version.now) s }
 {
-    looked_at(simple, dialect, by_default).contains(version, dialect.grammar().digits())
+    interval_of(simple, dialect, by_default).contains(version, dialect.grammar().digits())
 }
 
 /// Returns the interval of a term: the one for all versions, or if `by_default`, the one for
 /// pre-releases that count by default.
 #[inline(always)]
-pub(crate) fn looked_at<'t>(simple: &Simple<'t>, dialect: Dialect, by_default: bool) -> Interval<'t>
+pub(crate) fn interval_of<'t>(
+    simple: &Simple<'t>,
+    dialect: Dialect,
+    by_default: bool,
+) -> Interval<'t>
     requires { PartsPass simple.now.partial }
     ensures { sides_fit dialect (form_of simple.now.form) (stated_of simple.now.partial)
         (version_of simple.now.partial) ≡ true → (v : PlainVersion)

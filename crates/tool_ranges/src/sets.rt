@@ -13,7 +13,7 @@ ghost use Rattle.version_sets.specs.VersionSets.{contains, Fits};
 ghost use Rattle.tool_ranges.specs.Dialects.{HasSetAs, RefusesAs, SpellsAs, TreeOf, grammar_of};
 ghost use Rattle.tool_ranges.specs.Meanings.{MeansBy, meant_by};
 ghost use Rattle.tool_ranges.specs.Steps.Building.{is_one_of, known, Prints};
-ghost use Rattle.tool_ranges.specs.Steps.Matching.{begun, counts, ended, said, taken, takes_all};
+ghost use Rattle.tool_ranges.specs.Steps.Matching.{begun, counts, ended, is_met, taken, takes_all};
 ghost use Rattle.tool_ranges.specs.Steps.Matching.{states_at, takes_releases};
 ghost use Rattle.tool_ranges.specs.Sides.{term_fits};
 ghost use Rattle.std.specs.List.{list_any};
@@ -22,7 +22,7 @@ ghost use Rattle.version_sets.specs.Steps.Ends.{ranges_print};
 
 use crate::cursor::Cursor;
 use crate::dialect::Dialect;
-use crate::matching::{looked_at, lower, matches_everything, takes_all};
+use crate::matching::{interval_of, lower, matches_everything, takes_all};
 use crate::meaning::{Meaning, check};
 use crate::table::{bounds, numbers};
 use semver_ranges::RangeError;
@@ -95,9 +95,9 @@ pub(crate) struct Building<'text> {
     /// The numbers of the terms of the current range that name a pre-release.
     stated: Vec<Release>,
     /// Whether the current range matches everything so far.
-    nothing: bool,
+    matches_all: bool,
     /// Whether an earlier range matches everything.
-    every: bool,
+    matched_all: bool,
 }
 
 impl<'text> Building<'text> {
@@ -111,8 +111,8 @@ impl<'text> Building<'text> {
             ranges: Ranges::new(alloc),
             here: Conjunction::new(),
             stated: Vec::new(alloc),
-            nothing: true,
-            every: false,
+            matches_all: true,
+            matched_all: false,
         }
     }
 
@@ -130,12 +130,12 @@ impl<'text> Building<'text> {
         ensures prints { IfOk result (λ _. Prints (digits_in (grammar_of dialect)) self.old
             → Prints (digits_in (grammar_of dialect)) self.new) }
     {
-        let pre_releases = looked_at(simple, dialect, !all);
+        let pre_releases = interval_of(simple, dialect, !all);
         let digits = dialect.grammar().digits();
         self.here = self
             .here
             .and(&bounds(simple, dialect), &pre_releases, digits);
-        self.nothing &= matches_everything(simple);
+        self.matches_all &= matches_everything(simple);
         if let Some(numbers) = stated_numbers(&simple.partial) {
             self.stated.push(numbers)?;
         }
@@ -151,8 +151,8 @@ impl<'text> Building<'text> {
     {
         self.ranges.push_releases(&self.here)?;
         push_pre_releases(&mut self.ranges, &self.here, &self.stated, all)?;
-        self.every |= self.nothing;
-        self.nothing = true;
+        self.matched_all |= self.matches_all;
+        self.matches_all = true;
         self.here = Conjunction::new();
         self.stated.clear();
         Ok(())
@@ -168,14 +168,14 @@ impl Building<'_> {
         rule: PreReleases,
     ) -> Result<VersionSet, AllocError>
         ensures meaning { IfOk result (λ set. (v : PlainVersion) → Fits v
-            → contains set v ≡ said dialect rule v
+            → contains set v ≡ is_met dialect rule v
             (ended (counts (takes_all rule) v) (known (takes_all rule) v self.entry))) }
         ensures printable { Prints (digits_in (grammar_of dialect)) self.entry
             → IfOk result IsPrintable }
         ensures digits { IfOk result (λ set. set.digits ≡ digits_in (grammar_of dialect)) }
     {
         let digits = dialect.grammar().digits();
-        if (self.every | self.nothing) & is_by_default_of_npm(dialect, rule) {
+        if (self.matched_all | self.matches_all) & is_by_default_of_npm(dialect, rule) {
             return Ranges::new(alloc).into_set(alloc, &Conjunction::new(), digits);
         }
         let mut ranges = self.ranges;

@@ -9,7 +9,7 @@ use Rattle.semver_texts.specs.Versions.{PlainVersion}
 use Rattle.semver_texts.specs.Precedence.{precedence}
 use Rattle.semver_texts.specs.Steps.PrecedenceLaws.{precedence_total, precedence-same}
 use Rattle.semver_ranges.specs.RewritingTable.{comparator}
-use Rattle.semver_ranges.specs.Meeting.{meets_comparator, meets_range}
+use Rattle.semver_ranges.specs.SatisfiedComparators.{meets_comparator, meets_range}
 use Rattle.version_sets.specs.Boundaries.{is_inside, IsIncreasing}
 use Rattle.version_sets.specs.SetRanges.{Kind, is_lowest, is_same_end, bounds, interval, intervals}
 use Rattle.version_sets.proofs.BoundLaws.{from, and_true, at_and_not_above}

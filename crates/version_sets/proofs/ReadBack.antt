@@ -17,7 +17,7 @@ use Rattle.semver_texts.specs.Precedence.{precedence}
 use Rattle.semver_ranges.specs.Partials.{zero_version}
 use Rattle.semver_ranges.specs.RangeTree.{bare, one, simples, SetTree, Spells}
 use Rattle.semver_ranges.specs.RewritingTable.{PlainComparator, PlainRange, PlainSet, comparator, fits, rewritten}
-use Rattle.semver_ranges.specs.Meeting.{meets_comparator, meets_range, meets_set}
+use Rattle.semver_ranges.specs.SatisfiedComparators.{meets_comparator, meets_range, meets_set}
 use Rattle.semver_ranges.specs.PrintedRanges.{is_printable_version, IsPrintableRange, IsPrintableSet, set_text}
 use Rattle.version_sets.specs.VersionSets.{SetValue, contains, IsRelease}
 use Rattle.version_sets.specs.SetRanges.{Kind, is_lowest, is_same_end, bounds, interval, npm_range, intervals, of_pre_releases, pre_release_above}

@@ -3,7 +3,7 @@
 use Rattle.std.proofs.Common.{arith, ◌≡◌, ◌<◌, not, List, [], ◌∷◌, map, length, IsTrue, sym, ◌∙◌, subst}
 use Rattle.std.specs.List.{list_all}
 use Rattle.semver_texts.specs.Versions.{PlainVersion}
-use Rattle.semver_ranges.specs.Meeting.{meets_set}
+use Rattle.semver_ranges.specs.SatisfiedComparators.{meets_set}
 use Rattle.semver_ranges.specs.PrintedRanges.{is_printable_version}
 use Rattle.version_sets.specs.VersionSets.{SetValue, contains, IsIn, IsRelease, IsPreRelease, IsNormal}
 use Rattle.version_sets.specs.SetRanges.{of_releases, of_pre_releases, release_ranges, pre_release_ranges, is_whole}

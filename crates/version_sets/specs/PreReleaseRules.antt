@@ -7,7 +7,7 @@ use Rattle.semver_texts.specs.Versions.{PlainVersion, VersionValue, numbers}
 use Rattle.semver_ranges.specs.Partials.{fits_u64}
 use Rattle.semver_ranges.specs.declared.range.Compat.{Compat}
 use Rattle.semver_ranges.specs.RangeTree.{SetTree}
-use Rattle.semver_ranges.specs.OwnMeaning.{meets_tree}
+use Rattle.semver_ranges.specs.CrateMeaning.{meets_tree}
 use Rattle.semver_ranges.specs.StatedPreReleases.{meets_tree_as_stated}
 use Rattle.version_sets.specs.declared.rules.PreReleases.{PreReleases}
 use Rattle.version_sets.specs.declared.rules.PreReleases.TheVariants.{Excluded, Default, Included}

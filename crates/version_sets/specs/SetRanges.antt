@@ -13,7 +13,7 @@ use Rattle.semver_ranges.specs.Partials.{fits_u64}
 use Rattle.semver_ranges.specs.RangeTree.{SetTree, Spells}
 use Rattle.semver_ranges.specs.RewritingTable.{PlainComparator, PlainRange, PlainSet, comparator}
 use Rattle.semver_ranges.specs.RewritingTable.{fits, rewritten}
-use Rattle.semver_ranges.specs.Meeting.{meets_set}
+use Rattle.semver_ranges.specs.SatisfiedComparators.{meets_set}
 use Rattle.semver_ranges.specs.PrintedRanges.{set_text}
 use Rattle.version_sets.specs.VersionSets.{SetValue, contains}
 

@@ -21,9 +21,9 @@ abbrev pub known : Bool → PlainVersion → Building → Progress
 known all v b = record {
   here = in_each b.here v;
   counts = counts all v || list_any (has_numbers v) b.stated.items;
-  nothing = b.nothing;
+  matches_all = b.matches_all;
   met = in_ranges b.ranges v;
-  every = b.every;
+  matched_all = b.matched_all;
 }
 
 -- the ends of the spans of pre-releases can be read back from their texts

@@ -11,7 +11,7 @@ use Rattle.semver_ranges.specs.declared.partial.LowerBounds.TheVariants.{Lowest,
 use Rattle.semver_ranges.specs.declared.partial.Partial.{Partial}
 use Rattle.semver_ranges.specs.declared.range.Compat.TheVariants as mode
 use Rattle.semver_ranges.specs.RangeTree.{Simple}
-use Rattle.semver_ranges.specs.OwnMeaning.{meets_stated}
+use Rattle.semver_ranges.specs.CrateMeaning.{meets_stated}
 use Rattle.semver_ranges.specs.Partials.{stated, zero_filled}
 use Rattle.semver_ranges.specs.StatedPreReleases.{states_pre_release_at}
 use Rattle.semver_ranges.specs.Terms.{of_simple}
@@ -73,14 +73,14 @@ counts all v = all || is_empty v.pre
 -- what is known before the first term
 abbrev pub begun : Bool → Progress
 begun counts =
-    record { here = true; counts = counts; nothing = true; met = false; every = false }
+    record { here = true; counts = counts; matches_all = true; met = false; matched_all = false }
 
 -- what is known after one more term
 abbrev pub taken : Dialect → Bool → PlainVersion → Simple → Progress → Progress
 taken dialect all v s t = record t {
   here = t.here && term_met dialect all v s;
   counts = t.counts || states_pre_release_at (of_simple s) v;
-  nothing = t.nothing && npm.matches_everything (of_simple s);
+  matches_all = t.matches_all && npm.matches_everything (of_simple s);
 }
 
 -- what is known at the end of a range
@@ -88,9 +88,9 @@ abbrev pub ended : Bool → Progress → Progress
 ended counts t = record {
   here = true;
   counts = counts;
-  nothing = true;
+  matches_all = true;
   met = t.met || (t.here && t.counts);
-  every = t.every || t.nothing;
+  matched_all = t.matched_all || t.matches_all;
 }
 
 -- what is known after more events
@@ -114,18 +114,18 @@ abbrev pub Says : (dialect : Dialect) → Bool → PlainVersion → Progress →
 Says dialect all v progress tree =
     (progress.met
     ≡ list_any (range_met dialect all v) (ranges_of (lower_of dialect all) dialect tree))
-    × (progress.every ≡ list_any range_every (ranges_of (lower_of dialect all) dialect tree))
+    × (progress.matched_all ≡ list_any range_every (ranges_of (lower_of dialect all) dialect tree))
 
 -- whether the version satisfies the text. In npm's dialect, if some range matches everything, each
 -- release does by default and no pre-release
 abbrev pub met_by : Dialect → Bool → PlainVersion → Progress → Bool
-met_by Npm false v progress = if progress.every then is_empty v.pre else progress.met
+met_by Npm false v progress = if progress.matched_all then is_empty v.pre else progress.met
 met_by dialect all v progress = progress.met
 
 -- whether the version satisfies the text under a rule
-abbrev pub said : Dialect → PreReleases → PlainVersion → Progress → Bool
-said dialect Excluded v progress = is_empty v.pre && met_by dialect false v progress
-said dialect rule v progress = met_by dialect (takes_all rule) v progress
+abbrev pub is_met : Dialect → PreReleases → PlainVersion → Progress → Bool
+is_met dialect Excluded v progress = is_empty v.pre && met_by dialect false v progress
+is_met dialect rule v progress = met_by dialect (takes_all rule) v progress
 
 -- whether, if some range matches everything, each release satisfies the text and no pre-release
 -- does: in npm's dialect, unless each pre-release within the bounds counts

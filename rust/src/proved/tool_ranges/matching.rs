@@ -21,7 +21,7 @@ pub(crate) fn answer(
     rule: PreReleases,
 ) -> Result<bool, RangeError> {
     match matches(version, range, dialect, takes_all(rule)) {
-        Ok(progress) => Ok(said(&progress, is_release(version), dialect, rule)),
+        Ok(progress) => Ok(is_met(&progress, is_release(version), dialect, rule)),
         Err(refusal) => Err(refusal),
     }
 }
@@ -36,9 +36,9 @@ pub(crate) fn takes_all(rule: PreReleases) -> bool {
 /// npm's dialect, if some range matches everything, every release satisfies the string by default,
 /// and no pre-release does.
 #[inline(always)]
-fn said(progress: &Progress, is_release: bool, dialect: Dialect, rule: PreReleases) -> bool {
+fn is_met(progress: &Progress, is_release: bool, dialect: Dialect, rule: PreReleases) -> bool {
     let met = match (dialect, rule) {
-        (Dialect::Npm, PreReleases::Default | PreReleases::Excluded) if progress.every =>
+        (Dialect::Npm, PreReleases::Default | PreReleases::Excluded) if progress.matched_all =>
             is_release,
         _ => progress.met,
     };
@@ -56,11 +56,11 @@ pub(crate) struct Progress {
     /// Whether it counts in the current range.
     counts: bool,
     /// Whether the current range matches everything so far.
-    nothing: bool,
+    matches_all: bool,
     /// Whether it satisfies an earlier range, and counts in it.
     met: bool,
     /// Whether an earlier range matches everything.
-    every: bool,
+    matched_all: bool,
 }
 
 impl Progress {
@@ -71,9 +71,9 @@ impl Progress {
         Progress {
             here: true,
             counts,
-            nothing: true,
+            matches_all: true,
             met: false,
-            every: false,
+            matched_all: false,
         }
     }
 
@@ -90,7 +90,7 @@ impl Progress {
         Progress {
             here: self.here & meets(simple, version, dialect, by_default),
             counts: self.counts | is_stated_by(version, &simple.partial),
-            nothing: self.nothing & matches_everything(simple),
+            matches_all: self.matches_all & matches_everything(simple),
             ..self
         }
     }
@@ -101,9 +101,9 @@ impl Progress {
         Progress {
             here: true,
             counts,
-            nothing: true,
+            matches_all: true,
             met: self.met | (self.here & self.counts),
-            every: self.every | self.nothing,
+            matched_all: self.matched_all | self.matches_all,
         }
     }
 }
@@ -155,13 +155,17 @@ pub(crate) fn lower(dialect: Dialect, takes_all: bool) -> LowerBounds {
 /// Returns whether a version satisfies a term.
 #[inline(always)]
 fn meets(simple: &Simple<'_>, version: &VersionRef<'_>, dialect: Dialect, by_default: bool) -> bool {
-    looked_at(simple, dialect, by_default).contains(version, dialect.grammar().digits())
+    interval_of(simple, dialect, by_default).contains(version, dialect.grammar().digits())
 }
 
 /// Returns the interval of a term: the one for all versions, or if `by_default`, the one for
 /// pre-releases that count by default.
 #[inline(always)]
-pub(crate) fn looked_at<'t>(simple: &Simple<'t>, dialect: Dialect, by_default: bool) -> Interval<'t> {
+pub(crate) fn interval_of<'t>(
+    simple: &Simple<'t>,
+    dialect: Dialect,
+    by_default: bool,
+) -> Interval<'t> {
     if by_default {
         counted(simple, dialect)
     } else {

@@ -4,7 +4,7 @@
 use crate::rattle_std::prelude::*;
 use crate::proved::tool_ranges::cursor::Cursor;
 use crate::proved::tool_ranges::dialect::Dialect;
-use crate::proved::tool_ranges::matching::{looked_at, lower, matches_everything, takes_all};
+use crate::proved::tool_ranges::matching::{interval_of, lower, matches_everything, takes_all};
 use crate::proved::tool_ranges::meaning::{Meaning, check};
 use crate::proved::tool_ranges::table::{bounds, numbers};
 use crate::proved::semver_ranges::RangeError;
@@ -64,9 +64,9 @@ pub(crate) struct Building<'text> {
     /// The numbers of the terms of the current range that name a pre-release.
     stated: Vec<Release>,
     /// Whether the current range matches everything so far.
-    nothing: bool,
+    matches_all: bool,
     /// Whether an earlier range matches everything.
-    every: bool,
+    matched_all: bool,
 }
 
 impl<'text> Building<'text> {
@@ -76,8 +76,8 @@ impl<'text> Building<'text> {
             ranges: Ranges::new(),
             here: Conjunction::new(),
             stated: Vec::new(),
-            nothing: true,
-            every: false,
+            matches_all: true,
+            matched_all: false,
         }
     }
 
@@ -88,12 +88,12 @@ impl<'text> Building<'text> {
         dialect: Dialect,
         all: bool,
     ) -> Result<(), AllocError> {
-        let pre_releases = looked_at(simple, dialect, !all);
+        let pre_releases = interval_of(simple, dialect, !all);
         let digits = dialect.grammar().digits();
         self.here = self
             .here
             .and(&bounds(simple, dialect), &pre_releases, digits);
-        self.nothing &= matches_everything(simple);
+        self.matches_all &= matches_everything(simple);
         if let Some(numbers) = stated_numbers(&simple.partial) {
             self.stated.fallible_push(numbers)?;
         }
@@ -104,8 +104,8 @@ impl<'text> Building<'text> {
     fn end_range(&mut self, all: bool) -> Result<(), AllocError> {
         self.ranges.push_releases(&self.here)?;
         push_pre_releases(&mut self.ranges, &self.here, &self.stated, all)?;
-        self.every |= self.nothing;
-        self.nothing = true;
+        self.matched_all |= self.matches_all;
+        self.matches_all = true;
         self.here = Conjunction::new();
         self.stated.clear();
         Ok(())
@@ -120,7 +120,7 @@ impl Building<'_> {
         rule: PreReleases,
     ) -> Result<VersionSet, AllocError> {
         let digits = dialect.grammar().digits();
-        if (self.every | self.nothing) & is_by_default_of_npm(dialect, rule) {
+        if (self.matched_all | self.matches_all) & is_by_default_of_npm(dialect, rule) {
             return Ranges::new().into_set(&Conjunction::new(), digits);
         }
         let mut ranges = self.ranges;

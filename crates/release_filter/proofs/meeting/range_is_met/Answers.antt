@@ -2,7 +2,7 @@ use Rattle.std.proofs.Common.{List, ap, sym, ◌∙◌, map}
 use Rattle.std.specs.List.{list_all}
 use Rattle.std.proofs.lemmas.List.Folds.{list_all-map}
 use Rattle.semver_ranges.specs.declared.range.Comparator.{Comparator}
-use Rattle.semver_ranges.specs.Meeting.{meets_comparator}
+use Rattle.semver_ranges.specs.SatisfiedComparators.{meets_comparator}
 use Rattle.semver_ranges.specs.RangeViews.{comparator_of}
 use Rattle.semver_texts.specs.VersionViews.{version_value}
 use Rattle.release_filter.proofs.meeting.range_is_met.Goals as goal

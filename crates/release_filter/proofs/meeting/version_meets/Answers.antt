@@ -1,7 +1,7 @@
 use Rattle.std.proofs.Common.{List, ap, sym, ◌∙◌, map}
 use Rattle.std.specs.List.{list_any}
 use Rattle.semver_ranges.specs.declared.range.Range.{Range}
-use Rattle.semver_ranges.specs.Meeting.{meets_range}
+use Rattle.semver_ranges.specs.SatisfiedComparators.{meets_range}
 use Rattle.semver_ranges.specs.RangeViews.{range_of}
 use Rattle.semver_texts.specs.VersionViews.{version_value}
 use Rattle.release_filter.proofs.Tests.{list_any-map}

@@ -1,7 +1,7 @@
 use Rattle.std.proofs.Common.{take}
 use Rattle.invalid_strings.specs.Reasons.{byte_at}
 use Rattle.result_laws.specs.OneResult.{itself}
-use Rattle.result_laws.proofs.OneResult.{one_made, said}
+use Rattle.result_laws.proofs.OneResult.{one_made, of_ok}
 use Rattle.result_laws.proofs.OneRefusal.{one_refused}
 use Rattle.result_laws.proofs.ranges.one_refusal.Goals as goal
 
@@ -13,6 +13,6 @@ returns c =
       one = one_made itself _ _ (λ a b is is'.
           one_refused dialect text (c.one_offset.ensures.same_offset dialect text)
           (c.one_limit_offset.ensures.same_offset dialect text)
-          (λ n. c.one_reason.ensures.same_reason dialect (take n text) (byte_at text n)) a b (said _ is c.refused.ensures.refused)
-          (said _ is' c.refused-2.ensures.refused));
+          (λ n. c.one_reason.ensures.same_reason dialect (take n text) (byte_at text n)) a b (of_ok _ is c.refused.ensures.refused)
+          (of_ok _ is' c.refused-2.ensures.refused));
     }

@@ -1,6 +1,6 @@
 use Rattle.std.proofs.Common.{sym, ◌∙◌}
 use Rattle.result_laws.specs.OneResult.{itself}
-use Rattle.result_laws.proofs.OneResult.{one, said, with_memory}
+use Rattle.result_laws.proofs.OneResult.{one, of_ok, with_memory}
 use Rattle.result_laws.proofs.ranges.one_terms.Goals as goal
 
 pub returns : goal.returns
@@ -10,5 +10,5 @@ returns c =
     record {
       one = with_memory _ _ r.no_memory s.no_memory
           (one itself _ _ r.refusals s.refusals
-          (λ a b is is' has. said _ is r.terms has.0 has.1 ∙ sym (said _ is' s.terms has.0 has.1)));
+          (λ a b is is' has. of_ok _ is r.terms has.0 has.1 ∙ sym (of_ok _ is' s.terms has.0 has.1)));
     }

@@ -1,6 +1,6 @@
 use Rattle.result_laws.specs.SameSets.{comparison_value}
 use Rattle.result_laws.proofs.LowestVersions.{one_lowest}
-use Rattle.result_laws.proofs.OneResult.{said}
+use Rattle.result_laws.proofs.OneResult.{of_ok}
 use Rattle.result_laws.proofs.SameSets.{one_combined_answer}
 use Rattle.result_laws.proofs.sets.one_compare.Goals as goal
 
@@ -11,8 +11,8 @@ returns c =
     let s = c.compare-2.ensures in
     record {
       one = one_combined_answer comparison_value _ _ _ r.refused s.refused (λ a b is is'.
-          let lost = one_lowest law.total law.same _ a.lost b.lost (said _ is r.lost) (said _ is' s.lost) in
-          let gained = one_lowest law.total law.same _ a.gained b.gained (said _ is r.gained) (said _ is' s.gained) in
-          let shared = one_lowest law.total law.same _ a.shared b.shared (said _ is r.shared) (said _ is' s.shared) in
+          let lost = one_lowest law.total law.same _ a.lost b.lost (of_ok _ is r.lost) (of_ok _ is' s.lost) in
+          let gained = one_lowest law.total law.same _ a.gained b.gained (of_ok _ is r.gained) (of_ok _ is' s.gained) in
+          let shared = one_lowest law.total law.same _ a.shared b.shared (of_ok _ is r.shared) (of_ok _ is' s.shared) in
           λ i. record { lost = lost i; gained = gained i; shared = shared i });
     }

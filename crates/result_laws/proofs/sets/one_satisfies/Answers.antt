@@ -1,6 +1,6 @@
 use Rattle.std.proofs.Common.{sym, ◌∙◌}
 use Rattle.result_laws.specs.OneResult.{itself}
-use Rattle.result_laws.proofs.OneResult.{one, said, with_memory}
+use Rattle.result_laws.proofs.OneResult.{one, of_ok, with_memory}
 use Rattle.result_laws.proofs.sets.one_satisfies.Goals as goal
 
 pub returns : goal.returns
@@ -9,5 +9,5 @@ returns c =
     let s = c.satisfies-2.ensures in
     record {
       one = with_memory _ _ r.no_memory s.no_memory (one itself _ _ r.refusals s.refusals
-          (λ a b is is' text. said _ is r.meaning text.0 text.1 ∙ sym (said _ is' s.meaning text.0 text.1)));
+          (λ a b is is' text. of_ok _ is r.meaning text.0 text.1 ∙ sym (of_ok _ is' s.meaning text.0 text.1)));
     }

@@ -7,7 +7,7 @@ use Rattle.tool_ranges.proofs.ReadSets.{same_refusal}
 use Rattle.tool_ranges.proofs.ReadingLaws.{answered_too}
 use Rattle.version_sets.specs.declared.VersionSet.{VersionSet}
 use Rattle.result_laws.specs.OneResult.{itself}
-use Rattle.result_laws.proofs.OneResult.{one, said}
+use Rattle.result_laws.proofs.OneResult.{one, of_ok}
 use Rattle.result_laws.proofs.sets.satisfies_as_the_set.Goals as goal
 use Rattle.result_laws.proofs.sets.satisfies_as_the_set.Goals.{in-Ok, in-Err}
 
@@ -29,7 +29,7 @@ returns c =
             (λ a b is is' text. sym (inner is) ∙ o.contains_ref.ensures.of_version
             ∙ ap (λ d. contains o.in-Ok.set (plain_by d (kept_version_of c.args.version.now).plain))
             o.in-Ok.ensures.digits
-            ∙ o.in-Ok.ensures.meaning text.0 w text.1 (c.numbers_of_refs_fit.ensures.major, c.numbers_of_refs_fit.ensures.minor, c.numbers_of_refs_fit.ensures.patch) ∙ sym (said _ is' r.meaning text.0 text.1)));
+            ∙ o.in-Ok.ensures.meaning text.0 w text.1 (c.numbers_of_refs_fit.ensures.major, c.numbers_of_refs_fit.ensures.minor, c.numbers_of_refs_fit.ensures.patch) ∙ sym (of_ok _ is' r.meaning text.0 text.1)));
       }
       | in-Err o ↦ record {
         same = rw o.contains-is (one itself _ c.satisfies.result

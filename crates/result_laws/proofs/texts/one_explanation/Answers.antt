@@ -6,7 +6,7 @@ use Rattle.invalid_strings.specs.Reasons.{IsReason, byte_at}
 use Rattle.invalid_strings.specs.VersionPrefixes.{IsLongestVersionPrefix}
 use Rattle.invalid_strings.specs.declared.reasons.Reason.{Reason}
 use Rattle.invalid_strings.specs.declared.refusals.Refusal.{Refusal}
-use Rattle.result_laws.proofs.OneResult.{one_made, said}
+use Rattle.result_laws.proofs.OneResult.{one_made, of_ok}
 use Rattle.result_laws.specs.OneResult.{itself}
 use Rattle.result_laws.proofs.texts.one_explanation.Goals as goal
 
@@ -38,6 +38,6 @@ returns c =
       one = one_made itself _ _ (λ a b is is'.
           one_answer c.args.grammar text (c.one_longest_prefix.ensures.same_offset c.args.grammar text)
           (λ n. c.one_reason.ensures.same_reason c.args.grammar (take n text) (byte_at text n)) a b
-          (record { version = said _ is first.version; offset = said _ is first.offset; reason = said _ is first.reason })
-          (record { version = said _ is' second.version; offset = said _ is' second.offset; reason = said _ is' second.reason }));
+          (record { version = of_ok _ is first.version; offset = of_ok _ is first.offset; reason = of_ok _ is first.reason })
+          (record { version = of_ok _ is' second.version; offset = of_ok _ is' second.offset; reason = of_ok _ is' second.reason }));
     }

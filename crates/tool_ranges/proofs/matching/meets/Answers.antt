@@ -4,7 +4,7 @@ use Rattle.semver_texts.specs.Digits.{digits_in}
 use Rattle.version_sets.specs.Steps.Cuts.{is_in_interval}
 use Rattle.tool_ranges.specs.Steps.Matching.{plain_of}
 use Rattle.tool_ranges.proofs.FitCells.{read_fits}
-use Rattle.tool_ranges.proofs.MatchedTerms.{looked_within, said, term_means}
+use Rattle.tool_ranges.proofs.MatchedTerms.{is_within_interval, of_tree, term_means}
 use Rattle.tool_ranges.proofs.matching.meets.Goals as goal
 
 pub returns : goal.returns
@@ -13,10 +13,10 @@ returns c = λ s all is fit e.
     let simple = c.args.simple.now in
     let v = plain_of c.args.version.now in
     c.contains.ensures
-    ∙ ap (λ digits. is_in_interval digits c.looked_at.result v) (c.digits.ensures ∙ ap digits_in c.grammar.ensures.grammar)
-    ∙ c.looked_at.ensures (and_parts simple.partial.fits _ (read_fits s simple is d ∙ fit)).1 v
-    ∙ said d s simple is fit (λ f n z. looked_within d c.args.by_default f n z v)
+    ∙ ap (λ digits. is_in_interval digits c.interval_of.result v) (c.digits.ensures ∙ ap digits_in c.grammar.ensures.grammar)
+    ∙ c.interval_of.ensures (and_parts simple.partial.fits _ (read_fits s simple is d ∙ fit)).1 v
+    ∙ of_tree d s simple is fit (λ f n z. is_within_interval d c.args.by_default f n z v)
     ∙ term_means s v d all c.args.by_default e
 
-pub looked_at-requires : goal.looked_at-requires
-looked_at-requires c = c.requires.1.1.3
+pub interval_of-requires : goal.interval_of-requires
+interval_of-requires c = c.requires.1.1.3

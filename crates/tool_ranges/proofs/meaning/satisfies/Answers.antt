@@ -31,62 +31,49 @@ read_as_dialect : (o r : VersionRefValue) (read : Digits) (d : Dialect) → r �
     → version_of r ≡ version_by (digits_in (grammar_of d)) (kept_version_of o)
 read_as_dialect o r read d is digits = ap version_of is ∙ ap (λ read. version_by read (kept_version_of o)) digits
 
+-- the result for the version as it is passed, if the dialect is the one for which it was found
+told_as : (t : Text) (rule : PreReleases) (r : VersionRefValue) (w : VersionValue) (result : Result Bool RangeError) (d d' : Dialect) → d ≡ d'
+    → version_of r ≡ w → Answers t rule (version_of r).plain result d' → RefusesAs d t result × Says t rule result d w
+told_as t rule r w result d d' is same answers =
+    let told = subst (Answers t rule (version_of r).plain result) (sym is) answers in
+    (told.refusals, subst (Says t rule result d) same (with_build t rule (version_of r) result d told))
+
 pub returns-in-Cargo : goal.returns-in-Cargo
 returns-in-Cargo c =
     let e = c.answer.ensures in
-    let d = c.args.meaning.dialect in
     let r = c.read_by-version.result in
-    let told = subst (Answers c.args.range.now c.args.meaning.pre_releases (version_of r).plain c.answer.result) (sym c.in-Cargo.is)
-    (record { refusals = e.refusals; meaning = e.meaning }) in
+    let d = c.args.meaning.dialect in
     let same = read_as_dialect c.args.version.now r _ d c.read_by-version.ensures.version (c.digits.ensures ∙ ap digits_in c.grammar.ensures.grammar) in
-    record {
-      refusals = told.refusals;
-      no_memory = e.no_memory;
-      meaning = subst (Says c.args.range.now c.args.meaning.pre_releases c.answer.result d) same
-          (with_build c.args.range.now c.args.meaning.pre_releases (version_of r) c.answer.result d told);
-    }
+    let told = told_as c.args.range.now c.args.meaning.pre_releases r _ c.answer.result d _ c.in-Cargo.is same
+    (record { refusals = e.refusals; meaning = e.meaning }) in
+    record { refusals = told.0; no_memory = e.no_memory; meaning = told.1 }
 
 pub returns-in-Npm : goal.returns-in-Npm
 returns-in-Npm c =
     let e = c.answer-in-Npm.ensures in
-    let d = c.args.meaning.dialect in
     let r = c.read_by-version.result in
-    let told = subst (Answers c.args.range.now c.args.meaning.pre_releases (version_of r).plain c.answer-in-Npm.result) (sym c.in-Npm.is)
-    (record { refusals = e.refusals; meaning = e.meaning }) in
+    let d = c.args.meaning.dialect in
     let same = read_as_dialect c.args.version.now r _ d c.read_by-version.ensures.version (c.digits.ensures ∙ ap digits_in c.grammar.ensures.grammar) in
-    record {
-      refusals = told.refusals;
-      no_memory = e.no_memory;
-      meaning = subst (Says c.args.range.now c.args.meaning.pre_releases c.answer-in-Npm.result d) same
-          (with_build c.args.range.now c.args.meaning.pre_releases (version_of r) c.answer-in-Npm.result d told);
-    }
+    let told = told_as c.args.range.now c.args.meaning.pre_releases r _ c.answer-in-Npm.result d _ c.in-Npm.is same
+    (record { refusals = e.refusals; meaning = e.meaning }) in
+    record { refusals = told.0; no_memory = e.no_memory; meaning = told.1 }
 
 pub returns-in-CrateCargo : goal.returns-in-CrateCargo
 returns-in-CrateCargo c =
     let e = c.answer-in-CrateCargo.ensures in
-    let d = c.args.meaning.dialect in
     let r = c.read_by-version.result in
-    let told = subst (Answers c.args.range.now c.args.meaning.pre_releases (version_of r).plain c.answer-in-CrateCargo.result) (sym c.in-CrateCargo.is)
-    (record { refusals = e.refusals; meaning = e.meaning }) in
+    let d = c.args.meaning.dialect in
     let same = read_as_dialect c.args.version.now r _ d c.read_by-version.ensures.version (c.digits.ensures ∙ ap digits_in c.grammar.ensures.grammar) in
-    record {
-      refusals = told.refusals;
-      no_memory = e.no_memory;
-      meaning = subst (Says c.args.range.now c.args.meaning.pre_releases c.answer-in-CrateCargo.result d) same
-          (with_build c.args.range.now c.args.meaning.pre_releases (version_of r) c.answer-in-CrateCargo.result d told);
-    }
+    let told = told_as c.args.range.now c.args.meaning.pre_releases r _ c.answer-in-CrateCargo.result d _ c.in-CrateCargo.is same
+    (record { refusals = e.refusals; meaning = e.meaning }) in
+    record { refusals = told.0; no_memory = e.no_memory; meaning = told.1 }
 
 pub returns-in-CrateNpm : goal.returns-in-CrateNpm
 returns-in-CrateNpm c =
     let e = c.answer-in-CrateNpm.ensures in
-    let d = c.args.meaning.dialect in
     let r = c.read_by-version.result in
-    let told = subst (Answers c.args.range.now c.args.meaning.pre_releases (version_of r).plain c.answer-in-CrateNpm.result) (sym c.in-CrateNpm.is)
-    (record { refusals = e.refusals; meaning = e.meaning }) in
+    let d = c.args.meaning.dialect in
     let same = read_as_dialect c.args.version.now r _ d c.read_by-version.ensures.version (c.digits.ensures ∙ ap digits_in c.grammar.ensures.grammar) in
-    record {
-      refusals = told.refusals;
-      no_memory = e.no_memory;
-      meaning = subst (Says c.args.range.now c.args.meaning.pre_releases c.answer-in-CrateNpm.result d) same
-          (with_build c.args.range.now c.args.meaning.pre_releases (version_of r) c.answer-in-CrateNpm.result d told);
-    }
+    let told = told_as c.args.range.now c.args.meaning.pre_releases r _ c.answer-in-CrateNpm.result d _ c.in-CrateNpm.is same
+    (record { refusals = e.refusals; meaning = e.meaning }) in
+    record { refusals = told.0; no_memory = e.no_memory; meaning = told.1 }

@@ -6,7 +6,7 @@ use Rattle.semver_ranges.specs.declared.partial.LowerBounds.TheVariants.{Lowest}
 use Rattle.semver_ranges.specs.declared.range.Compat.TheVariants.{Npm}
 use Rattle.semver_ranges.specs.declared.range_set.RangeError.{RangeError}
 use Rattle.semver_ranges.specs.declared.range_set.RangeSet.{RangeSet}
-use Rattle.semver_ranges.specs.Meeting.{meets_set}
+use Rattle.semver_ranges.specs.SatisfiedComparators.{meets_set}
 use Rattle.semver_ranges.specs.RangeTree.{SetTree}
 use Rattle.semver_ranges.specs.RangeViews.{set_of}
 use Rattle.version_sets.specs.declared.rules.PreReleases.TheVariants.{Included}

@@ -12,11 +12,11 @@ returns c = λ s all is fit e.
     let simple = c.args.simple.now in
     let here = c.meets.ensures s all is fit e in
     let counts = c.is_stated_by.ensures ∙ stated_at d s simple is fit (plain_of c.args.version.now) in
-    let nothing = c.matches_everything.ensures ∙ everything d s simple is fit in
+    let matches_all = c.matches_everything.ensures ∙ everything d s simple is fit in
     λ i. record {
       here = c.args.self.here && here i;
       counts = c.args.self.counts || counts i;
-      nothing = c.args.self.nothing && nothing i;
+      matches_all = c.args.self.matches_all && matches_all i;
       met = c.args.self.met;
-      every = c.args.self.every;
+      matched_all = c.args.self.matched_all;
     }

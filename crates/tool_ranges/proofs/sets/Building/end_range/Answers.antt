@@ -21,7 +21,7 @@ returns-clause-known c = λ v small.
     λ i. record {
       here = c.new-self.ensures.all v small i;
       counts = counted i;
-      nothing = true;
+      matches_all = true;
       met = met i;
-      every = old.every || old.nothing;
+      matched_all = old.matched_all || old.matches_all;
     }

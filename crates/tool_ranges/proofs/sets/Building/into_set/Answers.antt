@@ -7,7 +7,7 @@ use Rattle.version_sets.specs.Steps.Ends.{has_numbers, in_each, in_ranges}
 use Rattle.std.proofs.lemmas.Result.{IfOk-weaker}
 use Rattle.tool_ranges.specs.Steps.Building.{known}
 use Rattle.tool_ranges.specs.Steps.Matching.{counts, ended, takes_all, takes_releases}
-use Rattle.tool_ranges.proofs.BuiltSets.{every_said, last_kinds, met_of, met_said}
+use Rattle.tool_ranges.proofs.BuiltSets.{every_is_met, last_kinds, met_of, met_is_met}
 use Rattle.tool_ranges.proofs.sets.Building.into_set.Goals as goal
 use Rattle.tool_ranges.proofs.sets.Building.into_set.Goals.{In_ok-set}
 
@@ -17,8 +17,8 @@ returns-then-self-is_by_default_of_npm-clause-meaning c =
     ∙ ap (λ b. b || (is_empty v.pre && in_each c.new-then-self-is_by_default_of_npm.result v)) (c.new.ensures.none v)
     ∙ ap (λ b. is_empty v.pre && b) (c.new-then-self-is_by_default_of_npm.ensures.all v small)
     ∙ and_true (is_empty v.pre)
-    ∙ sym (every_said c.args.dialect c.args.rule v (ended (counts (takes_all c.args.rule) v) (known (takes_all c.args.rule) v c.args.self))
-    (ap (λ b. (c.args.self.every || c.args.self.nothing) && b) (sym c.is_by_default_of_npm.ensures) ∙ c.if-self-is_by_default_of_npm.true)))
+    ∙ sym (every_is_met c.args.dialect c.args.rule v (ended (counts (takes_all c.args.rule) v) (known (takes_all c.args.rule) v c.args.self))
+    (ap (λ b. (c.args.self.matched_all || c.args.self.matches_all) && b) (sym c.is_by_default_of_npm.ensures) ∙ c.if-self-is_by_default_of_npm.true)))
     c.into_set.ensures.meaning
   where
     and_true : (b : Bool) → (b && true) ≡ b
@@ -37,15 +37,15 @@ met c v small =
     && (in_each own.here v && (counts (takes_all c.args.rule) v || list_any (has_numbers v) ns)))) c.deref.ensures.value)
     ∙ last_kinds (takes_all c.args.rule) v (in_ranges own.ranges v) (in_each own.here v) (list_any (has_numbers v) own.stated.items)
 
-none : (c : In_ok-set) → ((c.args.self.every || c.args.self.nothing) && takes_releases c.args.dialect c.args.rule) ≡ false
-none c = ap (λ b. (c.args.self.every || c.args.self.nothing) && b) (sym c.is_by_default_of_npm.ensures) ∙ c.if-self-is_by_default_of_npm.false
+none : (c : In_ok-set) → ((c.args.self.matched_all || c.args.self.matches_all) && takes_releases c.args.dialect c.args.rule) ≡ false
+none c = ap (λ b. (c.args.self.matched_all || c.args.self.matches_all) && b) (sym c.is_by_default_of_npm.ensures) ∙ c.if-self-is_by_default_of_npm.false
 
 pub returns-in-Excluded-clause-meaning : goal.returns-in-Excluded-clause-meaning
 returns-in-Excluded-clause-meaning c = λ v small.
     let here = (goal.at.returns-in-Excluded-clause-meaning c).In_ok-set in
     let p = ended (counts (takes_all c.args.rule) v) (known (takes_all c.args.rule) v c.args.self) in
     c.only_releases.ensures.releases v ∙ ap (λ b. is_empty v.pre && b) (met here v small)
-    ∙ ap (λ rule. met_of rule v p) (sym c.in-Excluded.is) ∙ sym (met_said c.args.dialect c.args.rule v p (none here))
+    ∙ ap (λ rule. met_of rule v p) (sym c.in-Excluded.is) ∙ sym (met_is_met c.args.dialect c.args.rule v p (none here))
 
 pub returns-clause-meaning : goal.returns-clause-meaning
 returns-clause-meaning c = λ v small.
@@ -54,4 +54,4 @@ returns-clause-meaning c = λ v small.
     met here v small ∙ elim c.in-Default.is [
       | inl e ↦ ap (λ rule. met_of rule v p) (sym e)
       | inr e ↦ ap (λ rule. met_of rule v p) (sym e)
-    ] ∙ sym (met_said c.args.dialect c.args.rule v p (none here))
+    ] ∙ sym (met_is_met c.args.dialect c.args.rule v p (none here))

@@ -33,8 +33,8 @@ here c s v is fit small =
     c.and-self.ensures.meaning v small
     ∙ ap (λ b. in_each c.args.self.now.here v && b) (each_kind d s simple is fit v c.args.all _ _
     (ap (λ digits. is_in_interval digits c.bounds.result v) digits ∙ c.bounds.ensures (digits_in (grammar_of d)) v)
-    (ap (λ digits. is_in_interval digits c.looked_at-pre_releases.result v) digits
-    ∙ c.looked_at-pre_releases.ensures (and_parts simple.partial.fits _ (read_fits s simple is d ∙ fit)).1 v))
+    (ap (λ digits. is_in_interval digits c.interval_of-pre_releases.result v) digits
+    ∙ c.interval_of-pre_releases.ensures (and_parts simple.partial.fits _ (read_fits s simple is d ∙ fit)).1 v))
 
 pub returns-in_ok-push-clause-known : goal.returns-in_ok-push-clause-known
 returns-in_ok-push-clause-known c = λ s v is fit small.
@@ -47,13 +47,13 @@ returns-in_ok-push-clause-known c = λ s v is fit small.
     ∙ ap (λ b. list_any (has_numbers v) old.stated.items || b) (or-false _ ∙ sym (c.in-Some.ensures v) ∙ stated_at d s simple is fit v) in
     let counted = ap (λ b. counts all v || b) stated
     ∙ or_assoc (counts all v) (list_any (has_numbers v) old.stated.items) (states_pre_release_at (of_simple s) v) in
-    let nothing = c.matches_everything.ensures ∙ everything d s simple is fit in
+    let matches_all = c.matches_everything.ensures ∙ everything d s simple is fit in
     λ i. record {
       here = known i;
       counts = counted i;
-      nothing = old.nothing && nothing i;
+      matches_all = old.matches_all && matches_all i;
       met = in_ranges old.ranges v;
-      every = old.every;
+      matched_all = old.matched_all;
     }
 
 pub returns-in_default-clause-known : goal.returns-in_default-clause-known
@@ -65,11 +65,11 @@ returns-in_default-clause-known c = λ s v is fit small.
     let old = c.args.self.now in
     let stated = sym (or-false (counts all v || list_any (has_numbers v) old.stated.items))
     ∙ ap (λ b. (counts all v || list_any (has_numbers v) old.stated.items) || b) (sym (c.in_default.ensures v) ∙ stated_at d s simple is fit v) in
-    let nothing = c.matches_everything.ensures ∙ everything d s simple is fit in
+    let matches_all = c.matches_everything.ensures ∙ everything d s simple is fit in
     λ i. record {
       here = known i;
       counts = stated i;
-      nothing = old.nothing && nothing i;
+      matches_all = old.matches_all && matches_all i;
       met = in_ranges old.ranges v;
-      every = old.every;
+      matched_all = old.matched_all;
     }

@@ -13,7 +13,7 @@ use Rattle.semver_texts.specs.Texts.{is_empty}
 use Rattle.semver_texts.specs.Precedence.{precedence}
 use Rattle.semver_texts.specs.Versions.{numbers, PlainVersion}
 use Rattle.semver_ranges.specs.Terms.{Term, terms}
-use Rattle.semver_ranges.specs.OwnMeaning.{meets_term}
+use Rattle.semver_ranges.specs.CrateMeaning.{meets_term}
 use Rattle.semver_ranges.specs.RewritingTable.{PlainComparator, PlainRange, PlainSet, raised_bound}
 
 -- whether the result of a comparison satisfies an operator
