@@ -12,6 +12,7 @@ use Rattle.tool_ranges.specs.declared.dialect.Dialect.{Dialect}
 use Rattle.tool_ranges.proofs.MatchedMeanings.{same_plain}
 use Rattle.std.proofs.lemmas.Result.{IfOk-weaker}
 use Rattle.tool_ranges.proofs.meaning.satisfies.Goals as goal
+use Rattle.tool_ranges.proofs.meaning.satisfies.Goals.{After-read_by-version}
 
 -- the result in a dialect for a version, whose build metadata doesn't count
 record Answers (t : Text) (rule : PreReleases) (v : PlainVersion) (r : Result Bool RangeError) (d : Dialect) : Type 0 where
@@ -31,49 +32,41 @@ read_as_dialect : (o r : VersionRefValue) (read : Digits) (d : Dialect) → r �
     → version_of r ≡ version_by (digits_in (grammar_of d)) (kept_version_of o)
 read_as_dialect o r read d is digits = ap version_of is ∙ ap (λ read. version_by read (kept_version_of o)) digits
 
--- the result for the version as it is passed, if the dialect is the one for which it was found
-told_as : (t : Text) (rule : PreReleases) (r : VersionRefValue) (w : VersionValue) (result : Result Bool RangeError) (d d' : Dialect) → d ≡ d'
-    → version_of r ≡ w → Answers t rule (version_of r).plain result d' → RefusesAs d t result × Says t rule result d w
-told_as t rule r w result d d' is same answers =
-    let told = subst (Answers t rule (version_of r).plain result) (sym is) answers in
-    (told.refusals, subst (Says t rule result d) same (with_build t rule (version_of r) result d told))
+-- the version is read as the dialect reads it, so the result for it is the result for the version that is passed
+told : (c : After-read_by-version) (result : Result Bool RangeError) (d : Dialect) → c.args.meaning.dialect ≡ d
+    → Answers c.args.range.now c.args.meaning.pre_releases (version_of c.read_by-version.result).plain result d
+    → RefusesAs c.args.meaning.dialect c.args.range.now result
+    × Says c.args.range.now c.args.meaning.pre_releases result c.args.meaning.dialect
+    (version_by (digits_in (grammar_of c.args.meaning.dialect)) (kept_version_of c.args.version.now))
+told c result d is answers =
+    let t = c.args.range.now in
+    let rule = c.args.meaning.pre_releases in
+    let r = c.read_by-version.result in
+    let here = subst (Answers t rule (version_of r).plain result) (sym is) answers in
+    let same = read_as_dialect c.args.version.now r _ c.args.meaning.dialect c.read_by-version.ensures.version
+    (c.digits.ensures ∙ ap digits_in c.grammar.ensures.grammar) in
+    (here.refusals, subst (Says t rule result c.args.meaning.dialect) same (with_build t rule (version_of r) result c.args.meaning.dialect here))
 
 pub returns-in-Cargo : goal.returns-in-Cargo
 returns-in-Cargo c =
     let e = c.answer.ensures in
-    let r = c.read_by-version.result in
-    let d = c.args.meaning.dialect in
-    let same = read_as_dialect c.args.version.now r _ d c.read_by-version.ensures.version (c.digits.ensures ∙ ap digits_in c.grammar.ensures.grammar) in
-    let told = told_as c.args.range.now c.args.meaning.pre_releases r _ c.answer.result d _ c.in-Cargo.is same
-    (record { refusals = e.refusals; meaning = e.meaning }) in
-    record { refusals = told.0; no_memory = e.no_memory; meaning = told.1 }
+    let both = told (goal.at.returns-in-Cargo c).After-read_by-version _ _ c.in-Cargo.is (record { refusals = e.refusals; meaning = e.meaning }) in
+    record { refusals = both.0; no_memory = e.no_memory; meaning = both.1 }
 
 pub returns-in-Npm : goal.returns-in-Npm
 returns-in-Npm c =
     let e = c.answer-in-Npm.ensures in
-    let r = c.read_by-version.result in
-    let d = c.args.meaning.dialect in
-    let same = read_as_dialect c.args.version.now r _ d c.read_by-version.ensures.version (c.digits.ensures ∙ ap digits_in c.grammar.ensures.grammar) in
-    let told = told_as c.args.range.now c.args.meaning.pre_releases r _ c.answer-in-Npm.result d _ c.in-Npm.is same
-    (record { refusals = e.refusals; meaning = e.meaning }) in
-    record { refusals = told.0; no_memory = e.no_memory; meaning = told.1 }
+    let both = told (goal.at.returns-in-Npm c).After-read_by-version _ _ c.in-Npm.is (record { refusals = e.refusals; meaning = e.meaning }) in
+    record { refusals = both.0; no_memory = e.no_memory; meaning = both.1 }
 
 pub returns-in-CrateCargo : goal.returns-in-CrateCargo
 returns-in-CrateCargo c =
     let e = c.answer-in-CrateCargo.ensures in
-    let r = c.read_by-version.result in
-    let d = c.args.meaning.dialect in
-    let same = read_as_dialect c.args.version.now r _ d c.read_by-version.ensures.version (c.digits.ensures ∙ ap digits_in c.grammar.ensures.grammar) in
-    let told = told_as c.args.range.now c.args.meaning.pre_releases r _ c.answer-in-CrateCargo.result d _ c.in-CrateCargo.is same
-    (record { refusals = e.refusals; meaning = e.meaning }) in
-    record { refusals = told.0; no_memory = e.no_memory; meaning = told.1 }
+    let both = told (goal.at.returns-in-CrateCargo c).After-read_by-version _ _ c.in-CrateCargo.is (record { refusals = e.refusals; meaning = e.meaning }) in
+    record { refusals = both.0; no_memory = e.no_memory; meaning = both.1 }
 
 pub returns-in-CrateNpm : goal.returns-in-CrateNpm
 returns-in-CrateNpm c =
     let e = c.answer-in-CrateNpm.ensures in
-    let r = c.read_by-version.result in
-    let d = c.args.meaning.dialect in
-    let same = read_as_dialect c.args.version.now r _ d c.read_by-version.ensures.version (c.digits.ensures ∙ ap digits_in c.grammar.ensures.grammar) in
-    let told = told_as c.args.range.now c.args.meaning.pre_releases r _ c.answer-in-CrateNpm.result d _ c.in-CrateNpm.is same
-    (record { refusals = e.refusals; meaning = e.meaning }) in
-    record { refusals = told.0; no_memory = e.no_memory; meaning = told.1 }
+    let both = told (goal.at.returns-in-CrateNpm c).After-read_by-version _ _ c.in-CrateNpm.is (record { refusals = e.refusals; meaning = e.meaning }) in
+    record { refusals = both.0; no_memory = e.no_memory; meaning = both.1 }
