@@ -466,7 +466,7 @@ EDITS = [
     ('crates/tool_ranges/src/version_range.rt', '        ensures { result ≡ self.now.meaning }\n', ''),
     ('crates/semver_ranges/src/range.rt', 'ghost output = { λ op. Some (op_text op) };', ''),
     ('crates/result_laws/src/ranges.rt', 'pub fn one_parse(', 'pub fn one_parsing('),
-    ('crates/result_laws/src/sets.rt', '.union(', '.joined('),
+    ('crates/result_laws/src/sets.rt', '.combined(', '.joined('),
     ('crates/result_laws/src/sets.rt', '(first, second)\n}', '(first, first)\n}'),
     ('crates/version_sets/src/laws.rt', '::from_number(', '::other_number('),
     ('crates/semver_tokens/must-fail/text_of_an_error_is_empty.edit', None, 'crates/semver_tokens/must-fail/text_of_an_error.edit'),

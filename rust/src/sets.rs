@@ -3,14 +3,14 @@
 //!
 //! ```
 //! use semver_parser::sets;
-//! use semver_parser::{version, Dialect};
+//! use semver_parser::{version, Combination, Dialect};
 //!
 //! let old = sets::parse("^1.2", Dialect::Cargo)?;
 //! let new = sets::parse(">=1.2.1, <1.9", Dialect::Cargo)?;
 //! assert_eq!(new.is_subset(&old), Ok(true));
 //! assert!(old.contains(&version::parse("1.2.0").unwrap()));
 //!
-//! let lost = old.difference(&new).unwrap();
+//! let lost = old.combined(Combination::Difference, &new).unwrap();
 //! assert_eq!(lost.to_string(), "=1.2.0 || >=1.9.0 <2.0.0");
 //! # Ok::<(), semver_parser::Error>(())
 //! ```
@@ -19,7 +19,7 @@ use crate::proved::tool_ranges::meaning;
 use crate::{AllocError, Error, Meaning, RangeError};
 use core::hash::{Hash, Hasher};
 
-pub use crate::proved::version_sets::{Comparison, Release, SetError, SetRanges, VersionSet};
+pub use crate::proved::version_sets::{Comparison, Release, SetRanges, VersionSet};
 
 /// Reads a range string into the set of the versions that satisfy it.
 ///

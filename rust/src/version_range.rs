@@ -1,8 +1,8 @@
-//! Functions of ranges that only Rust has: with strings, and operators.
+//! Functions of ranges that only Rust has: with strings, one name for each case, and operators.
 
 use crate::original::out_of_memory;
 use crate::version::Version;
-use crate::{Error, Meaning, OperationError, VersionRange};
+use crate::{Combination, Error, Extreme, Meaning, OperationError, VersionRange};
 use core::hash::{Hash, Hasher};
 use core::ops::{BitAnd, BitOr, Sub};
 
@@ -89,7 +89,7 @@ impl VersionRange {
     /// ```
     #[must_use]
     pub fn highest<'v>(&self, versions: impl IntoIterator<Item = &'v str>) -> Option<&'v str> {
-        self.highest_among(versions.into_iter())
+        self.extreme_string(Extreme::Highest, versions.into_iter())
     }
 
     /// Returns the lowest of the given versions that the range contains. It is otherwise like
@@ -104,7 +104,95 @@ impl VersionRange {
     /// ```
     #[must_use]
     pub fn lowest<'v>(&self, versions: impl IntoIterator<Item = &'v str>) -> Option<&'v str> {
-        self.lowest_among(versions.into_iter())
+        self.extreme_string(Extreme::Lowest, versions.into_iter())
+    }
+
+    /// Returns the index of the highest of the given versions that the range contains, or `None` if
+    /// it contains none of them. The versions are in bytes, which needn't be UTF-8. It is otherwise
+    /// like [`VersionRange::highest`].
+    ///
+    /// ```
+    /// use semver_parser::{Dialect, VersionRange};
+    ///
+    /// let range = VersionRange::parse("^1.2", Dialect::Npm)?;
+    /// let versions: [&[u8]; 4] = [b"1.2.0", b"latest", b"1.10.0", b"2.0.0"];
+    /// assert_eq!(range.highest_of(&versions), Some(2));
+    /// assert_eq!(range.highest_of(&[b"2.0.0"]), None);
+    /// # Ok::<(), semver_parser::Error>(())
+    /// ```
+    #[must_use]
+    pub fn highest_of(&self, versions: &[&[u8]]) -> Option<usize> {
+        self.extreme_index(Extreme::Highest, versions)
+    }
+
+    /// Returns the index of the lowest of the given versions that the range contains. It is
+    /// otherwise like [`VersionRange::highest_of`].
+    ///
+    /// ```
+    /// use semver_parser::{Dialect, VersionRange};
+    ///
+    /// let range = VersionRange::parse("^1.2", Dialect::Npm)?;
+    /// assert_eq!(range.lowest_of(&[b"1.1.0", b"1.10.0", b"v1.2.0"]), Some(2));
+    /// # Ok::<(), semver_parser::Error>(())
+    /// ```
+    #[must_use]
+    pub fn lowest_of(&self, versions: &[&[u8]]) -> Option<usize> {
+        self.extreme_index(Extreme::Lowest, versions)
+    }
+
+    /// Returns the range of the versions that are in either range.
+    ///
+    /// # Errors
+    ///
+    /// `DifferentMeanings` if the ranges differ in their dialects, or in which pre-releases count;
+    /// `OutOfMemory` if an allocation failed.
+    ///
+    /// ```
+    /// use semver_parser::{Dialect, VersionRange};
+    ///
+    /// let range = VersionRange::parse(">=1.0.0 <1.5.0", Dialect::Npm)?;
+    /// let other = VersionRange::parse(">=1.2.0 <2.0.0", Dialect::Npm)?;
+    /// assert_eq!(range.union(&other).unwrap().to_string(), ">=1.0.0 <2.0.0");
+    /// # Ok::<(), semver_parser::Error>(())
+    /// ```
+    pub fn union(&self, other: &VersionRange) -> Result<VersionRange, OperationError> {
+        self.combined(Combination::Union, other)
+    }
+
+    /// Returns the range of the versions that are in both ranges.
+    ///
+    /// # Errors
+    ///
+    /// The errors of [`VersionRange::union`].
+    ///
+    /// ```
+    /// use semver_parser::{Dialect, VersionRange};
+    ///
+    /// let range = VersionRange::parse(">=1.0.0 <1.5.0", Dialect::Npm)?;
+    /// let other = VersionRange::parse(">=1.2.0 <2.0.0", Dialect::Npm)?;
+    /// assert_eq!(range.intersection(&other).unwrap().to_string(), ">=1.2.0 <1.5.0");
+    /// # Ok::<(), semver_parser::Error>(())
+    /// ```
+    pub fn intersection(&self, other: &VersionRange) -> Result<VersionRange, OperationError> {
+        self.combined(Combination::Intersection, other)
+    }
+
+    /// Returns the range of the versions that are in this range, but not in the other.
+    ///
+    /// # Errors
+    ///
+    /// The errors of [`VersionRange::union`].
+    ///
+    /// ```
+    /// use semver_parser::{Dialect, VersionRange};
+    ///
+    /// let range = VersionRange::parse(">=1.0.0 <1.5.0", Dialect::Npm)?;
+    /// let other = VersionRange::parse(">=1.2.0 <2.0.0", Dialect::Npm)?;
+    /// assert_eq!(range.difference(&other).unwrap().to_string(), ">=1.0.0 <1.2.0");
+    /// # Ok::<(), semver_parser::Error>(())
+    /// ```
+    pub fn difference(&self, other: &VersionRange) -> Result<VersionRange, OperationError> {
+        self.combined(Combination::Difference, other)
     }
 }
 
@@ -149,7 +237,7 @@ impl Hash for VersionRange {
 }
 
 /// Returns the result of an operator. If an allocation failed, it ends the process, like std.
-fn combined(result: Result<VersionRange, OperationError>) -> VersionRange {
+fn operator_result(result: Result<VersionRange, OperationError>) -> VersionRange {
     match result {
         Ok(range) => range,
         Err(OperationError::OutOfMemory) => out_of_memory(),
@@ -166,7 +254,7 @@ impl BitOr for &VersionRange {
     ///
     /// If the meanings of the ranges differ.
     fn bitor(self, other: &VersionRange) -> VersionRange {
-        combined(self.union(other))
+        operator_result(self.union(other))
     }
 }
 
@@ -179,7 +267,7 @@ impl BitAnd for &VersionRange {
     ///
     /// If the meanings of the ranges differ.
     fn bitand(self, other: &VersionRange) -> VersionRange {
-        combined(self.intersection(other))
+        operator_result(self.intersection(other))
     }
 }
 
@@ -192,6 +280,6 @@ impl Sub for &VersionRange {
     ///
     /// If the meanings of the ranges differ.
     fn sub(self, other: &VersionRange) -> VersionRange {
-        combined(self.difference(other))
+        operator_result(self.difference(other))
     }
 }

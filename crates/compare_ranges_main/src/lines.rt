@@ -3,7 +3,7 @@
 use crate::arguments::{Extent, Options};
 use semver_parser::version::Version;
 use std::alloc::{AllocError, Global};
-use version_sets::{SetError, SetRanges, VersionSet};
+use version_sets::{Combination, OperationError, SetRanges, VersionSet};
 
 /// The output so far.
 #[derive(Drop)]
@@ -39,12 +39,13 @@ impl Output {
         alloc: Global,
         old: &VersionSet,
         new: &VersionSet,
-    ) -> Result<(), SetError> {
+    ) -> Result<(), OperationError> {
         match self.options.extent {
             Extent::Whole => {
-                self.push_whole(alloc, "lost", &old.difference(alloc, new)?)?;
-                self.push_whole(alloc, "gained", &new.difference(alloc, old)?)?;
-                self.push_whole(alloc, "shared", &old.intersection(alloc, new)?)?;
+                let (alone, both) = (Combination::Difference, Combination::Intersection);
+                self.push_whole(alloc, "lost", &old.combined(alloc, alone, new)?)?;
+                self.push_whole(alloc, "gained", &new.combined(alloc, alone, old)?)?;
+                self.push_whole(alloc, "shared", &old.combined(alloc, both, new)?)?;
             }
             Extent::Lowest => {
                 let comparison = old.compare(alloc, new)?;

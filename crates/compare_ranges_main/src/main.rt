@@ -15,7 +15,7 @@ use std::process::ExitCode;
 use tool_ranges::dialect::Dialect;
 use tool_ranges::meaning::Meaning;
 use tool_ranges::version_range::VersionRange;
-use version_sets::SetError;
+use version_sets::OperationError;
 
 /// The program.
 const PROGRAM: Program = Program {
@@ -164,7 +164,7 @@ fn of_two(
     question: &Question,
     range: &VersionRange,
     new: &VersionRange,
-) -> Result<String, SetError> {
+) -> Result<String, OperationError> {
     let mut output = Output::new(rt.alloc(), question.options);
     output.push_two(rt.alloc(), range.versions(), new.versions())?;
     Ok(output.finish(rt.alloc())?)

@@ -21,7 +21,7 @@ use std::process::ExitCode;
 use tool_ranges::dialect::Dialect;
 use tool_ranges::meaning::{self, Meaning};
 use tool_ranges::version_range::VersionRange;
-use version_sets::{PreReleases, VersionSet};
+use version_sets::{Combination, PreReleases, VersionSet};
 
 /// The program.
 const PROGRAM: Program = Program {
@@ -115,7 +115,8 @@ fn filtered(rt: &HostRuntime, filtering: &Filtering) -> Result<bool, Error> {
 fn versions(alloc: Global, filtering: &Filtering) -> Result<VersionSet, RangeError> {
     let mut versions = meaning::read(alloc, filtering.meaning, filtering.range.as_str())?;
     if filtering.options.is_inverted {
-        let Ok(others) = all_versions(alloc, versions.digits())?.difference(alloc, &versions) else {
+        let all = all_versions(alloc, versions.digits())?;
+        let Ok(others) = all.combined(alloc, Combination::Difference, &versions) else {
             return Err(RangeError::OutOfMemory);
         };
         versions = others;

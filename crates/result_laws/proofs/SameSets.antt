@@ -1,13 +1,13 @@
 -- Two results that are sets with the same versions count as the same.
-use Rattle.std.proofs.Common.{IfOk, ◌≡◌, ◌↔◌, [], refl, sym, ap, ◌∙◌, inl, inr, Bool, Result, Ok, Err}
+use Rattle.std.proofs.Common.{IfOk, ◌≡◌, ◌↔◌, [], refl, sym, ap, ◌∙◌, inl, inr, Result, Ok, Err}
 use Rattle.semver_parser.specs.declared.RangeError.{RangeError}
 use Rattle.semver_parser.specs.declared.RangeError.TheVariants.{OutOfMemory}
 use Rattle.semver_parser.specs.RangeTexts.{Refuses}
 use Rattle.semver_parser.specs.Versions.{PlainVersion, VersionValue}
 use Rattle.version_sets.specs.VersionSets.{SetValue, contains, Fits}
 use Rattle.semver_texts.specs.declared.grammar.Digits.{Digits}
-use Rattle.version_sets.specs.declared.SetError.{SetError}
-use Rattle.version_sets.specs.declared.SetError.TheVariants.{DifferentDigits, OutOfMemory as NoMemory}
+use Rattle.version_sets.specs.declared.OperationError.{OperationError}
+use Rattle.version_sets.specs.declared.OperationError.TheVariants.{DifferentDigits, DifferentMeanings, OutOfMemory as NoMemory}
 use Rattle.result_laws.specs.OneResult.{AreOne, itself, seen}
 use Rattle.result_laws.specs.SameSets.{AreAlike}
 use Rattle.result_laws.proofs.OneResult.{one, of_ok}
@@ -32,28 +32,23 @@ one_read d r s p q alike dr ds h k agree =
     one itself r s p q (λ a b is is' text.
     of_ok _ is' (of_ok _ is alike) (of_ok _ is dr ∙ sym (of_ok _ is' ds)) (agree text a b (of_ok _ is h) (of_ok _ is' k)))
 
--- two results of a call on two sets count as the same if they fail with `DifferentDigits` under the
--- same condition, and their values have equal views
-pub one_combined_answer : {A V : Type 0} (view : A → V) (D : Type 0) (r s : Result A SetError)
-    → (r ≡ Err DifferentDigits) ↔ D → (s ≡ Err DifferentDigits) ↔ D
+-- an error that is never returned comes in no case
+pub never : {P : Type 0} → ¬ P → P ↔ ⊥
+never f = (f, λ e. absurd e)
+
+-- two results of an operation on two sets or two ranges count as the same if both return
+-- `DifferentDigits` in the same cases, and `DifferentMeanings` too, and their values have equal views
+pub one_operation : {A V : Type 0} (view : A → V) (D M : Type 0) (r s : Result A OperationError)
+    → (r ≡ Err DifferentDigits) ↔ D → (s ≡ Err DifferentDigits) ↔ D → (r ≡ Err DifferentMeanings) ↔ M → (s ≡ Err DifferentMeanings) ↔ M
     → ((a b : A) → r ≡ Ok a → s ≡ Ok b → view a ≡ view b) → AreOne NoMemory view r s
-one_combined_answer view D (Ok a) (Ok b) p q h = inl (ap Ok (h a b refl refl))
-one_combined_answer view D (Ok a) (Err NoMemory) p q h = inr (inr (a, refl, refl))
-one_combined_answer view D (Err NoMemory) (Ok b) p q h = inr (inl (b, refl, refl))
-one_combined_answer view D (Err NoMemory) (Err NoMemory) p q h = inl refl
-one_combined_answer view D (Err DifferentDigits) s p q h = inl (ap (seen view) (sym (q.1 (p.0 refl))))
-one_combined_answer view D r (Err DifferentDigits) p q h = inl (ap (seen view) (p.1 (q.0 refl)))
-
-pub one_set_combined : {P : SetValue → Type 0} (D : Type 0) (d : Digits) (r s : Result SetValue SetError)
-    → (r ≡ Err DifferentDigits) ↔ D → (s ≡ Err DifferentDigits) ↔ D → Alike r s → ReadsAs d r → ReadsAs d s
-    → IfOk r P → IfOk s P → Agree P → AreOne NoMemory itself r s
-one_set_combined D d r s p q alike dr ds h k agree =
-    one_combined_answer itself D r s p q
-    (λ a b is is'. of_ok _ is' (of_ok _ is alike) (of_ok _ is dr ∙ sym (of_ok _ is' ds)) (agree a b (of_ok _ is h) (of_ok _ is' k)))
-
--- sets whose versions are decided by the same test contain the same versions
-pub by_test : (test : PlainVersion → Bool) → Agree (λ set. (v : PlainVersion) → contains set v ≡ test v)
-by_test test a b p q v fits = p v ∙ sym (q v)
+one_operation view D M (Ok a) (Ok b) p q m n h = inl (ap Ok (h a b refl refl))
+one_operation view D M (Ok a) (Err NoMemory) p q m n h = inr (inr (a, refl, refl))
+one_operation view D M (Err NoMemory) (Ok b) p q m n h = inr (inl (b, refl, refl))
+one_operation view D M (Err NoMemory) (Err NoMemory) p q m n h = inl refl
+one_operation view D M (Err DifferentDigits) s p q m n h = inl (ap (seen view) (sym (q.1 (p.0 refl))))
+one_operation view D M r (Err DifferentDigits) p q m n h = inl (ap (seen view) (p.1 (q.0 refl)))
+one_operation view D M (Err DifferentMeanings) s p q m n h = inl (ap (seen view) (sym (n.1 (m.0 refl))))
+one_operation view D M r (Err DifferentMeanings) p q m n h = inl (ap (seen view) (m.1 (n.0 refl)))
 
 -- a version without build metadata
 abbrev pub plainly : PlainVersion → VersionValue

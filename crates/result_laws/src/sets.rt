@@ -13,16 +13,13 @@ use semver_texts::grammar::Digits;
 use std::alloc::{AllocError, Global};
 use tool_ranges::meaning::{self, Meaning};
 use version_sets::laws::{one_set, sets_are_normal};
-use version_sets::{Comparison, Release, SetError, VersionSet};
+use version_sets::{Combination, Comparison, OperationError, Release, VersionSet};
 
 /// Two results of a function that reads a range, for the same inputs.
 type Read = (
     Result<VersionSet, RangeError>,
     Result<VersionSet, RangeError>,
 );
-
-/// Two results of a function that combines two sets, for the same inputs.
-type Combined = (Result<VersionSet, SetError>, Result<VersionSet, SetError>);
 
 /// Two sets are equal if they read numeric identifiers in the same way and contain the same
 /// versions. It does nothing.
@@ -89,32 +86,20 @@ pub fn satisfies_as_the_set(
     (contains, meaning::satisfies(version, range, meaning))
 }
 
-/// `VersionSet::union` has only one permitted result.
-pub fn one_union(alloc: Global, set: &VersionSet, other: &VersionSet) -> Combined
-    ensures one { AreOne SetError.OutOfMemory itself result.0 result.1 }
+/// `VersionSet::combined` has only one permitted result.
+pub fn one_combined(
+    alloc: Global,
+    set: &VersionSet,
+    how: Combination,
+    other: &VersionSet,
+) -> (
+    Result<VersionSet, OperationError>,
+    Result<VersionSet, OperationError>,
+)
+    ensures one { AreOne OperationError.OutOfMemory itself result.0 result.1 }
 {
-    let first = set.union(alloc, other);
-    let second = set.union(alloc, other);
-    results_are_alike(&first, &second);
-    (first, second)
-}
-
-/// `VersionSet::intersection` has only one permitted result.
-pub fn one_intersection(alloc: Global, set: &VersionSet, other: &VersionSet) -> Combined
-    ensures one { AreOne SetError.OutOfMemory itself result.0 result.1 }
-{
-    let first = set.intersection(alloc, other);
-    let second = set.intersection(alloc, other);
-    results_are_alike(&first, &second);
-    (first, second)
-}
-
-/// `VersionSet::difference` has only one permitted result.
-pub fn one_difference(alloc: Global, set: &VersionSet, other: &VersionSet) -> Combined
-    ensures one { AreOne SetError.OutOfMemory itself result.0 result.1 }
-{
-    let first = set.difference(alloc, other);
-    let second = set.difference(alloc, other);
+    let first = set.combined(alloc, how, other);
+    let second = set.combined(alloc, how, other);
     results_are_alike(&first, &second);
     (first, second)
 }
@@ -206,8 +191,11 @@ pub fn one_compare(
     alloc: Global,
     set: &VersionSet,
     new: &VersionSet,
-) -> (Result<Comparison, SetError>, Result<Comparison, SetError>)
-    ensures one { AreOne SetError.OutOfMemory comparison_value result.0 result.1 }
+) -> (
+    Result<Comparison, OperationError>,
+    Result<Comparison, OperationError>,
+)
+    ensures one { AreOne OperationError.OutOfMemory comparison_value result.0 result.1 }
 {
     laws::precedence_is_total();
     (set.compare(alloc, new), set.compare(alloc, new))

@@ -12,18 +12,13 @@ use semver_parser::laws::precedence_is_total;
 use semver_parser::version::Version;
 use semver_ranges::RangeError;
 use std::alloc::{AllocError, Global};
+use tool_ranges::highest::Extreme;
 use tool_ranges::laws::ranges_read_digits;
 use tool_ranges::meaning::Meaning;
-use tool_ranges::range_operations::OperationError;
 use tool_ranges::satisfying::SatisfiesError;
 use tool_ranges::version_range::VersionRange;
 use version_sets::laws::{one_set, sets_are_normal};
-
-/// Two results of a function that combines two ranges, for the same inputs.
-type Combined = (
-    Result<VersionRange, OperationError>,
-    Result<VersionRange, OperationError>,
-);
+use version_sets::{Combination, OperationError};
 
 /// Two ranges that were returned are equal if they have the same meaning and contain the same
 /// versions. It does nothing.
@@ -85,24 +80,25 @@ pub fn one_contains(
     (range.contains_bytes(version), range.contains_bytes(version))
 }
 
-/// `VersionRange::highest_of` has only one permitted result.
-pub fn one_highest_of(range: &VersionRange, versions: &[&[u8]]) -> (Option<usize>, Option<usize>)
+/// `VersionRange::extreme_index` has only one permitted result.
+pub fn one_extreme_index(
+    range: &VersionRange,
+    which: Extreme,
+    versions: &[&[u8]],
+) -> (Option<usize>, Option<usize>)
     ensures one { result.0 ≡ result.1 }
 {
-    (range.highest_of(versions), range.highest_of(versions))
+    (
+        range.extreme_index(which, versions),
+        range.extreme_index(which, versions),
+    )
 }
 
-/// `VersionRange::lowest_of` has only one permitted result.
-pub fn one_lowest_of(range: &VersionRange, versions: &[&[u8]]) -> (Option<usize>, Option<usize>)
-    ensures one { result.0 ≡ result.1 }
-{
-    (range.lowest_of(versions), range.lowest_of(versions))
-}
-
-/// `VersionRange::highest_among` has only one permitted result. It is called with two iterators
+/// `VersionRange::extreme_string` has only one permitted result. It is called with two iterators
 /// that return the same strings, since it consumes its argument.
-pub fn one_highest_among<'v, I: Iterator<Item = &'v str> + Drop>(
+pub fn one_extreme_string<'v, I: Iterator<Item = &'v str> + Drop>(
     range: &VersionRange,
+    which: Extreme,
     versions: I,
     same_versions: I,
 ) -> (Option<&'v str>, Option<&'v str>)
@@ -113,55 +109,25 @@ pub fn one_highest_among<'v, I: Iterator<Item = &'v str> + Drop>(
     ensures one { result.0 ≡ result.1 }
 {
     (
-        range.highest_among(versions),
-        range.highest_among(same_versions),
+        range.extreme_string(which, versions),
+        range.extreme_string(which, same_versions),
     )
 }
 
-/// `VersionRange::lowest_among` has only one permitted result, too.
-pub fn one_lowest_among<'v, I: Iterator<Item = &'v str> + Drop>(
+/// `VersionRange::combined` has only one permitted result.
+pub fn one_combined(
+    alloc: Global,
     range: &VersionRange,
-    versions: I,
-    same_versions: I,
-) -> (Option<&'v str>, Option<&'v str>)
-    requires can { I.can_next versions × I.can_next same_versions }
-    requires end { IsFinite (I.remaining versions) × IsFinite (I.remaining same_versions) }
-    requires same { (xs ys : List (Bor Text)) → Drains I.next_gives versions xs
-        → Drains I.next_gives same_versions ys → xs ≡ ys }
-    ensures one { result.0 ≡ result.1 }
-{
-    (
-        range.lowest_among(versions),
-        range.lowest_among(same_versions),
-    )
-}
-
-/// `VersionRange::union` has only one permitted result.
-pub fn one_union(alloc: Global, range: &VersionRange, other: &VersionRange) -> Combined
+    how: Combination,
+    other: &VersionRange,
+) -> (
+    Result<VersionRange, OperationError>,
+    Result<VersionRange, OperationError>,
+)
     ensures one { AreOne OperationError.OutOfMemory itself result.0 result.1 }
 {
-    let first = range.union(alloc, other);
-    let second = range.union(alloc, other);
-    results_are_alike(&first, &second);
-    (first, second)
-}
-
-/// `VersionRange::intersection` has only one permitted result.
-pub fn one_intersection(alloc: Global, range: &VersionRange, other: &VersionRange) -> Combined
-    ensures one { AreOne OperationError.OutOfMemory itself result.0 result.1 }
-{
-    let first = range.intersection(alloc, other);
-    let second = range.intersection(alloc, other);
-    results_are_alike(&first, &second);
-    (first, second)
-}
-
-/// `VersionRange::difference` has only one permitted result.
-pub fn one_difference(alloc: Global, range: &VersionRange, other: &VersionRange) -> Combined
-    ensures one { AreOne OperationError.OutOfMemory itself result.0 result.1 }
-{
-    let first = range.difference(alloc, other);
-    let second = range.difference(alloc, other);
+    let first = range.combined(alloc, how, other);
+    let second = range.combined(alloc, how, other);
     results_are_alike(&first, &second);
     (first, second)
 }

@@ -6,16 +6,22 @@ use semver_parser::version::{self, Version};
 use std::alloc::Global;
 use std::io;
 use std::io::Write;
+use tool_ranges::highest::Extreme;
 use tool_ranges::meaning::{self, Meaning};
-use tool_ranges::range_operations::OperationError;
 use tool_ranges::satisfying::{SatisfiesError, satisfies};
 use tool_ranges::version_range::VersionRange;
-use version_sets::{PreReleases, Release, VersionSet};
+use version_sets::{Combination, OperationError, PreReleases, Release, VersionSet};
 
 const RULES: [PreReleases; 3] = [
     PreReleases::Default,
     PreReleases::Included,
     PreReleases::Excluded,
+];
+
+const COMBINATIONS: [Combination; 3] = [
+    Combination::Union,
+    Combination::Intersection,
+    Combination::Difference,
 ];
 
 /// Versions that may satisfy a range.
@@ -95,8 +101,8 @@ pub fn add_sets(alloc: Global, bytes: &[u8], sum: &mut Checksum) -> io::Result<(
                 Err(error) => write!(sum, "{error};")?,
             }
             if let Ok(range) = VersionRange::parse(alloc, text, meaning) {
-                add_index(range.highest_of(&VERSIONS), sum);
-                add_index(range.lowest_of(&VERSIONS), sum);
+                add_index(range.extreme_index(Extreme::Highest, &VERSIONS), sum);
+                add_index(range.extreme_index(Extreme::Lowest, &VERSIONS), sum);
                 write!(sum, "{range};")?;
             }
         }
@@ -132,8 +138,8 @@ fn add_index(index: Option<usize>, sum: &mut Checksum) {
     }
 }
 
-/// Asks whether a range contains versions, which are given in each form, in each dialect and by each
-/// rule.
+/// Asks whether a range contains versions, which are given in each form, and finds the highest and
+/// the lowest one, in each dialect and by each rule.
 pub fn add_members(alloc: Global, bytes: &[u8], sum: &mut Checksum) -> io::Result<()> {
     let Ok(text) = str::from_utf8(bytes) else {
         return Ok(());
@@ -147,13 +153,10 @@ pub fn add_members(alloc: Global, bytes: &[u8], sum: &mut Checksum) -> io::Resul
             let Ok(range) = VersionRange::parse(alloc, text, meaning) else {
                 continue;
             };
-            sum.add_bytes(
-                range
-                    .highest_among(LIST.split(' '))
-                    .unwrap_or("")
-                    .as_bytes(),
-            );
-            sum.add_bytes(range.lowest_among(LIST.split(' ')).unwrap_or("").as_bytes());
+            for which in [Extreme::Highest, Extreme::Lowest] {
+                let found = range.extreme_string(which, LIST.split(' ')).unwrap_or("");
+                sum.add_bytes(found.as_bytes());
+            }
             for version in VERSIONS {
                 add_member(alloc, &range, version, sum)?;
             }
@@ -216,10 +219,10 @@ fn add_pair(
     other: &VersionRange,
     sum: &mut Checksum,
 ) -> io::Result<()> {
-    add_range(&range.union(alloc, other), sum)?;
-    add_range(&range.intersection(alloc, other), sum)?;
-    add_range(&range.difference(alloc, other), sum)?;
-    add_range(&other.difference(alloc, range), sum)?;
+    for how in COMBINATIONS {
+        add_range(&range.combined(alloc, how, other), sum)?;
+    }
+    add_range(&other.combined(alloc, Combination::Difference, range), sum)?;
     add_relation(range.is_subset(other), sum)?;
     add_relation(range.is_disjoint(other), sum)?;
     if let Ok(found) = range.versions().compare(alloc, other.versions()) {

@@ -12,11 +12,13 @@ use Rattle.semver_texts.specs.ToolVersions.{SpellsIn}
 use Rattle.semver_texts.specs.Versions.{PlainVersion, VersionValue}
 use Rattle.semver_texts.specs.declared.grammar.Grammar.{Grammar}
 use Rattle.version_sets.specs.VersionSets.{SetValue, contains}
+use Rattle.tool_ranges.specs.declared.highest.Extreme.{Extreme}
+use Rattle.tool_ranges.specs.declared.highest.Extreme.TheVariants.{Highest, Lowest}
 use Rattle.tool_ranges.specs.Highest.{IsHighest, IsMember, IsMemberText, order_for}
 
-pub total_for : (lowest : Bool) → IsTotalOrder (order_for lowest)
-total_for true = back_total precedence_total
-total_for false = precedence_total
+pub total_for : (which : Extreme) → IsTotalOrder (order_for which)
+total_for Highest = precedence_total
+total_for Lowest = back_total precedence_total
 
 module _ (order : PlainVersion → PlainVersion → Ordering) (total : IsTotalOrder order) where
   -- a version that isn't above the best one so far is below a version that is above the best one
@@ -71,14 +73,14 @@ module _ (g : Grammar) (set : SetValue) (texts : List (Bor Text)) where
   only_one one at x w spells v member =
       sym member.plain ∙ ap (λ (u : VersionValue). u.plain) (one _ _ _ _ (spelled at x v member) spells)
 
-module _ (lowest : Bool) (g : Grammar) (set : SetValue) (texts : List (Bor Text)) where
+module _ (which : Extreme) (g : Grammar) (set : SetValue) (texts : List (Bor Text)) where
   -- among the strings before `at`, there is no member, or `best`, which is at `found`, is the first
   -- of the highest members
   abbrev pub IsBest : ℕ → ℕ → Option PlainVersion → Type 0
   IsBest at found None = ((k : ℕ) (v : PlainVersion) → IsMember g set texts k v → k < at → ⊥)
   IsBest at found (Some best) = (found < at) × IsMember g set texts found best
-      × ((k : ℕ) (v : PlainVersion) → IsMember g set texts k v → k < at → (k < found → order_for lowest v best ≡ Less)
-      × (order_for lowest v best ≢ Greater))
+      × ((k : ℕ) (v : PlainVersion) → IsMember g set texts k v → k < at → (k < found → order_for which v best ≡ Less)
+      × (order_for which v best ≢ Greater))
 
   -- the string at `at` is not a member
   pub skipped : (at found : ℕ) (best : Option PlainVersion) → ((v : PlainVersion) → IsMember g set texts at v → ⊥) → IsBest at found best
@@ -100,39 +102,39 @@ module _ (lowest : Bool) (g : Grammar) (set : SetValue) (texts : List (Bor Text)
     one,
     λ k v member within. ⊎_elim (λ less. absurd (is k v member less))
         (λ e. let is_w = only v (subst (λ n. IsMember g set texts n v) e member) in
-        (λ less. absurd (apart k at less e), rw is_w (same (order_for lowest) (total_for lowest) w))) (less_one k at within),
+        (λ less. absurd (apart k at less e), rw is_w (same (order_for which) (total_for which) w))) (less_one k at within),
   )
 
   -- it is a member above the best one so far
   pub above : (at found : ℕ) (best w : PlainVersion) → IsMember g set texts at w → ((v : PlainVersion) → IsMember g set texts at v → v ≡ w)
-      → order_for lowest best w ≡ Less → IsBest at found (Some best) → IsBest (at + 1) at (Some w)
+      → order_for which best w ≡ Less → IsBest at found (Some best) → IsBest (at + 1) at (Some w)
   above at found best w one only less (before, old, all) = (
     grind arith,
     one,
     λ k v member within. ⊎_elim
-        (λ early. let below = below_next (order_for lowest) (total_for lowest) v best w (all k v member early).1 less in
+        (λ early. let below = below_next (order_for which) (total_for which) v best w (all k v member early).1 less in
         (λ _. below, λ e. absurd (less_greater _ below e)))
         (λ e. let is_w = only v (subst (λ n. IsMember g set texts n v) e member) in
-        (λ early. absurd (apart k at early e), rw is_w (same (order_for lowest) (total_for lowest) w))) (less_one k at within),
+        (λ early. absurd (apart k at early e), rw is_w (same (order_for which) (total_for which) w))) (less_one k at within),
   )
 
   -- it is a member that isn't above the best one so far
   pub not_above_it : (at found : ℕ) (best w : PlainVersion) → ((v : PlainVersion) → IsMember g set texts at v → v ≡ w)
-      → (order_for lowest best w ≡ Less → ⊥) → IsBest at found (Some best) → IsBest (at + 1) found (Some best)
+      → (order_for which best w ≡ Less → ⊥) → IsBest at found (Some best) → IsBest (at + 1) found (Some best)
   not_above_it at found best w only low (before, old, all) = (
     grind arith,
     old,
     λ k v member within. ⊎_elim (all k v member)
         (λ e. let is_w = only v (subst (λ n. IsMember g set texts n v) e member) in (
           λ early. absurd (later found at before (subst (λ n. n < found) e early)),
-          rw is_w (not_above (order_for lowest) (total_for lowest) best w low),
+          rw is_w (not_above (order_for which) (total_for which) best w low),
         )) (less_one k at within),
   )
 
   -- the string at `at` is a member, and `r` says whether it is the new best one
   pub stepped : (at found : ℕ) (best : Option PlainVersion) (w : PlainVersion) (r : Bool) → IsMember g set texts at w
       → ((v : PlainVersion) → IsMember g set texts at v → v ≡ w)
-      → MatchOption best (r ≡ true) (λ b. (r ≡ true) ↔ (order_for lowest b w ≡ Less)) → IsBest at found best
+      → MatchOption best (r ≡ true) (λ b. (r ≡ true) ↔ (order_for which b w ≡ Less)) → IsBest at found best
       → (r ≡ true → IsBest (at + 1) at (Some w)) × (r ≡ false → IsBest (at + 1) found best)
   stepped at found None w r one only said is =
       (λ e. first at found w one only is, λ e. absurd (true≢false (sym said ∙ e)))
@@ -145,7 +147,7 @@ module _ (lowest : Bool) (g : Grammar) (set : SetValue) (texts : List (Bor Text)
   pub whole : (found : ℕ) (best : Option PlainVersion) → ((k : ℕ) (v : PlainVersion) → IsMember g set texts k v → k < length texts)
       → IsBest (length texts) found best
       → MatchOption best ((k : ℕ) (v : PlainVersion) → ¬ (IsMember g set texts k v))
-      (λ _. IsHighest (order_for lowest) (IsMember g set texts) found)
+      (λ _. IsHighest (order_for which) (IsMember g set texts) found)
   whole found None inside is = λ k v member. is k v member (inside k v member)
   whole found (Some best) inside (before, one, all) = record {
     version = best;

@@ -1,5 +1,5 @@
 -- At most one index is that of the highest version.
-use Rattle.std.proofs.Common.{◌≡◌, ◌≢◌, ◌⊎◌, ◌<◌, ◌∙◌, ℕ, Bool, List, Option, Some, None, arith, refl, rules, ap, subst, sym, Less, Greater, ⊎_elim}
+use Rattle.std.proofs.Common.{◌≡◌, ◌≢◌, ◌⊎◌, ◌<◌, ◌∙◌, ℕ, List, Option, Some, None, arith, refl, rules, ap, subst, sym, Less, Greater, ⊎_elim}
 use Rattle.std.specs.Borrow.{Bor}
 use Rattle.std.specs.Prelude.{slice_get}
 use Rattle.std.specs.Cmp.{IsTotalOrder}
@@ -7,7 +7,8 @@ use Rattle.std.specs.declared.cmp.Ordering.{Ordering}
 use Rattle.semver_texts.specs.declared.grammar.Grammar.{Grammar}
 use Rattle.semver_texts.specs.Texts.{Text}
 use Rattle.semver_texts.specs.Versions.{PlainVersion}
-use Rattle.tool_ranges.specs.Highest.{FindsHighest, FindsHighestText, IsHighest, IsMember, order_for}
+use Rattle.tool_ranges.specs.declared.highest.Extreme.{Extreme}
+use Rattle.tool_ranges.specs.Highest.{FindsExtreme, FindsExtremeText, IsHighest, IsMember, order_for}
 use Rattle.version_sets.specs.VersionSets.{SetValue}
 use Rattle.tool_ranges.proofs.HighestMembers.{total_for}
 
@@ -25,27 +26,27 @@ module _ (order : PlainVersion → PlainVersion → Ordering) (total : IsTotalOr
       e))
       (three i j)
 
-pub one_found : (lowest : Bool) (g : Grammar) (set : SetValue) (texts : List (Bor Text)) (a b : Option ℕ) → FindsHighest lowest g set texts a
-    → FindsHighest lowest g set texts b → a ≡ b
-one_found lowest g set texts None None p q = refl
-one_found lowest g set texts None (Some j) p q = absurd (p j q.version q.is_one)
-one_found lowest g set texts (Some i) None p q = absurd (q i p.version p.is_one)
-one_found lowest g set texts (Some i) (Some j) p q =
-    ap Some (one_highest (order_for lowest) (total_for lowest) (IsMember g set texts) i j p q)
+pub one_found : (which : Extreme) (g : Grammar) (set : SetValue) (texts : List (Bor Text)) (a b : Option ℕ) → FindsExtreme which g set texts a
+    → FindsExtreme which g set texts b → a ≡ b
+one_found which g set texts None None p q = refl
+one_found which g set texts None (Some j) p q = absurd (p j q.version q.is_one)
+one_found which g set texts (Some i) None p q = absurd (q i p.version p.is_one)
+one_found which g set texts (Some i) (Some j) p q =
+    ap Some (one_highest (order_for which) (total_for which) (IsMember g set texts) i j p q)
 
 -- at most one string is that of the highest version
-one_text : (lowest : Bool) (g : Grammar) (set : SetValue) (texts : List (Bor Text)) (a b : Option (Bor Text))
-    → FindsHighestText lowest g set texts a → FindsHighestText lowest g set texts b → a ≡ b
-one_text lowest g set texts None None p q = refl
-one_text lowest g set texts None (Some t) p (j, at, q) = absurd (p j q.version q.is_one)
-one_text lowest g set texts (Some s) None (i, at, p) q = absurd (q i p.version p.is_one)
-one_text lowest g set texts (Some s) (Some t) (i, at_s, p) (j, at_t, q) =
-    sym at_s ∙ ap (slice_get texts) (one_highest (order_for lowest) (total_for lowest) (IsMember g set texts) i j p q) ∙ at_t
+one_text : (which : Extreme) (g : Grammar) (set : SetValue) (texts : List (Bor Text)) (a b : Option (Bor Text))
+    → FindsExtremeText which g set texts a → FindsExtremeText which g set texts b → a ≡ b
+one_text which g set texts None None p q = refl
+one_text which g set texts None (Some t) p (j, at, q) = absurd (p j q.version q.is_one)
+one_text which g set texts (Some s) None (i, at, p) q = absurd (q i p.version p.is_one)
+one_text which g set texts (Some s) (Some t) (i, at_s, p) (j, at_t, q) =
+    sym at_s ∙ ap (slice_get texts) (one_highest (order_for which) (total_for which) (IsMember g set texts) i j p q) ∙ at_t
 
 -- the same for two iterators that return the same strings
-pub one_among : (lowest : Bool) (g : Grammar) (set : SetValue) (Gives AlsoGives : List (Bor Text) → Type 0)
+pub one_among : (which : Extreme) (g : Grammar) (set : SetValue) (Gives AlsoGives : List (Bor Text) → Type 0)
     → ((xs ys : List (Bor Text)) → Gives xs → AlsoGives ys → xs ≡ ys) → (a b : Option (Bor Text))
-    → (texts : List (Bor Text)) × Gives texts × FindsHighestText lowest g set texts a
-    → (texts : List (Bor Text)) × AlsoGives texts × FindsHighestText lowest g set texts b → a ≡ b
-one_among lowest g set Gives AlsoGives same a b (xs, given, first) (ys, also, second) =
-    one_text lowest g set ys a b (subst (λ texts. FindsHighestText lowest g set texts a) (same xs ys given also) first) second
+    → (texts : List (Bor Text)) × Gives texts × FindsExtremeText which g set texts a
+    → (texts : List (Bor Text)) × AlsoGives texts × FindsExtremeText which g set texts b → a ≡ b
+one_among which g set Gives AlsoGives same a b (xs, given, first) (ys, also, second) =
+    one_text which g set ys a b (subst (λ texts. FindsExtremeText which g set texts a) (same xs ys given also) first) second

@@ -5,13 +5,13 @@
 pub mod cargo;
 mod cursor;
 pub mod dialect;
-mod highest;
+pub mod highest;
 pub mod laws;
 pub mod matching;
 pub mod meaning;
 pub mod npm;
 mod printing;
-pub mod range_operations;
+mod range_operations;
 pub mod satisfying;
 mod sets;
 pub mod table;

@@ -1,43 +1,18 @@
 //! Set operations on ranges with the same meaning, and comparisons.
 
-ghost use Rattle.std.specs.Prelude.{◌≡◌, ◌≢◌, ◌⊎◌, ◌↔◌, ◌&&◌, ◌||◌, Err, IfOk, false, not, true};
+ghost use Rattle.std.specs.Prelude.{◌≡◌, ◌≢◌, ◌↔◌, Err, IfOk, false, true};
 ghost use Rattle.semver_texts.specs.Versions.{PlainVersion};
+ghost use Rattle.version_sets.specs.Combinations.{KeepsSome, keeps};
 ghost use Rattle.version_sets.specs.Printable.{IsPrintable};
 ghost use Rattle.version_sets.specs.VersionSets.{IsIn, contains};
 
 use crate::version_range::VersionRange;
 use std::alloc::Global;
-use thiserror::Error;
-use version_sets::SetError;
-
-/// The error of an operation on two ranges.
-///
-/// ```
-/// use semver_parser::{Dialect, OperationError, VersionRange};
-///
-/// let npm = VersionRange::parse("^1.2", Dialect::Npm)?;
-/// let cargo = VersionRange::parse("^1.2", Dialect::Cargo)?;
-/// assert_eq!(npm.union(&cargo).unwrap_err(), OperationError::DifferentMeanings);
-/// # Ok::<(), semver_parser::Error>(())
-/// ```
-#[derive(Clone, Copy, PartialEq, Eq, Debug, Error)]
-#[non_exhaustive]
-pub enum OperationError {
-    /// The ranges differ in their dialects, or in which pre-releases count.
-    #[error("the ranges have different meanings")]
-    DifferentMeanings,
-    /// The dialects read numeric identifiers above 2^64 - 1 differently: to Cargo and npm they are
-    /// numbers, and to the crate `semver-parser` they are alphanumerics.
-    #[error("the ranges read numbers from 2^64 on differently")]
-    DifferentDigits,
-    /// An allocation failed.
-    #[error("out of memory")]
-    OutOfMemory,
-}
+use version_sets::{Combination, OperationError};
 
 impl VersionRange {
-    // Determined by: law result_laws::version_ranges::one_union.
-    /// Returns the range of the versions that are in either range.
+    // Determined by: law result_laws::version_ranges::one_combined.
+    /// Returns the union, the intersection or the difference of two ranges with the same meaning.
     ///
     /// # Errors
     ///
@@ -45,135 +20,41 @@ impl VersionRange {
     /// `OutOfMemory` if an allocation failed.
     ///
     /// ```
-    /// use semver_parser::{Dialect, VersionRange};
+    /// use semver_parser::{Combination, Dialect, VersionRange};
     ///
     /// let range = VersionRange::parse(">=1.0.0 <1.5.0", Dialect::Npm)?;
     /// let other = VersionRange::parse(">=1.2.0 <2.0.0", Dialect::Npm)?;
-    /// assert_eq!(range.union(&other).unwrap().to_string(), ">=1.0.0 <2.0.0");
+    /// let both = range.combined(Combination::Intersection, &other).unwrap();
+    /// assert_eq!(both.to_string(), ">=1.2.0 <1.5.0");
     /// # Ok::<(), semver_parser::Error>(())
     /// ```
-    pub fn union(&self, alloc: Global, other: &VersionRange) -> Result<VersionRange, OperationError>
-        ensures refused { (result ≡ Err OperationError.DifferentMeanings)
-            ↔ (self.now.meaning ≢ other.now.meaning) }
-        ensures same_digits { result ≢ Err OperationError.DifferentDigits }
-        ensures contains { IfOk result (λ r. (v : PlainVersion)
-            → contains r.versions v ≡ (contains self.now.versions v
-            || contains other.now.versions v)) }
-        ensures meaning { IfOk result (λ r. r.meaning ≡ self.now.meaning) }
-        // If the identifiers of both can be parsed back from their strings, so can the result's.
-        ensures printable { IsPrintable self.now.versions → IsPrintable other.now.versions
-            → IfOk result (λ r. IsPrintable r.versions) }
-        // It can run out of memory only if the result would contain a version.
-        ensures out_of_memory { result ≡ Err OperationError.OutOfMemory → (v : PlainVersion)
-            × (IsIn v self.now.versions ⊎ IsIn v other.now.versions) }
-    {
-        if self.meaning != other.meaning {
-            return Err(OperationError::DifferentMeanings);
-        }
-        match self.versions.union(alloc, &other.versions) {
-            Ok(versions) => Ok(VersionRange {
-                versions,
-                meaning: self.meaning,
-            }),
-            Err(SetError::DifferentDigits) => Err(OperationError::DifferentDigits),
-            Err(SetError::OutOfMemory) => Err(OperationError::OutOfMemory),
-        }
-    }
-
-    // Determined by: law result_laws::version_ranges::one_intersection.
-    /// Returns the range of the versions that are in both ranges.
-    ///
-    /// # Errors
-    ///
-    /// `DifferentMeanings` if the ranges differ in their dialects, or in which pre-releases count;
-    /// `OutOfMemory` if an allocation failed.
-    ///
-    /// ```
-    /// use semver_parser::{Dialect, VersionRange};
-    ///
-    /// let range = VersionRange::parse(">=1.0.0 <1.5.0", Dialect::Npm)?;
-    /// let other = VersionRange::parse(">=1.2.0 <2.0.0", Dialect::Npm)?;
-    /// assert_eq!(range.intersection(&other).unwrap().to_string(), ">=1.2.0 <1.5.0");
-    /// # Ok::<(), semver_parser::Error>(())
-    /// ```
-    pub fn intersection(
+    pub fn combined(
         &self,
         alloc: Global,
+        how: Combination,
         other: &VersionRange,
     ) -> Result<VersionRange, OperationError>
         ensures refused { (result ≡ Err OperationError.DifferentMeanings)
             ↔ (self.now.meaning ≢ other.now.meaning) }
         ensures same_digits { result ≢ Err OperationError.DifferentDigits }
-        ensures contains { IfOk result (λ r. (v : PlainVersion)
-            → contains r.versions v ≡ (contains self.now.versions v
-            && contains other.now.versions v)) }
+        ensures contains { IfOk result (λ r. (v : PlainVersion) → contains r.versions v
+            ≡ keeps how (contains self.now.versions v) (contains other.now.versions v)) }
         ensures meaning { IfOk result (λ r. r.meaning ≡ self.now.meaning) }
         // If the identifiers of both can be parsed back from their strings, so can the result's.
         ensures printable { IsPrintable self.now.versions → IsPrintable other.now.versions
             → IfOk result (λ r. IsPrintable r.versions) }
         // It can run out of memory only if the result would contain a version.
-        ensures out_of_memory { result ≡ Err OperationError.OutOfMemory → (v : PlainVersion)
-            × IsIn v self.now.versions × IsIn v other.now.versions }
+        ensures out_of_memory { result ≡ Err OperationError.OutOfMemory
+            → KeepsSome how self.now.versions other.now.versions }
     {
         if self.meaning != other.meaning {
             return Err(OperationError::DifferentMeanings);
         }
-        match self.versions.intersection(alloc, &other.versions) {
-            Ok(versions) => Ok(VersionRange {
-                versions,
-                meaning: self.meaning,
-            }),
-            Err(SetError::DifferentDigits) => Err(OperationError::DifferentDigits),
-            Err(SetError::OutOfMemory) => Err(OperationError::OutOfMemory),
-        }
-    }
-
-    // Determined by: law result_laws::version_ranges::one_difference.
-    /// Returns the range of the versions that are in this range, but not in the other.
-    ///
-    /// # Errors
-    ///
-    /// `DifferentMeanings` if the ranges differ in their dialects, or in which pre-releases count;
-    /// `OutOfMemory` if an allocation failed.
-    ///
-    /// ```
-    /// use semver_parser::{Dialect, VersionRange};
-    ///
-    /// let range = VersionRange::parse(">=1.0.0 <1.5.0", Dialect::Npm)?;
-    /// let other = VersionRange::parse(">=1.2.0 <2.0.0", Dialect::Npm)?;
-    /// assert_eq!(range.difference(&other).unwrap().to_string(), ">=1.0.0 <1.2.0");
-    /// # Ok::<(), semver_parser::Error>(())
-    /// ```
-    pub fn difference(
-        &self,
-        alloc: Global,
-        other: &VersionRange,
-    ) -> Result<VersionRange, OperationError>
-        ensures refused { (result ≡ Err OperationError.DifferentMeanings)
-            ↔ (self.now.meaning ≢ other.now.meaning) }
-        ensures same_digits { result ≢ Err OperationError.DifferentDigits }
-        ensures contains { IfOk result (λ r. (v : PlainVersion)
-            → contains r.versions v ≡ (contains self.now.versions v
-            && not (contains other.now.versions v))) }
-        ensures meaning { IfOk result (λ r. r.meaning ≡ self.now.meaning) }
-        // If the identifiers of both can be parsed back from their strings, so can the result's.
-        ensures printable { IsPrintable self.now.versions → IsPrintable other.now.versions
-            → IfOk result (λ r. IsPrintable r.versions) }
-        // It can run out of memory only if the result would contain a version.
-        ensures out_of_memory { result ≡ Err OperationError.OutOfMemory → (v : PlainVersion)
-            × IsIn v self.now.versions × (¬ IsIn v other.now.versions) }
-    {
-        if self.meaning != other.meaning {
-            return Err(OperationError::DifferentMeanings);
-        }
-        match self.versions.difference(alloc, &other.versions) {
-            Ok(versions) => Ok(VersionRange {
-                versions,
-                meaning: self.meaning,
-            }),
-            Err(SetError::DifferentDigits) => Err(OperationError::DifferentDigits),
-            Err(SetError::OutOfMemory) => Err(OperationError::OutOfMemory),
-        }
+        let versions = self.versions.combined(alloc, how, &other.versions)?;
+        Ok(VersionRange {
+            versions,
+            meaning: self.meaning,
+        })
     }
 
     // Determined by: equation.
@@ -206,13 +87,10 @@ impl VersionRange {
         ensures subset { IfOk result (λ is. (is ≡ true) ↔ ((v : PlainVersion)
             → IsIn v self.now.versions → IsIn v other.now.versions)) }
         // If it isn't a subset, this range contains a version that the other doesn't.
-        ensures witness { IfOk result (λ is. is ≡ false → (v : PlainVersion)
-            × IsIn v self.now.versions × (¬ IsIn v other.now.versions)) }
+        ensures witness { IfOk result (λ is. is ≡ false
+            → KeepsSome Combination.Difference self.now.versions other.now.versions) }
     {
-        match self.versions.is_subset(&other.versions) {
-            Ok(is) => Ok(is),
-            Err(_) => Err(OperationError::DifferentDigits),
-        }
+        self.versions.is_subset(&other.versions)
     }
 
     // Determined by: equation.
@@ -238,13 +116,10 @@ impl VersionRange {
         ensures disjoint { IfOk result (λ is. (is ≡ true) ↔ ((v : PlainVersion)
             → IsIn v self.now.versions → ¬ IsIn v other.now.versions)) }
         // If they aren't disjoint, some version is in both.
-        ensures witness { IfOk result (λ is. is ≡ false → (v : PlainVersion)
-            × IsIn v self.now.versions × IsIn v other.now.versions) }
+        ensures witness { IfOk result (λ is. is ≡ false
+            → KeepsSome Combination.Intersection self.now.versions other.now.versions) }
     {
-        match self.versions.is_disjoint(&other.versions) {
-            Ok(is) => Ok(is),
-            Err(_) => Err(OperationError::DifferentDigits),
-        }
+        self.versions.is_disjoint(&other.versions)
     }
 }
 

@@ -15,7 +15,6 @@ ghost use Rattle.version_sets.specs.VersionSets.{HasNone, IsIn, IsLowest, IsPreR
 ghost use Rattle.version_sets.specs.VersionSets.{contains, contains_kept};
 
 use crate::meaning::{self, Meaning};
-use crate::range_operations::OperationError;
 use crate::satisfying::SatisfiesError;
 use crate::table::limit;
 use semver_ranges::RangeError;
@@ -23,7 +22,7 @@ use semver_versions::version::{Version, VersionRef, read_ref_in};
 use std::alloc::{AllocError, Global};
 use std::fmt;
 use std::marker::Model;
-use version_sets::VersionSet;
+use version_sets::{OperationError, VersionSet};
 
 /// A range that was read once: the versions that it contains, its dialect, and which pre-releases
 /// count. Any number of versions can be checked against it, and it can be combined with other

@@ -7,11 +7,11 @@ use Rattle.std.specs.Prelude.{MatchOption, IfSome, slice_get, option_map}
 use Rattle.semver_texts.specs.Digits.{plain_kept}
 use Rattle.semver_texts.specs.VersionViews.{version_value}
 use Rattle.semver_texts.specs.declared.version.Version.{Version}
-use Rattle.version_sets.specs.Comparisons.{TellsLowest, IsLowestOf, LowestIsPreRelease, IsInFirstAlone, IsInBoth}
-use Rattle.version_sets.specs.Steps.Combined.{combined_sets, IsKept}
+use Rattle.version_sets.specs.Comparisons.{TellsLowest, IsLowestOf, LowestIsPreRelease}
+use Rattle.version_sets.specs.Combinations.{IsKept}
+use Rattle.version_sets.specs.Steps.Combined.{combined_sets}
 use Rattle.version_sets.specs.Steps.Lower.{lower}
 use Rattle.version_sets.specs.declared.set_operations.Combination.{Combination}
-use Rattle.version_sets.specs.declared.set_operations.Combination.TheVariants.{Difference, Intersection}
 use Rattle.semver_texts.specs.Texts.{is_empty}
 use Rattle.semver_texts.specs.Versions.{PlainVersion, VersionValue, without_build}
 use Rattle.semver_texts.specs.Precedence.{precedence}
@@ -205,49 +205,3 @@ module _ (how : Combination) (a b : SetValue) (s : IsNormal a) (t : IsNormal b) 
   kept_pre_release p is l =
       let v : VersionValue = record { plain = p; build = [] } in
       (v, pre_release_is (combined_sets how a b) (combined-normal how a b s t) p is, kept_lower_one v refl l)
-
--- a difference keeps the versions that are only in the first set, and an intersection those that
--- are in both
-module _ (a b : SetValue) where
-  kept_alone : (v : PlainVersion) → IsKept Difference a b v → IsInFirstAlone a b v
-  kept_alone v (fits, k) = grind arith
-
-  alone_kept : (v : PlainVersion) → IsInFirstAlone a b v → IsKept Difference a b v
-  alone_kept v ((fits, e), n) = at (contains b v) refl
-    where
-      at : (y : Bool) → contains b v ≡ y → IsKept Difference a b v
-      at true y = absurd (n (fits, y))
-      at false y = (fits, grind arith)
-
-  kept_both : (v : PlainVersion) → IsKept Intersection a b v → IsInBoth a b v
-  kept_both v (fits, k) = ((fits, grind arith), (fits, grind arith))
-
-  both_kept : (v : PlainVersion) → IsInBoth a b v → IsKept Intersection a b v
-  both_kept v ((fits, e), (_, f)) = (fits, grind arith)
-
-  -- if P and Q hold for the same versions, the lowest with P is also the lowest with Q
-  the_same : (P Q : PlainVersion → Type 0) → ((v : PlainVersion) → P v → Q v) → ((v : PlainVersion) → Q v → P v)
-      → LowestIsPreRelease P → LowestIsPreRelease Q
-  the_same P Q f g (v, p, l) = (v, p, record { is_one = f v.plain l.is_one; no_build = l.no_build; lowest = λ w q. l.lowest w (g w q) })
-
-  pub alone_pre_release : LowestIsPreRelease (IsKept Difference a b) → LowestIsPreRelease (IsInFirstAlone a b)
-  alone_pre_release = the_same _ _ kept_alone alone_kept
-
-  pub shared_pre_release : LowestIsPreRelease (IsKept Intersection a b) → LowestIsPreRelease (IsInBoth a b)
-  shared_pre_release = the_same _ _ kept_both both_kept
-
-  -- and a result for P is also a result for Q
-  tells_same : (P Q : PlainVersion → Type 0) → ((v : PlainVersion) → P v → Q v) → ((v : PlainVersion) → Q v → P v)
-      → (lowest : Option Version) → TellsLowest P lowest → TellsLowest Q lowest
-  tells_same P Q f g None none = λ v q. none v (g v q)
-  tells_same P Q f g (Some version) (v, l, kept) = (
-    v,
-    record { is_one = f v.plain l.is_one; no_build = l.no_build; lowest = λ w q. l.lowest w (g w q) },
-    kept,
-  )
-
-  pub alone_tells : (lowest : Option Version) → TellsLowest (IsKept Difference a b) lowest → TellsLowest (IsInFirstAlone a b) lowest
-  alone_tells = tells_same _ _ kept_alone alone_kept
-
-  pub shared_tells : (lowest : Option Version) → TellsLowest (IsKept Intersection a b) lowest → TellsLowest (IsInBoth a b) lowest
-  shared_tells = tells_same _ _ kept_both both_kept

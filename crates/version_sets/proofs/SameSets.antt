@@ -12,7 +12,7 @@ use Rattle.version_sets.specs.declared.set_operations.Combination.TheVariants.{D
 use Rattle.semver_texts.specs.declared.grammar.Digits.{Digits}
 use Rattle.semver_texts.specs.declared.grammar.Digits.TheVariants.{Kept, AnySize}
 use Rattle.version_sets.specs.VersionSets.{SetValue, contains, Fits, IsIn, same_digits, same_set, IsNormal}
-use Rattle.version_sets.specs.Steps.Combined.{KeepsSome}
+use Rattle.version_sets.specs.Combinations.{KeepsSome}
 use Rattle.semver_texts.specs.Steps.PrecedenceLaws.{precedence_total, precedence-same}
 use Rattle.version_sets.proofs.SetLaws.{contains-release, contains-pre_release}
 use Rattle.version_sets.proofs.BoundaryLaws.{one_list}
@@ -76,8 +76,9 @@ same_versions a b s t r e =
       λ h. is.1 (one_set a b s t h.0 h.1),
     )
 
-is_true : (k : Bool) → not k ≡ false → k ≡ true
-is_true k e = grind arith
+-- a set that isn't a subset, or isn't disjoint, has a witness
+pub witness : {P : Type 0} (k : Bool) → (k ≡ true) ↔ P → not k ≡ false → P
+witness k some e = some.0 (grind arith)
 
 -- a set is a subset of another if and only if no version is only in it; below, they are disjoint if
 -- and only if no version is in both
@@ -106,19 +107,3 @@ tells_apart a b k some = (
       absurd (h found.0 (found.1.0, parts.0) (found.1.0, parts.1)))
       (λ f. ap not f),
 )
-
--- if a set isn't a subset of another, some version is only in it
-pub some_alone : (a b : SetValue) (k : Bool) → (k ≡ true) ↔ KeepsSome Difference a b → not k ≡ false
-    → (v : PlainVersion) × IsIn v a × (¬ (IsIn v b))
-some_alone a b k some e =
-    let found = some.0 (is_true k e) in
-    let parts = and_parts _ _ found.1.1 in
-    (found.0, (found.1.0, parts.0), λ g. true≢false (sym parts.1 ∙ ap not g.1))
-
--- if two sets aren't disjoint, some version is in both
-pub some_shared : (a b : SetValue) (k : Bool) → (k ≡ true) ↔ KeepsSome Intersection a b → not k ≡ false
-    → (v : PlainVersion) × IsIn v a × IsIn v b
-some_shared a b k some e =
-    let found = some.0 (is_true k e) in
-    let parts = and_parts _ _ found.1.1 in
-    (found.0, (found.1.0, parts.0), (found.1.0, parts.1))

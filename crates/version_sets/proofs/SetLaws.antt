@@ -11,7 +11,8 @@ use Rattle.version_sets.specs.declared.set_operations.Combination.{Combination}
 use Rattle.version_sets.specs.Boundaries.{is_inside}
 use Rattle.version_sets.specs.VersionSets.{SetValue, contains, IsRelease, IsPreRelease, AreBoundaries, IsNormal}
 use Rattle.version_sets.specs.Steps.Sweeps.{held}
-use Rattle.version_sets.specs.Steps.Combined.{keeps, pieces, keeps_some, combined, combined_sets, KeepsSome}
+use Rattle.version_sets.specs.Combinations.{keeps, KeepsSome}
+use Rattle.version_sets.specs.Steps.Combined.{pieces, keeps_some, combined, combined_sets}
 use Rattle.semver_texts.specs.Steps.PrecedenceLaws.{precedence_total}
 use Rattle.version_sets.proofs.SweepLaws.{sweep-is, changes-rise, changes-each, changes-hold, some_held, held_some, by_test}
 

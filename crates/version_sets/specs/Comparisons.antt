@@ -6,7 +6,7 @@ use Rattle.semver_texts.specs.Versions.{PlainVersion, VersionValue}
 use Rattle.semver_texts.specs.Precedence.{precedence}
 use Rattle.semver_texts.specs.VersionViews.{version_value}
 use Rattle.semver_texts.specs.declared.version.Version.{Version}
-use Rattle.version_sets.specs.VersionSets.{SetValue, IsIn, IsPreRelease}
+use Rattle.version_sets.specs.VersionSets.{IsPreRelease}
 
 -- the version is one of the requested ones, it has no build metadata, and none of the requested
 -- ones is below it by precedence
@@ -31,10 +31,3 @@ TellsLowest IsOne (Some version) =
 -- the lowest of the requested versions is a pre-release
 abbrev pub LowestIsPreRelease : (PlainVersion → Type 0) → Type 0
 LowestIsPreRelease IsOne = (v : VersionValue) × IsPreRelease v.plain × IsLowestOf IsOne v
-
--- the version is in the first set and not in the second
-abbrev pub IsInFirstAlone : SetValue → SetValue → PlainVersion → Type 0
-IsInFirstAlone first second v = IsIn v first × (¬ IsIn v second)
-
-abbrev pub IsInBoth : SetValue → SetValue → PlainVersion → Type 0
-IsInBoth first second v = IsIn v first × IsIn v second

@@ -1,6 +1,7 @@
 pub mod Boundaries
 pub mod Releases
 pub mod VersionSets
+pub mod Combinations
 pub mod Comparisons
 pub mod PreReleaseRules
 pub mod PreReleaseTable

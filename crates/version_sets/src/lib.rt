@@ -33,6 +33,6 @@ pub use cut::{Cut, Interval, Side};
 pub use release::Release;
 pub use rules::PreReleases;
 pub use set_difference::Comparison;
-pub use set_operations::SetError;
+pub use set_operations::{Combination, OperationError};
 pub use set_ranges::SetRanges;
 pub use version_set::VersionSet;

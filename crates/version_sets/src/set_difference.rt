@@ -3,14 +3,13 @@
 
 ghost use Rattle.std.specs.Prelude.{Err, IfErr, IfOk, false, true, ◌↔◌, ◌≡◌, ◌≢◌, ◌⊎◌};
 ghost use Rattle.semver_texts.specs.Versions.{PlainVersion};
-ghost use Rattle.version_sets.specs.Comparisons.{IsInBoth, IsInFirstAlone};
+ghost use Rattle.version_sets.specs.Combinations.{IsKept, KeepsSome};
 ghost use Rattle.version_sets.specs.Comparisons.{LowestIsPreRelease, TellsLowest};
-ghost use Rattle.version_sets.specs.Steps.Combined.{IsKept, KeepsSome};
 ghost use Rattle.version_sets.specs.VersionSets.{IsIn, same_set};
 
 use crate::boundaries::are_same;
 use crate::lowest::lower_one;
-use crate::set_operations::{Combination, SetError};
+use crate::set_operations::{Combination, OperationError};
 use crate::version_set::VersionSet;
 use semver_versions::version::Version;
 use std::alloc::{AllocError, Global};
@@ -63,45 +62,26 @@ impl VersionSet {
     /// assert_eq!(comparison.shared.unwrap().to_string(), "1.4.0");
     /// # Ok::<(), semver_parser::Error>(())
     /// ```
-    pub fn compare(&self, alloc: Global, new: &VersionSet) -> Result<Comparison, SetError>
-        ensures refused { (result ≡ Err SetError.DifferentDigits)
+    pub fn compare(&self, alloc: Global, new: &VersionSet) -> Result<Comparison, OperationError>
+        ensures refused { (result ≡ Err OperationError.DifferentDigits)
             ↔ (self.now.digits ≢ new.now.digits) }
+        ensures any_meaning { result ≢ Err OperationError.DifferentMeanings }
         ensures lost { IfOk result (λ answer.
-            TellsLowest (IsInFirstAlone self.now new.now) answer.lost) }
+            TellsLowest (IsKept Combination.Difference self.now new.now) answer.lost) }
         ensures gained { IfOk result (λ answer.
-            TellsLowest (IsInFirstAlone new.now self.now) answer.gained) }
+            TellsLowest (IsKept Combination.Difference new.now self.now) answer.gained) }
         ensures shared { IfOk result (λ answer.
-            TellsLowest (IsInBoth self.now new.now) answer.shared) }
+            TellsLowest (IsKept Combination.Intersection self.now new.now) answer.shared) }
         // It can run out of memory only if the lowest version that is lost, gained or shared is a
         // pre-release.
-        ensures out_of_memory { result ≡ Err SetError.OutOfMemory
-            → LowestIsPreRelease (IsInFirstAlone self.now new.now)
-            ⊎ LowestIsPreRelease (IsInFirstAlone new.now self.now)
-            ⊎ LowestIsPreRelease (IsInBoth self.now new.now) }
+        ensures out_of_memory { result ≡ Err OperationError.OutOfMemory
+            → LowestIsPreRelease (IsKept Combination.Difference self.now new.now)
+            ⊎ LowestIsPreRelease (IsKept Combination.Difference new.now self.now)
+            ⊎ LowestIsPreRelease (IsKept Combination.Intersection self.now new.now) }
     {
         if self.digits != new.digits {
-            return Err(SetError::DifferentDigits);
+            return Err(OperationError::DifferentDigits);
         }
-        match self.compared(alloc, new) {
-            Ok(comparison) => Ok(comparison),
-            Err(_) => Err(SetError::OutOfMemory),
-        }
-    }
-
-    /// Compares the set with a new one that reads numeric identifiers in the same way. `Err` means
-    /// out of memory.
-    fn compared(&self, alloc: Global, new: &VersionSet) -> Result<Comparison, AllocError>
-        ensures lost { IfOk result (λ answer.
-            TellsLowest (IsInFirstAlone self.now new.now) answer.lost) }
-        ensures gained { IfOk result (λ answer.
-            TellsLowest (IsInFirstAlone new.now self.now) answer.gained) }
-        ensures shared { IfOk result (λ answer.
-            TellsLowest (IsInBoth self.now new.now) answer.shared) }
-        ensures out_of_memory { IfErr result (λ _.
-            LowestIsPreRelease (IsInFirstAlone self.now new.now)
-            ⊎ LowestIsPreRelease (IsInFirstAlone new.now self.now)
-            ⊎ LowestIsPreRelease (IsInBoth self.now new.now)) }
-    {
         Ok(Comparison {
             lost: self.lowest_combined(alloc, Combination::Difference, new)?,
             gained: new.lowest_combined(alloc, Combination::Difference, self)?,
@@ -159,18 +139,19 @@ impl VersionSet {
     /// assert_eq!(wide.is_subset(&narrow), Ok(false));
     /// # Ok::<(), semver_parser::Error>(())
     /// ```
-    pub fn is_subset(&self, other: &VersionSet) -> Result<bool, SetError>
-        ensures refused { (result ≡ Err SetError.DifferentDigits)
+    pub fn is_subset(&self, other: &VersionSet) -> Result<bool, OperationError>
+        ensures refused { (result ≡ Err OperationError.DifferentDigits)
             ↔ (self.now.digits ≢ other.now.digits) }
-        ensures no_memory { result ≢ Err SetError.OutOfMemory }
+        ensures any_meaning { result ≢ Err OperationError.DifferentMeanings }
+        ensures no_memory { result ≢ Err OperationError.OutOfMemory }
         ensures subset { IfOk result (λ is. (is ≡ true)
             ↔ ((v : PlainVersion) → IsIn v self.now → IsIn v other.now)) }
         // If it isn't a subset, some version is in this set and not in the other.
-        ensures witness { IfOk result (λ is. is ≡ false → (v : PlainVersion)
-            × IsIn v self.now × (¬ IsIn v other.now)) }
+        ensures witness { IfOk result (λ is. is ≡ false
+            → KeepsSome Combination.Difference self.now other.now) }
     {
         if self.digits != other.digits {
-            return Err(SetError::DifferentDigits);
+            return Err(OperationError::DifferentDigits);
         }
         Ok(!self.keeps_some(Combination::Difference, other))
     }
@@ -193,18 +174,19 @@ impl VersionSet {
     /// assert_eq!(set.is_disjoint(&to), Ok(false)); // 1.2.0 is in both
     /// # Ok::<(), semver_parser::Error>(())
     /// ```
-    pub fn is_disjoint(&self, other: &VersionSet) -> Result<bool, SetError>
-        ensures refused { (result ≡ Err SetError.DifferentDigits)
+    pub fn is_disjoint(&self, other: &VersionSet) -> Result<bool, OperationError>
+        ensures refused { (result ≡ Err OperationError.DifferentDigits)
             ↔ (self.now.digits ≢ other.now.digits) }
-        ensures no_memory { result ≢ Err SetError.OutOfMemory }
+        ensures any_meaning { result ≢ Err OperationError.DifferentMeanings }
+        ensures no_memory { result ≢ Err OperationError.OutOfMemory }
         ensures disjoint { IfOk result (λ is. (is ≡ true)
             ↔ ((v : PlainVersion) → IsIn v self.now → ¬ IsIn v other.now)) }
         // If they aren't disjoint, some version is in both.
-        ensures witness { IfOk result (λ is. is ≡ false → (v : PlainVersion)
-            × IsIn v self.now × IsIn v other.now) }
+        ensures witness { IfOk result (λ is. is ≡ false
+            → KeepsSome Combination.Intersection self.now other.now) }
     {
         if self.digits != other.digits {
-            return Err(SetError::DifferentDigits);
+            return Err(OperationError::DifferentDigits);
         }
         Ok(!self.keeps_some(Combination::Intersection, other))
     }

@@ -1,11 +1,12 @@
 //! Union, intersection and difference of sets.
 
-ghost use Rattle.std.specs.Prelude.{Err, IfErr, IfOk, false, map, not, option_map};
-ghost use Rattle.std.specs.Prelude.{slice_get, true, ◌&&◌, ◌||◌, ◌≡◌, ◌≢◌, ◌⊎◌, ◌↔◌};
+ghost use Rattle.std.specs.Prelude.{Err, IfErr, IfOk, map, option_map, slice_get};
+ghost use Rattle.std.specs.Prelude.{true, ◌≡◌, ◌≢◌, ◌↔◌};
 ghost use Rattle.semver_texts.specs.Versions.{PlainVersion};
+ghost use Rattle.version_sets.specs.Combinations.{KeepsSome, keeps};
 ghost use Rattle.version_sets.specs.Printable.{IsPrintable};
-ghost use Rattle.version_sets.specs.Steps.Combined.{KeepsSome, combined, keeps, keeps_some, pieces};
-ghost use Rattle.version_sets.specs.VersionSets.{IsIn, contains};
+ghost use Rattle.version_sets.specs.Steps.Combined.{combined, keeps_some, pieces};
+ghost use Rattle.version_sets.specs.VersionSets.{contains};
 
 use crate::boundary::Boundary;
 use crate::sweep::Sweep;
@@ -13,22 +14,29 @@ use crate::version_set::VersionSet;
 use std::alloc::{AllocError, Global};
 use thiserror::Error;
 
-/// The error of an operation on two sets.
+/// The error of an operation on two ranges or two sets of versions.
 ///
 /// ```
-/// use semver_parser::sets::{self, SetError};
-/// use semver_parser::Dialect;
+/// use semver_parser::{sets, Dialect, OperationError, VersionRange};
 ///
-/// let set = sets::parse("^1.2", Dialect::Npm)?;
-/// let other = sets::parse("^1.2", Dialect::CrateNpm)?;
-/// assert_eq!(set.union(&other).unwrap_err(), SetError::DifferentDigits);
+/// let npm = VersionRange::parse("^1.2", Dialect::Npm)?;
+/// let cargo = VersionRange::parse("^1.2", Dialect::Cargo)?;
+/// assert_eq!(npm.union(&cargo).unwrap_err(), OperationError::DifferentMeanings);
+///
+/// let kept = sets::parse("^1.2", Dialect::CrateNpm)?;
+/// assert_eq!(npm.versions().is_subset(&kept), Err(OperationError::DifferentDigits));
 /// # Ok::<(), semver_parser::Error>(())
 /// ```
 #[derive(Clone, Copy, PartialEq, Eq, Debug, Error)]
-pub enum SetError {
-    /// The sets read numeric identifiers above 2^64 - 1 differently: one as strings, and the other
-    /// as numbers.
-    #[error("the sets read numbers from 2^64 on differently")]
+#[non_exhaustive]
+pub enum OperationError {
+    /// The ranges differ in their dialects, or in which pre-releases count. No operation on sets
+    /// returns it.
+    #[error("the ranges have different meanings")]
+    DifferentMeanings,
+    /// The dialects read numeric identifiers above 2^64 - 1 differently: to Cargo and npm they are
+    /// numbers, and to the crate `semver-parser` they are alphanumerics.
+    #[error("the ranges read numbers from 2^64 on differently")]
     DifferentDigits,
     /// An allocation failed.
     #[error("out of memory")]
@@ -36,25 +44,37 @@ pub enum SetError {
 }
 
 // Determined by: equation.
-impl From<AllocError> for SetError {
+impl From<AllocError> for OperationError {
     ghost use Rattle.std.specs.Prelude.{◌≡◌};
-    ghost use Rattle.version_sets.specs.declared.set_operations.SetError.TheVariants.{OutOfMemory};
+    ghost use Rattle.version_sets.specs.declared.set_operations.OperationError.TheVariants as error;
 
-    ghost from_gives = { λ _ e. e ≡ OutOfMemory };
+    ghost from_gives = { λ _ e. e ≡ error.OutOfMemory };
 
-    fn from(_error: AllocError) -> SetError {
-        SetError::OutOfMemory
+    fn from(_error: AllocError) -> OperationError {
+        OperationError::OutOfMemory
     }
 }
 
-/// How two sets are combined.
-#[derive(Clone, Copy)]
-pub(crate) enum Combination {
-    /// The versions in either set.
+/// How two ranges or two sets of versions are combined.
+///
+/// ```
+/// use semver_parser::{Combination, Dialect, VersionRange};
+///
+/// let range = VersionRange::parse(">=1.0.0 <1.5.0", Dialect::Npm)?;
+/// let other = VersionRange::parse(">=1.2.0 <2.0.0", Dialect::Npm)?;
+/// let combined = |how| range.combined(how, &other).unwrap().to_string();
+/// assert_eq!(combined(Combination::Union), ">=1.0.0 <2.0.0");
+/// assert_eq!(combined(Combination::Intersection), ">=1.2.0 <1.5.0");
+/// assert_eq!(combined(Combination::Difference), ">=1.0.0 <1.2.0");
+/// # Ok::<(), semver_parser::Error>(())
+/// ```
+#[derive(Clone, Copy, PartialEq, Eq, Debug)]
+pub enum Combination {
+    /// The versions that are in the first or in the second, or in both.
     Union,
-    /// The versions in both sets.
+    /// The versions that are in both.
     Intersection,
-    /// The versions only in the first set.
+    /// The versions that are in the first and not in the second.
     Difference,
 }
 
@@ -119,9 +139,9 @@ impl Combination {
 }
 
 impl VersionSet {
-    // Determined by: law result_laws::sets::one_union.
-    /// Returns the versions that are in either set. It takes time linear in the number of their
-    /// boundaries.
+    // Determined by: law result_laws::sets::one_combined.
+    /// Returns the union, the intersection or the difference of two sets. It takes time linear in
+    /// the number of their boundaries.
     ///
     /// The result is allocated as it grows, and not at all if it is empty.
     ///
@@ -131,141 +151,37 @@ impl VersionSet {
     /// allocation failed.
     ///
     /// ```
-    /// use semver_parser::{sets, Dialect};
+    /// use semver_parser::{sets, Combination, Dialect};
     ///
     /// let set = |range| sets::parse(range, Dialect::Npm).unwrap();
-    /// let union = set(">=1.0.0 <1.5.0").union(&set(">=1.2.0 <2.0.0"))?;
-    /// assert_eq!(union, set(">=1.0.0 <2.0.0"));
-    /// # Ok::<(), sets::SetError>(())
+    /// let (old, new) = (set(">=1.0.0 <1.5.0"), set(">=1.2.0 <2.0.0"));
+    /// assert_eq!(old.combined(Combination::Union, &new)?, set(">=1.0.0 <2.0.0"));
+    /// assert_eq!(old.combined(Combination::Intersection, &new)?, set(">=1.2.0 <1.5.0"));
+    /// assert_eq!(old.combined(Combination::Difference, &new)?, set(">=1.0.0 <1.2.0"));
+    /// # Ok::<(), semver_parser::OperationError>(())
     /// ```
-    pub fn union(&self, alloc: Global, other: &VersionSet) -> Result<VersionSet, SetError>
-        ensures refused { (result ≡ Err SetError.DifferentDigits)
-            ↔ (self.now.digits ≢ other.now.digits) }
-        ensures contains { IfOk result (λ set. (v : PlainVersion)
-            → contains set v ≡ (contains self.now v || contains other.now v)) }
-        ensures digits { IfOk result (λ set. set.digits ≡ self.now.digits) }
-        // If the identifiers of both can be parsed back from their strings, so can the result's.
-        ensures printable { IsPrintable self.now → IsPrintable other.now
-            → IfOk result IsPrintable }
-        // It can run out of memory only if the result would contain a version.
-        ensures out_of_memory { result ≡ Err SetError.OutOfMemory → (v : PlainVersion)
-            × (IsIn v self.now ⊎ IsIn v other.now) }
-    {
-        self.checked(alloc, Combination::Union, other)
-    }
-
-    // Determined by: law result_laws::sets::one_intersection.
-    /// Returns the versions that are in both sets. It takes time linear in the number of their
-    /// boundaries.
-    ///
-    /// The result is allocated as it grows, and not at all if it is empty.
-    ///
-    /// # Errors
-    ///
-    /// `DifferentDigits` if the sets read numeric identifiers differently, and `OutOfMemory` if an
-    /// allocation failed.
-    ///
-    /// ```
-    /// use semver_parser::{sets, Dialect};
-    ///
-    /// let set = |range| sets::parse(range, Dialect::Npm).unwrap();
-    /// let intersection = set(">=1.0.0 <1.5.0").intersection(&set(">=1.2.0 <2.0.0"))?;
-    /// assert_eq!(intersection, set(">=1.2.0 <1.5.0"));
-    /// # Ok::<(), sets::SetError>(())
-    /// ```
-    pub fn intersection(&self, alloc: Global, other: &VersionSet) -> Result<VersionSet, SetError>
-        ensures refused { (result ≡ Err SetError.DifferentDigits)
-            ↔ (self.now.digits ≢ other.now.digits) }
-        ensures contains { IfOk result (λ set. (v : PlainVersion)
-            → contains set v ≡ (contains self.now v && contains other.now v)) }
-        ensures digits { IfOk result (λ set. set.digits ≡ self.now.digits) }
-        // If the identifiers of both can be parsed back from their strings, so can the result's.
-        ensures printable { IsPrintable self.now → IsPrintable other.now
-            → IfOk result IsPrintable }
-        // It can run out of memory only if the result would contain a version.
-        ensures out_of_memory { result ≡ Err SetError.OutOfMemory → (v : PlainVersion)
-            × IsIn v self.now × IsIn v other.now }
-    {
-        self.checked(alloc, Combination::Intersection, other)
-    }
-
-    // Determined by: law result_laws::sets::one_difference.
-    /// Returns the versions that are in this set, but not in the other. It takes time linear in the
-    /// number of their boundaries.
-    ///
-    /// The result is allocated as it grows, and not at all if it is empty.
-    ///
-    /// # Errors
-    ///
-    /// `DifferentDigits` if the sets read numeric identifiers differently, and `OutOfMemory` if an
-    /// allocation failed.
-    ///
-    /// ```
-    /// use semver_parser::{sets, Dialect};
-    ///
-    /// let set = |range| sets::parse(range, Dialect::Npm).unwrap();
-    /// let difference = set(">=1.0.0 <1.5.0").difference(&set(">=1.2.0 <2.0.0"))?;
-    /// assert_eq!(difference, set(">=1.0.0 <1.2.0"));
-    /// # Ok::<(), sets::SetError>(())
-    /// ```
-    pub fn difference(&self, alloc: Global, other: &VersionSet) -> Result<VersionSet, SetError>
-        ensures refused { (result ≡ Err SetError.DifferentDigits)
-            ↔ (self.now.digits ≢ other.now.digits) }
-        ensures contains { IfOk result (λ set. (v : PlainVersion)
-            → contains set v ≡ (contains self.now v && not (contains other.now v))) }
-        ensures digits { IfOk result (λ set. set.digits ≡ self.now.digits) }
-        // If the identifiers of both can be parsed back from their strings, so can the result's.
-        ensures printable { IsPrintable self.now → IsPrintable other.now
-            → IfOk result IsPrintable }
-        // It can run out of memory only if the result would contain a version.
-        ensures out_of_memory { result ≡ Err SetError.OutOfMemory → (v : PlainVersion)
-            × IsIn v self.now × (¬ IsIn v other.now) }
-    {
-        self.checked(alloc, Combination::Difference, other)
-    }
-
-    /// Returns the combination of two sets, or `DifferentDigits` if they read numeric identifiers
-    /// differently.
-    fn checked(
+    pub fn combined(
         &self,
         alloc: Global,
         how: Combination,
         other: &VersionSet,
-    ) -> Result<VersionSet, SetError>
-        ensures refused { (result ≡ Err SetError.DifferentDigits)
+    ) -> Result<VersionSet, OperationError>
+        ensures refused { (result ≡ Err OperationError.DifferentDigits)
             ↔ (self.now.digits ≢ other.now.digits) }
+        ensures any_meaning { result ≢ Err OperationError.DifferentMeanings }
         ensures contains { IfOk result (λ set. (v : PlainVersion)
             → contains set v ≡ keeps how (contains self.now v) (contains other.now v)) }
         ensures digits { IfOk result (λ set. set.digits ≡ self.now.digits) }
+        // If the identifiers of both can be parsed back from their strings, so can the result's.
         ensures printable { IsPrintable self.now → IsPrintable other.now
             → IfOk result IsPrintable }
-        ensures out_of_memory { result ≡ Err SetError.OutOfMemory
+        // It can run out of memory only if the result would contain a version.
+        ensures out_of_memory { result ≡ Err OperationError.OutOfMemory
             → KeepsSome how self.now other.now }
     {
         if self.digits != other.digits {
-            return Err(SetError::DifferentDigits);
+            return Err(OperationError::DifferentDigits);
         }
-        match self.combined(alloc, how, other) {
-            Ok(set) => Ok(set),
-            Err(_) => Err(SetError::OutOfMemory),
-        }
-    }
-
-    /// Returns the combination of two sets that read numeric identifiers in the same way. `Err`
-    /// means out of memory.
-    fn combined(
-        &self,
-        alloc: Global,
-        how: Combination,
-        other: &VersionSet,
-    ) -> Result<VersionSet, AllocError>
-        ensures contains { IfOk result (λ set. (v : PlainVersion)
-            → contains set v ≡ keeps how (contains self.now v) (contains other.now v)) }
-        ensures digits { IfOk result (λ set. set.digits ≡ self.now.digits) }
-        ensures printable { IsPrintable self.now → IsPrintable other.now
-            → IfOk result IsPrintable }
-        ensures out_of_memory { IfErr result (λ _. KeepsSome how self.now other.now) }
-    {
         let releases = how.of(alloc, &self.releases, &other.releases)?;
         let pre_releases = how.of(alloc, &self.pre_releases, &other.pre_releases)?;
         Ok(VersionSet::of_boundaries(self.digits, releases, pre_releases))

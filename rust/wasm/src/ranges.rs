@@ -10,7 +10,7 @@ use core::fmt::{self, Write};
 use core::ptr::null_mut;
 use semver_parser::layers::{self, SatisfiesError};
 use semver_parser::VersionRange as Range;
-use semver_parser::{Dialect, Meaning, PreReleases, RangeError, Reason};
+use semver_parser::{Combination, Dialect, Meaning, PreReleases, RangeError, Reason};
 
 fn meaning(dialect: i32, rule: i32) -> Option<Meaning> {
     let (dialect, pre_releases) = (Dialect::from_number(dialect)?, PreReleases::from_number(rule)?);
@@ -213,7 +213,7 @@ pub extern "C" fn range_is_apart(range: &Range, other: &Range) -> i32 {
 /// range may have another rule for pre-releases, since in JavaScript each range has its own.
 #[no_mangle]
 pub extern "C" fn range_difference(range: &Range, other: &Range) -> *mut Range {
-    let Ok(versions) = range.versions().difference(other.versions()) else {
+    let Ok(versions) = range.versions().combined(Combination::Difference, other.versions()) else {
         return null_mut();
     };
     Range::from_versions(versions, range.meaning()).map_or(null_mut(), kept)

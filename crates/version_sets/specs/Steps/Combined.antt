@@ -1,20 +1,12 @@
 -- A means of proof: the combination of two lists of boundaries.
-use Rattle.std.specs.Prelude.{◌≡◌, Bool, true, false, not, ◌&&◌, ◌||◌, List}
+use Rattle.std.specs.Prelude.{Bool, false, List}
 use Rattle.std.specs.List.{list_any}
 use Rattle.semver_texts.specs.Versions.{PlainVersion}
 use Rattle.semver_texts.specs.Precedence.{precedence}
 use Rattle.version_sets.specs.declared.set_operations.Combination.{Combination}
-use Rattle.version_sets.specs.declared.set_operations.Combination.TheVariants.{Union}
-use Rattle.version_sets.specs.declared.set_operations.Combination.TheVariants.{Intersection}
-use Rattle.version_sets.specs.declared.set_operations.Combination.TheVariants.{Difference}
-use Rattle.version_sets.specs.VersionSets.{SetValue, contains, Fits}
+use Rattle.version_sets.specs.Combinations.{keeps}
+use Rattle.version_sets.specs.VersionSets.{SetValue}
 use Rattle.version_sets.specs.Steps.Sweeps.{PieceValue, sweep, changes}
-
--- whether a version is in the combination, by whether it is in the first and in the second set
-abbrev pub keeps : Combination → Bool → Bool → Bool
-keeps Union x y = x || y
-keeps Intersection x y = x && y
-keeps Difference x y = x && not y
 
 abbrev pub pieces : List PlainVersion → List PlainVersion → List (PieceValue PlainVersion)
 pieces xs ys = sweep precedence xs false false ys
@@ -32,11 +24,3 @@ combined_sets how a b = record {
   pre_releases = combined how (pieces a.pre_releases b.pre_releases);
   digits = a.digits;
 }
-
--- a version whose numbers fit 64 bits is in the combination of two sets
-abbrev pub IsKept : Combination → SetValue → SetValue → PlainVersion → Type 0
-IsKept how a b v = Fits v × (keeps how (contains a v) (contains b v) ≡ true)
-
--- some version is in the combination of two sets
-abbrev pub KeepsSome : Combination → SetValue → SetValue → Type 0
-KeepsSome how a b = (v : PlainVersion) × IsKept how a b v

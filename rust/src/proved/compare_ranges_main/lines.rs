@@ -6,7 +6,7 @@ use crate::rattle_std::prelude::*;
 use crate::proved::compare_ranges_main::arguments::{Extent, Options};
 use crate::proved::semver_parser::version::Version;
 use crate::rattle_std::AllocError;
-use crate::proved::version_sets::{SetError, SetRanges, VersionSet};
+use crate::proved::version_sets::{Combination, OperationError, SetRanges, VersionSet};
 
 /// The output so far.
 pub struct Output {
@@ -40,12 +40,13 @@ impl Output {
         &mut self,
         old: &VersionSet,
         new: &VersionSet,
-    ) -> Result<(), SetError> {
+    ) -> Result<(), OperationError> {
         match self.options.extent {
             Extent::Whole => {
-                self.push_whole("lost", &old.difference(new)?)?;
-                self.push_whole("gained", &new.difference(old)?)?;
-                self.push_whole("shared", &old.intersection(new)?)?;
+                let (alone, both) = (Combination::Difference, Combination::Intersection);
+                self.push_whole("lost", &old.combined(alone, new)?)?;
+                self.push_whole("gained", &new.combined(alone, old)?)?;
+                self.push_whole("shared", &old.combined(both, new)?)?;
             }
             Extent::Lowest => {
                 let comparison = old.compare(new)?;

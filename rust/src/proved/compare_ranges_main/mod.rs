@@ -17,7 +17,7 @@ use crate::rattle_std::process::ExitCode;
 use crate::proved::tool_ranges::dialect::Dialect;
 use crate::proved::tool_ranges::meaning::Meaning;
 use crate::proved::tool_ranges::version_range::VersionRange;
-use crate::proved::version_sets::SetError;
+use crate::proved::version_sets::OperationError;
 
 /// The program.
 const PROGRAM: Program = Program {
@@ -165,7 +165,7 @@ fn of_two(
     question: &Question,
     range: &VersionRange,
     new: &VersionRange,
-) -> Result<String, SetError> {
+) -> Result<String, OperationError> {
     let mut output = Output::new(question.options);
     output.push_two(range.versions(), new.versions())?;
     Ok(output.finish()?)

@@ -8,16 +8,22 @@ use crate::proved::small_inputs::ranges::DIALECTS;
 use crate::proved::semver_parser::version::{self, Version};
 use crate::rattle_std::io;
 use crate::rattle_std::io::Write;
+use crate::proved::tool_ranges::highest::Extreme;
 use crate::proved::tool_ranges::meaning::{self, Meaning};
-use crate::proved::tool_ranges::range_operations::OperationError;
 use crate::proved::tool_ranges::satisfying::{SatisfiesError, satisfies};
 use crate::proved::tool_ranges::version_range::VersionRange;
-use crate::proved::version_sets::{PreReleases, Release, VersionSet};
+use crate::proved::version_sets::{Combination, OperationError, PreReleases, Release, VersionSet};
 
 const RULES: [PreReleases; 3] = [
     PreReleases::Default,
     PreReleases::Included,
     PreReleases::Excluded,
+];
+
+const COMBINATIONS: [Combination; 3] = [
+    Combination::Union,
+    Combination::Intersection,
+    Combination::Difference,
 ];
 
 /// Versions that may satisfy a range.
@@ -97,8 +103,8 @@ pub fn add_sets(bytes: &[u8], sum: &mut Checksum) -> io::Result<()> {
                 Err(error) => write!(sum, "{error};")?,
             }
             if let Ok(range) = VersionRange::try_parse(text, meaning) {
-                add_index(range.highest_of(&VERSIONS), sum);
-                add_index(range.lowest_of(&VERSIONS), sum);
+                add_index(range.extreme_index(Extreme::Highest, &VERSIONS), sum);
+                add_index(range.extreme_index(Extreme::Lowest, &VERSIONS), sum);
                 write!(sum, "{range};")?;
             }
         }
@@ -134,8 +140,8 @@ fn add_index(index: Option<usize>, sum: &mut Checksum) {
     }
 }
 
-/// Asks whether a range contains versions, which are given in each form, in each dialect and by each
-/// rule.
+/// Asks whether a range contains versions, which are given in each form, and finds the highest and
+/// the lowest one, in each dialect and by each rule.
 pub fn add_members(bytes: &[u8], sum: &mut Checksum) -> io::Result<()> {
     let Ok(text) = crate::rattle_std::str::from_utf8(bytes) else {
         return Ok(());
@@ -149,13 +155,10 @@ pub fn add_members(bytes: &[u8], sum: &mut Checksum) -> io::Result<()> {
             let Ok(range) = VersionRange::try_parse(text, meaning) else {
                 continue;
             };
-            sum.add_bytes(
-                range
-                    .highest_among(LIST.split(' '))
-                    .unwrap_or("")
-                    .as_bytes(),
-            );
-            sum.add_bytes(range.lowest_among(LIST.split(' ')).unwrap_or("").as_bytes());
+            for which in [Extreme::Highest, Extreme::Lowest] {
+                let found = range.extreme_string(which, LIST.split(' ')).unwrap_or("");
+                sum.add_bytes(found.as_bytes());
+            }
             for version in VERSIONS {
                 add_member(&range, version, sum)?;
             }
@@ -216,10 +219,10 @@ fn add_pair(
     other: &VersionRange,
     sum: &mut Checksum,
 ) -> io::Result<()> {
-    add_range(&range.union(other), sum)?;
-    add_range(&range.intersection(other), sum)?;
-    add_range(&range.difference(other), sum)?;
-    add_range(&other.difference(range), sum)?;
+    for how in COMBINATIONS {
+        add_range(&range.combined(how, other), sum)?;
+    }
+    add_range(&other.combined(Combination::Difference, range), sum)?;
     add_relation(range.is_subset(other), sum)?;
     add_relation(range.is_disjoint(other), sum)?;
     if let Ok(found) = range.versions().compare(other.versions()) {

@@ -3,14 +3,13 @@
 
 use crate::rattle_std::prelude::*;
 use crate::proved::tool_ranges::meaning::{self, Meaning};
-use crate::proved::tool_ranges::range_operations::OperationError;
 use crate::proved::tool_ranges::satisfying::SatisfiesError;
 use crate::proved::tool_ranges::table::limit;
 use crate::proved::semver_ranges::RangeError;
 use crate::proved::semver_versions::version::{Version, VersionRef, read_ref_in};
 use crate::rattle_std::AllocError;
 use crate::rattle_std::fmt;
-use crate::proved::version_sets::VersionSet;
+use crate::proved::version_sets::{OperationError, VersionSet};
 
 /// A range that was read once: the versions that it contains, its dialect, and which pre-releases
 /// count. Any number of versions can be checked against it, and it can be combined with other

@@ -5,7 +5,7 @@
 use crate::rattle_std::prelude::*;
 use crate::proved::version_sets::boundaries::are_same;
 use crate::proved::version_sets::lowest::lower_one;
-use crate::proved::version_sets::set_operations::{Combination, SetError};
+use crate::proved::version_sets::set_operations::{Combination, OperationError};
 use crate::proved::version_sets::version_set::VersionSet;
 use crate::proved::semver_versions::version::Version;
 use crate::rattle_std::AllocError;
@@ -57,19 +57,10 @@ impl VersionSet {
     /// assert_eq!(comparison.shared.unwrap().to_string(), "1.4.0");
     /// # Ok::<(), semver_parser::Error>(())
     /// ```
-    pub fn compare(&self, new: &VersionSet) -> Result<Comparison, SetError> {
+    pub fn compare(&self, new: &VersionSet) -> Result<Comparison, OperationError> {
         if self.digits != new.digits {
-            return Err(SetError::DifferentDigits);
+            return Err(OperationError::DifferentDigits);
         }
-        match self.compared(new) {
-            Ok(comparison) => Ok(comparison),
-            Err(_) => Err(SetError::OutOfMemory),
-        }
-    }
-
-    /// Compares the set with a new one that reads numeric identifiers in the same way. `Err` means
-    /// out of memory.
-    fn compared(&self, new: &VersionSet) -> Result<Comparison, AllocError> {
         Ok(Comparison {
             lost: self.lowest_combined(Combination::Difference, new)?,
             gained: new.lowest_combined(Combination::Difference, self)?,
@@ -118,9 +109,9 @@ impl VersionSet {
     /// assert_eq!(wide.is_subset(&narrow), Ok(false));
     /// # Ok::<(), semver_parser::Error>(())
     /// ```
-    pub fn is_subset(&self, other: &VersionSet) -> Result<bool, SetError> {
+    pub fn is_subset(&self, other: &VersionSet) -> Result<bool, OperationError> {
         if self.digits != other.digits {
-            return Err(SetError::DifferentDigits);
+            return Err(OperationError::DifferentDigits);
         }
         Ok(!self.keeps_some(Combination::Difference, other))
     }
@@ -142,9 +133,9 @@ impl VersionSet {
     /// assert_eq!(set.is_disjoint(&to), Ok(false)); // 1.2.0 is in both
     /// # Ok::<(), semver_parser::Error>(())
     /// ```
-    pub fn is_disjoint(&self, other: &VersionSet) -> Result<bool, SetError> {
+    pub fn is_disjoint(&self, other: &VersionSet) -> Result<bool, OperationError> {
         if self.digits != other.digits {
-            return Err(SetError::DifferentDigits);
+            return Err(OperationError::DifferentDigits);
         }
         Ok(!self.keeps_some(Combination::Intersection, other))
     }

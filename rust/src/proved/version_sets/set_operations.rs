@@ -7,52 +7,71 @@ use crate::proved::version_sets::sweep::Sweep;
 use crate::proved::version_sets::version_set::VersionSet;
 use crate::rattle_std::AllocError;
 
-/// The error of an operation on two sets.
+/// The error of an operation on two ranges or two sets of versions.
 ///
 /// ```
-/// use semver_parser::sets::{self, SetError};
-/// use semver_parser::Dialect;
+/// use semver_parser::{sets, Dialect, OperationError, VersionRange};
 ///
-/// let set = sets::parse("^1.2", Dialect::Npm)?;
-/// let other = sets::parse("^1.2", Dialect::CrateNpm)?;
-/// assert_eq!(set.union(&other).unwrap_err(), SetError::DifferentDigits);
+/// let npm = VersionRange::parse("^1.2", Dialect::Npm)?;
+/// let cargo = VersionRange::parse("^1.2", Dialect::Cargo)?;
+/// assert_eq!(npm.union(&cargo).unwrap_err(), OperationError::DifferentMeanings);
+///
+/// let kept = sets::parse("^1.2", Dialect::CrateNpm)?;
+/// assert_eq!(npm.versions().is_subset(&kept), Err(OperationError::DifferentDigits));
 /// # Ok::<(), semver_parser::Error>(())
 /// ```
 #[derive(Clone, Copy, PartialEq, Eq, Debug)]
-pub enum SetError {
-    /// The sets read numeric identifiers above 2^64 - 1 differently: one as strings, and the other
-    /// as numbers.
+#[non_exhaustive]
+pub enum OperationError {
+    /// The ranges differ in their dialects, or in which pre-releases count. No operation on sets
+    /// returns it.
+    DifferentMeanings,
+    /// The dialects read numeric identifiers above 2^64 - 1 differently: to Cargo and npm they are
+    /// numbers, and to the crate `semver-parser` they are alphanumerics.
     DifferentDigits,
     /// An allocation failed.
     OutOfMemory,
 }
 
-impl crate::rattle_std::fmt::Display for SetError {
+impl crate::rattle_std::fmt::Display for OperationError {
     fn fmt(&self, f: &mut crate::rattle_std::fmt::Formatter<'_>) -> crate::rattle_std::fmt::Result {
         match self {
-            SetError::DifferentDigits => write!(f, "the sets read numbers from 2^64 on differently"),
-            SetError::OutOfMemory => write!(f, "out of memory"),
+            OperationError::DifferentMeanings => write!(f, "the ranges have different meanings"),
+            OperationError::DifferentDigits => write!(f, "the ranges read numbers from 2^64 on differently"),
+            OperationError::OutOfMemory => write!(f, "out of memory"),
         }
     }
 }
 
 #[cfg(feature = "std")]
-impl crate::rattle_std::Error for SetError {}
+impl crate::rattle_std::Error for OperationError {}
 
-impl From<AllocError> for SetError {
-    fn from(_error: AllocError) -> SetError {
-        SetError::OutOfMemory
+impl From<AllocError> for OperationError {
+    fn from(_error: AllocError) -> OperationError {
+        OperationError::OutOfMemory
     }
 }
 
-/// How two sets are combined.
-#[derive(Clone, Copy)]
-pub(crate) enum Combination {
-    /// The versions in either set.
+/// How two ranges or two sets of versions are combined.
+///
+/// ```
+/// use semver_parser::{Combination, Dialect, VersionRange};
+///
+/// let range = VersionRange::parse(">=1.0.0 <1.5.0", Dialect::Npm)?;
+/// let other = VersionRange::parse(">=1.2.0 <2.0.0", Dialect::Npm)?;
+/// let combined = |how| range.combined(how, &other).unwrap().to_string();
+/// assert_eq!(combined(Combination::Union), ">=1.0.0 <2.0.0");
+/// assert_eq!(combined(Combination::Intersection), ">=1.2.0 <1.5.0");
+/// assert_eq!(combined(Combination::Difference), ">=1.0.0 <1.2.0");
+/// # Ok::<(), semver_parser::Error>(())
+/// ```
+#[derive(Clone, Copy, PartialEq, Eq, Debug)]
+pub enum Combination {
+    /// The versions that are in the first or in the second, or in both.
     Union,
-    /// The versions in both sets.
+    /// The versions that are in both.
     Intersection,
-    /// The versions only in the first set.
+    /// The versions that are in the first and not in the second.
     Difference,
 }
 
@@ -103,8 +122,8 @@ impl Combination {
 }
 
 impl VersionSet {
-    /// Returns the versions that are in either set. It takes time linear in the number of their
-    /// boundaries.
+    /// Returns the union, the intersection or the difference of two sets. It takes time linear in
+    /// the number of their boundaries.
     ///
     /// The result is allocated as it grows, and not at all if it is empty.
     ///
@@ -114,84 +133,23 @@ impl VersionSet {
     /// allocation failed.
     ///
     /// ```
-    /// use semver_parser::{sets, Dialect};
+    /// use semver_parser::{sets, Combination, Dialect};
     ///
     /// let set = |range| sets::parse(range, Dialect::Npm).unwrap();
-    /// let union = set(">=1.0.0 <1.5.0").union(&set(">=1.2.0 <2.0.0"))?;
-    /// assert_eq!(union, set(">=1.0.0 <2.0.0"));
-    /// # Ok::<(), sets::SetError>(())
+    /// let (old, new) = (set(">=1.0.0 <1.5.0"), set(">=1.2.0 <2.0.0"));
+    /// assert_eq!(old.combined(Combination::Union, &new)?, set(">=1.0.0 <2.0.0"));
+    /// assert_eq!(old.combined(Combination::Intersection, &new)?, set(">=1.2.0 <1.5.0"));
+    /// assert_eq!(old.combined(Combination::Difference, &new)?, set(">=1.0.0 <1.2.0"));
+    /// # Ok::<(), semver_parser::OperationError>(())
     /// ```
-    pub fn union(&self, other: &VersionSet) -> Result<VersionSet, SetError> {
-        self.checked(Combination::Union, other)
-    }
-
-    /// Returns the versions that are in both sets. It takes time linear in the number of their
-    /// boundaries.
-    ///
-    /// The result is allocated as it grows, and not at all if it is empty.
-    ///
-    /// # Errors
-    ///
-    /// `DifferentDigits` if the sets read numeric identifiers differently, and `OutOfMemory` if an
-    /// allocation failed.
-    ///
-    /// ```
-    /// use semver_parser::{sets, Dialect};
-    ///
-    /// let set = |range| sets::parse(range, Dialect::Npm).unwrap();
-    /// let intersection = set(">=1.0.0 <1.5.0").intersection(&set(">=1.2.0 <2.0.0"))?;
-    /// assert_eq!(intersection, set(">=1.2.0 <1.5.0"));
-    /// # Ok::<(), sets::SetError>(())
-    /// ```
-    pub fn intersection(&self, other: &VersionSet) -> Result<VersionSet, SetError> {
-        self.checked(Combination::Intersection, other)
-    }
-
-    /// Returns the versions that are in this set, but not in the other. It takes time linear in the
-    /// number of their boundaries.
-    ///
-    /// The result is allocated as it grows, and not at all if it is empty.
-    ///
-    /// # Errors
-    ///
-    /// `DifferentDigits` if the sets read numeric identifiers differently, and `OutOfMemory` if an
-    /// allocation failed.
-    ///
-    /// ```
-    /// use semver_parser::{sets, Dialect};
-    ///
-    /// let set = |range| sets::parse(range, Dialect::Npm).unwrap();
-    /// let difference = set(">=1.0.0 <1.5.0").difference(&set(">=1.2.0 <2.0.0"))?;
-    /// assert_eq!(difference, set(">=1.0.0 <1.2.0"));
-    /// # Ok::<(), sets::SetError>(())
-    /// ```
-    pub fn difference(&self, other: &VersionSet) -> Result<VersionSet, SetError> {
-        self.checked(Combination::Difference, other)
-    }
-
-    /// Returns the combination of two sets, or `DifferentDigits` if they read numeric identifiers
-    /// differently.
-    fn checked(
+    pub fn combined(
         &self,
         how: Combination,
         other: &VersionSet,
-    ) -> Result<VersionSet, SetError> {
+    ) -> Result<VersionSet, OperationError> {
         if self.digits != other.digits {
-            return Err(SetError::DifferentDigits);
+            return Err(OperationError::DifferentDigits);
         }
-        match self.combined(how, other) {
-            Ok(set) => Ok(set),
-            Err(_) => Err(SetError::OutOfMemory),
-        }
-    }
-
-    /// Returns the combination of two sets that read numeric identifiers in the same way. `Err`
-    /// means out of memory.
-    fn combined(
-        &self,
-        how: Combination,
-        other: &VersionSet,
-    ) -> Result<VersionSet, AllocError> {
         let releases = how.of(&self.releases, &other.releases)?;
         let pre_releases = how.of(&self.pre_releases, &other.pre_releases)?;
         Ok(VersionSet::of_boundaries(self.digits, releases, pre_releases))

@@ -5,7 +5,7 @@ use crate::proved::semver_parser::{version, RangeError};
 use crate::proved::semver_texts::grammar::Digits;
 use crate::proved::tool_ranges::dialect::Dialect;
 use crate::proved::tool_ranges::meaning::{self, Meaning};
-use crate::proved::version_sets::{PreReleases, SetRanges, VersionSet};
+use crate::proved::version_sets::{Combination, PreReleases, SetRanges, VersionSet};
 use crate::rattle_std::AllocError;
 
 /// Returns the meaning of a dialect with the pre-releases that count by default.
@@ -129,7 +129,7 @@ pub fn of_refused_bounds() -> Ending {
 
 /// The union contains both sets, and its lowest release is 0.0.0, which is in the second.
 pub fn union(first: &VersionSet, second: &VersionSet) -> Ending {
-    match first.union(second) {
+    match first.combined(Combination::Union, second) {
         Ok(set) => {
             Ending::full_if(is_within(first, &set) && is_within(second, &set) && begins_at(&set, 0))
         }
@@ -139,7 +139,7 @@ pub fn union(first: &VersionSet, second: &VersionSet) -> Ending {
 
 /// The intersection is a subset of both sets, and its lowest release is 1.2.0.
 pub fn intersection(first: &VersionSet, second: &VersionSet) -> Ending {
-    match first.intersection(second) {
+    match first.combined(Combination::Intersection, second) {
         Ok(set) => {
             Ending::full_if(is_within(&set, first) && is_within(&set, second) && begins_at(&set, 1))
         }
@@ -150,7 +150,7 @@ pub fn intersection(first: &VersionSet, second: &VersionSet) -> Ending {
 /// The difference of the second set and the first is a subset of the second, disjoint from the
 /// first, and begins with 0.0.0.
 pub fn difference(first: &VersionSet, second: &VersionSet) -> Ending {
-    match second.difference(first) {
+    match second.combined(Combination::Difference, first) {
         Ok(set) => Ending::full_if(
             is_within(&set, second) && set.is_disjoint(first) == Ok(true) && begins_at(&set, 0),
         ),
@@ -207,7 +207,7 @@ pub fn without_requests(first: &VersionSet, second: &VersionSet) -> Ending {
     let has_both = contains(first, "1.9.0") && contains(second, "1.9.0");
     let has_one = contains(first, "2.0.0") && !contains(second, "2.0.0");
     let is_lowest = matches!(empty.lowest(), Ok(None));
-    let nothing = match first.difference(first) {
+    let nothing = match first.combined(Combination::Difference, first) {
         Ok(nothing) => nothing == empty,
         Err(_) => false,
     };

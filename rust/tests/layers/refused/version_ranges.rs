@@ -4,9 +4,8 @@ use super::Ending;
 use crate::proved::semver_parser::RangeError;
 use crate::proved::tool_ranges::dialect::Dialect;
 use crate::proved::tool_ranges::meaning::Meaning;
-use crate::proved::tool_ranges::range_operations::OperationError;
 use crate::proved::tool_ranges::version_range::VersionRange;
-use crate::proved::version_sets::PreReleases;
+use crate::proved::version_sets::{Combination, OperationError, PreReleases};
 
 /// Cargo's dialect, with each pre-release within the bounds.
 const CARGO: Meaning = Meaning { dialect: Dialect::Cargo, pre_releases: PreReleases::Included };
@@ -35,9 +34,9 @@ pub fn combined() -> Ending {
         Err(RangeError::OutOfMemory) => return Ending::Refused,
         Err(_) => return Ending::Wrong,
     };
-    let union = ends(range.union(&other), [true, true, true]);
-    let intersection = ends(range.intersection(&other), [false, true, false]);
-    let difference = ends(range.difference(&other), [true, false, false]);
+    let union = ends(range.combined(Combination::Union, &other), [true, true, true]);
+    let intersection = ends(range.combined(Combination::Intersection, &other), [false, true, false]);
+    let difference = ends(range.combined(Combination::Difference, &other), [true, false, false]);
     if [union, intersection, difference].contains(&Ending::Wrong) {
         return Ending::Wrong;
     }

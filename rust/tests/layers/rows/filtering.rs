@@ -4,6 +4,7 @@ use super::{versions_of, NOT_ALL};
 use crate::proved::release_filter::{LineOptions, Lines, Selection};
 use crate::proved::semver_parser::RangeError;
 use crate::proved::tool_ranges::dialect::Dialect;
+use crate::proved::tool_ranges::highest::Extreme;
 use crate::proved::tool_ranges::meaning::Meaning;
 use crate::proved::tool_ranges::version_range::VersionRange;
 use crate::proved::version_sets::PreReleases;
@@ -41,8 +42,8 @@ pub fn highest(text: &str, pre_releases: PreReleases, list: &str) -> String {
     };
     let items = list.split(' ').filter(|it| !it.is_empty());
     let texts: Vec<&[u8]> = items.map(str::as_bytes).collect();
-    let highest = range.highest_of(&texts).map(|index| versions[index].to_string());
-    highest.unwrap_or("none".into())
+    let highest = range.extreme_index(Extreme::Highest, &texts);
+    highest.map_or("none".into(), |index| versions[index].to_string())
 }
 
 /// Returns the line of the highest version after a prefix, and how many bytes are left.

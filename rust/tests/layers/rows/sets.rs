@@ -4,7 +4,7 @@ use super::{versions_of, NOT_ALL};
 use crate::proved::semver_parser::version::Version;
 use crate::proved::semver_parser::RangeError;
 use crate::proved::tool_ranges::meaning::{self, Meaning};
-use crate::proved::version_sets::VersionSet;
+use crate::proved::version_sets::{Combination, VersionSet};
 
 /// Returns the versions of a list that are in the set of a range, then its lowest version and its
 /// lowest release, or the error of the range.
@@ -95,10 +95,10 @@ impl Parts {
         let first = meaning::read(meaning, text)?;
         let second = meaning::read(meaning, other)?;
         Ok(Parts {
-            lost: first.difference(&second).unwrap(),
-            gained: second.difference(&first).unwrap(),
-            shared: first.intersection(&second).unwrap(),
-            union: first.union(&second).unwrap(),
+            lost: first.combined(Combination::Difference, &second).unwrap(),
+            gained: second.combined(Combination::Difference, &first).unwrap(),
+            shared: first.combined(Combination::Intersection, &second).unwrap(),
+            union: first.combined(Combination::Union, &second).unwrap(),
             first,
             second,
         })

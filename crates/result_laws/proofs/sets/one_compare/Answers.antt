@@ -1,7 +1,7 @@
 use Rattle.result_laws.specs.SameSets.{comparison_value}
 use Rattle.result_laws.proofs.LowestVersions.{one_lowest}
 use Rattle.result_laws.proofs.OneResult.{of_ok}
-use Rattle.result_laws.proofs.SameSets.{one_combined_answer}
+use Rattle.result_laws.proofs.SameSets.{never, one_operation}
 use Rattle.result_laws.proofs.sets.one_compare.Goals as goal
 
 pub returns : goal.returns
@@ -10,7 +10,7 @@ returns c =
     let r = c.compare.ensures in
     let s = c.compare-2.ensures in
     record {
-      one = one_combined_answer comparison_value _ _ _ r.refused s.refused (λ a b is is'.
+      one = one_operation comparison_value _ _ _ _ r.refused s.refused (never r.any_meaning) (never s.any_meaning) (λ a b is is'.
           let lost = one_lowest law.total law.same _ a.lost b.lost (of_ok _ is r.lost) (of_ok _ is' s.lost) in
           let gained = one_lowest law.total law.same _ a.gained b.gained (of_ok _ is r.gained) (of_ok _ is' s.gained) in
           let shared = one_lowest law.total law.same _ a.shared b.shared (of_ok _ is r.shared) (of_ok _ is' s.shared) in

@@ -2,7 +2,7 @@ use Rattle.std.proofs.Common.{rules}
 use Rattle.std.proofs.lemmas.Iterator.Consumers.{YieldsList-from_first}
 use Rattle.std.proofs.lemmas.Iterator.Search.{any_from_yields_List}
 use Rattle.version_sets.specs.Steps.SweepViews.{piece_value, pieces_left}
-use Rattle.version_sets.specs.Steps.Combined.{keeps}
+use Rattle.version_sets.specs.Combinations.{keeps}
 use Rattle.version_sets.proofs.set_operations.Combination.keeps_some.Goals as goal
 
 pub returns : goal.returns

@@ -1,7 +1,8 @@
 use Rattle.std.proofs.Common.{◌≡◌, true, map, ◌++◌, ◌||◌}
 use Rattle.version_sets.specs.Steps.Sweeps.{changes}
 use Rattle.version_sets.specs.Steps.SweepViews.{pieces_left}
-use Rattle.version_sets.specs.Steps.Combined.{keeps, pieces, keeps_some, combined}
+use Rattle.version_sets.specs.Combinations.{keeps}
+use Rattle.version_sets.specs.Steps.Combined.{pieces, keeps_some, combined}
 use Rattle.version_sets.proofs.set_operations.Combination.of.Given as goal
 
 -- the boundaries so far, followed by those of the pieces that are left, are those of the

@@ -4,7 +4,8 @@ use Rattle.semver_texts.specs.Versions.{PlainVersion}
 use Rattle.version_sets.specs.Comparisons.{TellsLowest, LowestIsPreRelease}
 use Rattle.version_sets.specs.Releases.{release_value}
 use Rattle.version_sets.specs.VersionSets.{SetValue, Fits}
-use Rattle.version_sets.specs.Steps.Combined.{combined, combined_sets, pieces, IsKept}
+use Rattle.version_sets.specs.Combinations.{IsKept}
+use Rattle.version_sets.specs.Steps.Combined.{combined, combined_sets, pieces}
 use Rattle.version_sets.specs.Steps.Lower.{lower}
 use Rattle.semver_versions.specs.ReadVersions.{read_plain}
 use Rattle.version_sets.specs.Steps.Places.{set_of}
