@@ -17,7 +17,7 @@ use Rattle.semver_texts.specs.Versions.{PlainVersion, VersionValue, without_buil
 use Rattle.semver_texts.specs.Precedence.{precedence}
 use Rattle.version_sets.specs.Boundaries.{is_inside}
 use Rattle.version_sets.specs.VersionSets.{SetValue, contains, Fits, IsIn, IsRelease, IsPreRelease, IsWithin, AreBoundaries, IsNormal, IsLowest, HasNone}
-use Rattle.version_sets.specs.Steps.Within.{IsFirstInside, IsReleaseWithin, IsPreReleaseWithin}
+use Rattle.version_sets.specs.Steps.Within.{IsFirstInside, IsOfKindWithin}
 use Rattle.semver_texts.specs.Steps.PrecedenceLaws.{precedence_total}
 use Rattle.version_sets.proofs.SetLaws.{contains-release, contains-pre_release, contains-combined, combined-normal}
 use Rattle.version_sets.proofs.BoundaryLaws.{is_inside-first, is_inside-below, by_order, turned_below}
@@ -106,20 +106,20 @@ module _ (set : SetValue) where
     within_fits : (v : PlainVersion) → IsWithin most v → Fits v
     within_fits v w = (omega (arith, small, w.0), omega (arith, small, w.1), omega (arith, small, w.2))
 
-    within_kinds : (w : PlainVersion) (G : Type 0) → IsWithin most w → (IsReleaseWithin most w → G) → (IsPreReleaseWithin most w → G) → G
+    within_kinds : (w : PlainVersion) (G : Type 0) → IsWithin most w → (IsOfKindWithin true most w → G) → (IsOfKindWithin false most w → G) → G
     within_kinds w G within f g = by_test (is_empty w.pre) (λ t. f (within, t)) (λ t. g (within, t))
 
-    pub first_within : (r p : Option PlainVersion) → IsFirstInside (IsReleaseWithin most) set.releases r
-        → IsFirstInside (IsPreReleaseWithin most) set.pre_releases p → TellsPlain (IsWithin most) set (lower r p)
+    pub first_within : (r p : Option PlainVersion) → IsFirstInside (IsOfKindWithin true most) set.releases r
+        → IsFirstInside (IsOfKindWithin false most) set.pre_releases p → TellsPlain (IsWithin most) set (lower r p)
     first_within r p first_r first_p =
-        lower_is set (IsWithin most) (IsReleaseWithin most) (IsPreReleaseWithin most) within_kinds (λ w k. k.0) (λ w k. k.0) r p
-        (inside_tells (IsReleaseWithin most) set.releases r (λ v k. (within_fits v k.0, contains-release set v k.1)) first_r)
-        (inside_tells (IsPreReleaseWithin most) set.pre_releases p (λ v k. (within_fits v k.0, contains-pre_release set v k.1)) first_p)
+        lower_is set (IsWithin most) (IsOfKindWithin true most) (IsOfKindWithin false most) within_kinds (λ w k. k.0) (λ w k. k.0) r p
+        (inside_tells (IsOfKindWithin true most) set.releases r (λ v k. (within_fits v k.0, contains-release set v k.1)) first_r)
+        (inside_tells (IsOfKindWithin false most) set.pre_releases p (λ v k. (within_fits v k.0, contains-pre_release set v k.1)) first_p)
 
-    pub within_pre_release : (p : PlainVersion) (found : Option PlainVersion) → IsFirstInside (IsPreReleaseWithin most) set.pre_releases found
+    pub within_pre_release : (p : PlainVersion) (found : Option PlainVersion) → IsFirstInside (IsOfKindWithin false most) set.pre_releases found
         → found ≡ Some p → IsPreRelease p
     within_pre_release p found first is =
-        let told = subst (IsFirstInside (IsPreReleaseWithin most) set.pre_releases) is first in (within_fits p told.0.0, told.0.1)
+        let told = subst (IsFirstInside (IsOfKindWithin false most) set.pre_releases) is first in (within_fits p told.0.0, told.0.1)
 
   -- a set is empty if and only if it has no boundaries
   empty_lists : (xs ys : List PlainVersion) → TellsPlain IsRelease set (slice_get xs 0) → TellsPlain IsPreRelease set (slice_get ys 0)

@@ -1,6 +1,6 @@
 -- The first version of a kind, with numbers within a limit, at or above a boundary, and inside some
 -- boundaries.
-use Rattle.std.proofs.Common.{arith, ◌≡◌, ◌≤◌, ℕ, Bool, true, false, not, List, [], ◌∷◌, Option, Some, None, refl, sym, ap, ◌∙◌, map, subst, true≢false}
+use Rattle.std.proofs.Common.{arith, ◌≡◌, ◌≤◌, ℕ, Bool, true, false, cond, not, List, [], ◌∷◌, Option, Some, None, refl, sym, ap, ◌∙◌, map, subst, true≢false}
 use Rattle.std.proofs.Common.{Ordering, Less, Equal, is_eq, is_ge, is_lt}
 use Rattle.std.specs.Cmp.{tied_itself}
 use Rattle.std.specs.Ordering.{ordering_reverse, ordering_then}
@@ -12,7 +12,7 @@ use Rattle.version_sets.specs.Boundaries.{is_inside, IsBelowFirst, IsIncreasing}
 use Rattle.version_sets.specs.Releases.{release_value}
 use Rattle.version_sets.specs.VersionSets.{AreBoundaries}
 use Rattle.version_sets.specs.Steps.Bounds.{lowest_place, numbers_cmp}
-use Rattle.version_sets.specs.Steps.Within.{AreFirstNumbers, IsFirstFrom, IsFirstInside, IsReleaseWithin, IsPreReleaseWithin}
+use Rattle.version_sets.specs.Steps.Within.{AreFirstNumbers, IsFirstFrom, IsFirstInside, IsOfKindWithin, first_place, lowest_of_kind}
 use Rattle.version_sets.specs.declared.release.Release.{Release}
 use Rattle.version_sets.proofs.BoundLaws.{against, by_numbers, from_lowest}
 use Rattle.version_sets.proofs.BoundaryLaws.{below-first, by_order, by_place, is_inside-at, is_inside-below, turned_below}
@@ -34,57 +34,57 @@ same_parts v w e = grind arith
 then_equal : (o : Ordering) → ordering_then o Equal ≡ o
 then_equal o = grind arith
 
-pub eq_is : (o : Ordering) → is_eq o ≡ true → o ≡ Equal
+eq_is : (o : Ordering) → is_eq o ≡ true → o ≡ Equal
 eq_is o e = grind arith
 
-pub by_release : (r n : Release) → precedence (release_value r) (release_value n) ≡ numbers_cmp (release_value r) (release_value n)
-by_release r n = by_numbers (release_value r) (release_value n) ∙ then_equal _
+-- without pre-releases, precedence compares only the numbers
+same_pre : (v w : PlainVersion) → is_empty v.pre ≡ true → is_empty w.pre ≡ true → precedence v w ≡ numbers_cmp v w
+same_pre v w e f = by_numbers v w ∙ ap (ordering_then (numbers_cmp v w)) (both v.pre w.pre e f) ∙ then_equal (numbers_cmp v w)
+  where
+    both : (xs ys : List _) → is_empty xs ≡ true → is_empty ys ≡ true → pre_cmp xs ys ≡ Equal
+    both [] [] e f = refl
+    both (x ∷ xs) ys e f = absurd (true≢false (sym e))
+    both [] (y ∷ ys) e f = absurd (true≢false (sym f))
 
-module _ (most : ℕ) (b : PlainVersion) (r : Release) where
-  -- for releases, the first numbers are the first version
-  pub release_first : is_empty b.pre ≡ true → AreFirstNumbers most b (Some r) → IsFirstFrom (IsReleaseWithin most) b (Some (release_value r))
-  release_first none (within, ge, least) =
-      ((within, refl), ge_releases, λ v p l. by_releases v b p.1 none (least v p.0 (numbers_of v p.1 l)))
-    where
-      equal_pre : (v w : PlainVersion) → is_empty v.pre ≡ true → is_empty w.pre ≡ true → pre_cmp v.pre w.pre ≡ Equal
-      equal_pre v w e f = both v.pre w.pre e f
-        where
-          both : (xs ys : List _) → is_empty xs ≡ true → is_empty ys ≡ true → pre_cmp xs ys ≡ Equal
-          both [] [] e f = refl
-          both (x ∷ xs) ys e f = absurd (true≢false (sym e))
-          both [] (y ∷ ys) e f = absurd (true≢false (sym f))
+-- the lowest version of a kind with the first numbers, which are above those of the boundary
+module _ (most : ℕ) (b : PlainVersion) (r : Release) (first : AreFirstNumbers most b (Some r)) where
+  lowest_release : is_empty b.pre ≡ true → IsFirstFrom (IsOfKindWithin true most) b (Some (release_value r))
+  lowest_release none = (
+    (first.0, refl),
+    ap is_ge (same_pre (release_value r) b refl none) ∙ first.1,
+    λ v p l. same_pre v b p.1 none ∙ first.2 v p.0 (sym (same_pre v (release_value r) p.1 refl) ∙ l),
+  )
 
-      same : (v w : PlainVersion) → is_empty v.pre ≡ true → is_empty w.pre ≡ true → precedence v w ≡ numbers_cmp v w
-      same v w e f = by_numbers v w ∙ ap (ordering_then (numbers_cmp v w)) (equal_pre v w e f) ∙ then_equal (numbers_cmp v w)
+  lowest_pre_release : is_eq (numbers_cmp (release_value r) b) ≡ false → IsFirstFrom (IsOfKindWithin false most) b (Some (lowest_place r))
+  lowest_pre_release n = (
+    (first.0, refl),
+    ap is_ge (by_numbers (lowest_place r) b) ∙ above_both (numbers_cmp (release_value r) b) _ first.1 n,
+    λ v p l. by_numbers v b ∙ less_first (numbers_cmp v b) _ (first.2 v p.0 (not_ge _ (against is_ge is_ge v (lowest_place r) refl refl
+        (from_lowest v.pre p.1) ∙ ap is_ge l))),
+  )
 
-      ge_releases : is_ge (precedence (release_value r) b) ≡ true
-      ge_releases = ap is_ge (same (release_value r) b refl none) ∙ ge
-
-      by_releases : (v w : PlainVersion) → is_empty v.pre ≡ true → is_empty w.pre ≡ true → numbers_cmp v w ≡ Less → precedence v w ≡ Less
-      by_releases v w e f l = same v w e f ∙ l
-
-      numbers_of : (v : PlainVersion) → is_empty v.pre ≡ true → precedence v (release_value r) ≡ Less → numbers_cmp v (release_value r) ≡ Less
-      numbers_of v e l = sym (same v (release_value r) e refl) ∙ l
-
-  -- for pre-releases, it is the boundary itself if it has these numbers, or else their lowest
-  -- pre-release
-  pub boundary_first : is_empty b.pre ≡ false → numbers_cmp (release_value r) b ≡ Equal → AreFirstNumbers most b (Some r)
-      → IsFirstFrom (IsPreReleaseWithin most) b (Some b)
-  boundary_first some e (within, _, _) =
-      let same = same_parts (release_value r) b e in (
-        ((subst (λ n. n ≤ most) same.0 within.0, subst (λ n. n ≤ most) same.1 within.1, subst (λ n. n ≤ most) same.2 within.2), some),
+  -- the boundary itself, if it has these numbers
+  at_boundary : (kind : Bool) → is_empty b.pre ≡ kind → numbers_cmp (release_value r) b ≡ Equal → IsFirstFrom (IsOfKindWithin kind most) b (Some b)
+  at_boundary kind of_kind e =
+      let same = same_parts (release_value r) b e in
+      let within = first.0 in (
+        ((subst (λ n. n ≤ most) same.0 within.0, subst (λ n. n ≤ most) same.1 within.1, subst (λ n. n ≤ most) same.2 within.2), of_kind),
         ap is_ge (tied_itself precedence_total b),
         λ v p l. l,
       )
 
-  pub lowest_first : is_eq (numbers_cmp (release_value r) b) ≡ false → AreFirstNumbers most b (Some r)
-      → IsFirstFrom (IsPreReleaseWithin most) b (Some (lowest_place r))
-  lowest_first n (within, ge, least) = (
-    (within, refl),
-    ap is_ge (by_numbers (lowest_place r) b) ∙ above_both (numbers_cmp (release_value r) b) _ ge n,
-    λ v p l. by_numbers v b ∙ less_first (numbers_cmp v b) _ (least v p.0 (not_ge _ (against is_ge is_ge v (lowest_place r) refl refl
-        (from_lowest v.pre p.1) ∙ ap is_ge l))),
-  )
+  pub first_from : (kind : Bool) → is_empty b.pre ≡ kind → IsFirstFrom (IsOfKindWithin kind most) b (Some (first_place kind b r))
+  first_from kind of_kind = at (is_eq (numbers_cmp (release_value r) b)) refl
+    where
+      lowest : (kind : Bool) → is_empty b.pre ≡ kind → is_eq (numbers_cmp (release_value r) b) ≡ false
+          → IsFirstFrom (IsOfKindWithin kind most) b (Some (lowest_of_kind kind r))
+      lowest true none _ = lowest_release none
+      lowest false _ n = lowest_pre_release n
+
+      at : (t : Bool) → is_eq (numbers_cmp (release_value r) b) ≡ t
+          → IsFirstFrom (IsOfKindWithin kind most) b (Some (cond t b (lowest_of_kind kind r)))
+      at true e = at_boundary kind of_kind (eq_is _ e)
+      at false e = lowest kind of_kind e
 
 -- ---- the first version inside some boundaries
 

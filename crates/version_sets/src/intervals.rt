@@ -11,14 +11,12 @@ ghost use Rattle.semver_texts.specs.VersionViews.{identifier_value};
 ghost use Rattle.semver_texts.specs.Digits.{as_kept, identifier_by, identifiers_by};
 ghost use Rattle.version_sets.specs.DigitViews.{comparator_kept, range_kept};
 ghost use Rattle.version_sets.specs.SetRanges.{Kind, interval, intervals, is_lowest, is_same_end};
-ghost use Rattle.version_sets.specs.SetRanges.{is_lowest_pre as lowest_pre};
 ghost use Rattle.semver_versions.specs.ReadVersions.{read_plain};
 ghost use Rattle.version_sets.specs.SetRanges.{npm_range, pre_release_above};
 ghost use Rattle.version_sets.specs.Steps.ShownBounds.{interval_value, shown_value};
 
 use crate::boundary::Boundary;
 use crate::release::{Release, next_numbers};
-use crate::set_ranges::is_lowest_pre;
 use crate::successor::Successor;
 use semver_ranges::{Comparator, Compat, Identifier, Op, Range};
 use semver_texts::grammar::Digits;
@@ -56,10 +54,6 @@ impl Shown<'_> {
 pub(crate) trait Bound: Boundary {
     ghost kind: { Kind };
 
-    /// Returns whether the boundary is at the lowest version of its kind.
-    fn is_lowest(&self) -> bool
-        ensures { result ≡ is_lowest (Self.place self.now) };
-
     /// Returns whether the boundary's version is the only one of its kind that is at or above it
     /// and below `to`, if `to` is given.
     fn is_alone(&self, to: Option<&Self>) -> bool
@@ -80,10 +74,6 @@ impl Bound for Release {
     ghost use Rattle.version_sets.specs.SetRanges.{of_releases};
 
     ghost kind = { of_releases };
-
-    fn is_lowest(&self) -> bool {
-        self.major == 0 && self.minor == 0 && self.patch == 0
-    }
 
     fn is_alone(&self, to: Option<&Release>) -> bool {
         match (to, next_numbers(*self)) {
@@ -112,21 +102,10 @@ impl Bound for ReadVersion {
 
     ghost kind = { of_pre_releases };
 
-    fn is_lowest(&self) -> bool {
-        let version = &self.version;
-        version.major == 0
-            && version.minor == 0
-            && version.patch == 0
-            && has_lowest_pre(&version.pre, self.digits)
-    }
-
     fn is_alone(&self, to: Option<&ReadVersion>) -> bool {
         match to {
             Some(to) => {
-                Release::from_version(&to.version)
-                    .compare(&Release::from_version(&self.version))
-                    .is_eq()
-                    && are_right_above(to, self)
+                to.numbers().compare(&self.numbers()).is_eq() && are_right_above(to, self)
             }
             None => false,
         }
@@ -135,7 +114,7 @@ impl Bound for ReadVersion {
     fn shown<'a>(&'a self, op: Op) -> Shown<'a> {
         Shown {
             op,
-            numbers: Release::from_version(&self.version),
+            numbers: self.numbers(),
             pre: self.version.pre.as_slice(),
             digits: self.digits,
         }
@@ -147,7 +126,7 @@ impl Bound for ReadVersion {
         }
         Shown {
             op: Op::Lt,
-            numbers: Release::from_version(&self.version),
+            numbers: self.numbers(),
             pre: &[],
             digits: Digits::Kept,
         }
@@ -159,25 +138,22 @@ fn begins_next_numbers(boundary: &ReadVersion, below: &ReadVersion) -> bool
     ensures { result ≡ is_same_end (Some (read_plain boundary.now))
         (pre_release_above (read_plain below.now)) }
 {
-    match next_numbers(Release::from_version(&below.version)) {
+    match next_numbers(below.numbers()) {
         Some(next) => {
-            Release::from_version(&boundary.version)
-                .compare(&next)
-                .is_eq()
+            boundary.numbers().compare(&next).is_eq()
                 && !boundary.version.pre.is_empty()
-                && has_lowest_pre(&boundary.version.pre, boundary.digits)
+                && boundary.has_lowest_pre()
         }
         None => false,
     }
 }
 
-/// Returns whether identifiers, read as `digits` says, are none, or only the lowest, `0`.
-#[tactic(auto, using(crate::proofs::DigitLaws::lowest_by))]
-pub(crate) fn has_lowest_pre(identifiers: &[version::Identifier], digits: Digits) -> bool
-    ensures { result ≡ lowest_pre (identifiers_by digits (map identifier_value identifiers.now)) }
+/// Returns whether a boundary is at the lowest version of its kind.
+pub(crate) fn is_lowest<T: Boundary>(boundary: &T) -> bool
+    ensures { result ≡ is_lowest (T.place boundary.now) }
 {
-    let _digits = digits;
-    is_lowest_pre(identifiers)
+    let numbers = boundary.numbers();
+    numbers.major == 0 && numbers.minor == 0 && numbers.patch == 0 && boundary.has_lowest_pre()
 }
 
 /// Returns whether the identifiers of a boundary are another's followed by the number 0.
@@ -247,7 +223,7 @@ fn interval_of<'a, T: Bound>(from: &'a T, to: Option<&'a T>) -> ShownInterval<'a
             first: from.shown(Op::Gte),
             second: None,
         },
-        Some(to) if from.is_lowest() => ShownInterval {
+        Some(to) if is_lowest(from) => ShownInterval {
             first: from.shown_end(to),
             second: None,
         },

@@ -1,20 +1,20 @@
 //! The lowest version of a set.
 
-ghost use Rattle.std.specs.Prelude.{◌≡◌, ◌↔◌, None, Some, [], IfOk, IfErr, IfSome, option_map};
+ghost use Rattle.std.specs.Prelude.{◌≡◌, ◌↔◌, None, Some, [], IfOk, IfErr, IfSome};
+ghost use Rattle.std.specs.Prelude.{false, option_map, true};
 ghost use Rattle.semver_texts.specs.Digits.{plain_kept};
 ghost use Rattle.semver_texts.specs.Versions.{PlainVersion, without_build as unbuilt};
 ghost use Rattle.semver_texts.specs.VersionViews.{version_value};
 ghost use Rattle.version_sets.specs.Releases.{release_value};
 ghost use Rattle.version_sets.specs.VersionSets.{Fits, IsRelease, IsPreRelease};
 ghost use Rattle.version_sets.specs.VersionSets.{IsLowest, IsWithin, HasNone};
-ghost use Rattle.version_sets.specs.Steps.Within.{first_place};
+ghost use Rattle.version_sets.specs.Steps.Within.{first_value};
 ghost use Rattle.version_sets.specs.Steps.Lower.{is_below, lower};
 ghost use Rattle.semver_versions.specs.ReadVersions.{read_plain};
 
-use crate::pre_release::kept_version;
 use crate::release::Release;
 use crate::version_set::VersionSet;
-use crate::within::{FirstPreRelease, first_pre_release, first_release};
+use crate::within::{First, first_inside};
 use semver_versions::read_version::ReadVersion;
 use semver_versions::version::Version;
 use std::alloc::{AllocError, Global};
@@ -44,7 +44,8 @@ impl VersionSet {
         ensures out_of_memory { IfErr result (λ _. (v : PlainVersion)
             × IsLowest Fits self.now v × IsPreRelease v) }
     {
-        lower_one(alloc, self.releases.first(), self.pre_releases.first())
+        let release = First::at(self.releases.first());
+        lower(alloc, release, First::at(self.pre_releases.first()))
     }
 
     // Determined by: law result_laws::sets::one_lowest_within.
@@ -74,8 +75,8 @@ impl VersionSet {
         ensures out_of_memory { IfErr result (λ _. (v : PlainVersion)
             × IsLowest (IsWithin most) self.now v × IsPreRelease v) }
     {
-        let release = first_release(&self.releases, most);
-        lower_within(alloc, release, first_pre_release(&self.pre_releases, most))
+        let release = first_inside(&self.releases, most);
+        lower(alloc, release, first_inside(&self.pre_releases, most))
     }
 
     // Determined by: law result_laws::sets::one_lowest_release.
@@ -101,85 +102,47 @@ impl VersionSet {
 
 /// Returns the lower of a release and a pre-release, or the only one that is given, without build
 /// metadata. It allocates only if the result is the pre-release. `Err` means out of memory.
-pub(crate) fn lower_one(
+pub(crate) fn lower(
     alloc: Global,
-    release: Option<&Release>,
-    pre_release: Option<&ReadVersion>,
+    release: Option<First<'_, Release>>,
+    pre_release: Option<First<'_, ReadVersion>>,
 ) -> Result<Option<Version>, AllocError>
     ensures lowest { IfOk result (λ lowest. option_map version_value lowest
         ≡ option_map (λ v. unbuilt (plain_kept v))
-        (lower (option_map (λ r. release_value r.now) release.entry)
-        (option_map (λ p. read_plain p.now) pre_release.entry))) }
+        (lower (option_map (first_value true release_value) release.entry)
+        (option_map (first_value false read_plain) pre_release.entry))) }
     ensures out_of_memory { IfErr result (λ _. (p : PlainVersion)
-        × (option_map (λ p. read_plain p.now) pre_release.entry ≡ Some p)
-        × (lower (option_map (λ r. release_value r.now) release.entry)
-        (option_map (λ p. read_plain p.now) pre_release.entry) ≡ Some p)) }
+        × (option_map (first_value false read_plain) pre_release.entry ≡ Some p)
+        × (lower (option_map (first_value true release_value) release.entry)
+        (option_map (first_value false read_plain) pre_release.entry) ≡ Some p)) }
 {
     let Some(pre_release) = pre_release else {
-        return Ok(as_version(alloc, release));
-    };
-    if is_below(release, pre_release) {
-        return Ok(as_version(alloc, release));
-    }
-    Ok(Some(kept_version(alloc, pre_release)?))
-}
-
-/// Returns the lower of a release and a pre-release, or the only one that is given, without build
-/// metadata. It allocates only if the result is the pre-release. `Err` means out of memory.
-fn lower_within(
-    alloc: Global,
-    release: Option<Release>,
-    pre_release: Option<FirstPreRelease<'_>>,
-) -> Result<Option<Version>, AllocError>
-    ensures lowest { IfOk result (λ lowest. option_map version_value lowest
-        ≡ option_map (λ v. unbuilt (plain_kept v))
-        (lower (option_map release_value release) (option_map first_place pre_release.entry))) }
-    ensures out_of_memory { IfErr result (λ _. (p : PlainVersion)
-        × (option_map first_place pre_release.entry ≡ Some p)
-        × (lower (option_map release_value release) (option_map first_place pre_release.entry)
-        ≡ Some p)) }
-{
-    let Some(pre_release) = pre_release else {
-        return Ok(as_version(alloc, release.as_ref()));
+        return Ok(as_version(alloc, &release));
     };
     if is_above(&pre_release, &release) {
-        return Ok(as_version(alloc, release.as_ref()));
+        return Ok(as_version(alloc, &release));
     }
     Ok(Some(pre_release.version(alloc)?))
 }
 
 /// Returns whether a pre-release is above a release, if one is given.
-fn is_above(pre_release: &FirstPreRelease<'_>, release: &Option<Release>) -> bool
-    ensures { result
-        ≡ is_below (option_map release_value release.now) (first_place pre_release.now) }
+fn is_above(pre_release: &First<'_, ReadVersion>, release: &Option<First<'_, Release>>) -> bool
+    ensures { result ≡ is_below (option_map (first_value true release_value) release.now)
+        (first_value false read_plain pre_release.now) }
 {
     match release {
-        Some(release) => pre_release.is_above(release),
+        Some(release) => pre_release.is_above(&release.numbers),
         None => false,
     }
 }
 
 /// Returns a release as a version, if one is given.
-fn as_version(alloc: Global, release: Option<&Release>) -> Option<Version>
+fn as_version(alloc: Global, release: &Option<First<'_, Release>>) -> Option<Version>
     ensures { option_map version_value result
-        ≡ option_map unbuilt (option_map (λ r. release_value r.now) release.entry) }
+        ≡ option_map unbuilt (option_map (first_value true release_value) release.now) }
 {
     match release {
-        Some(release) => Some(release.version(alloc)),
+        Some(release) => Some(release.numbers.version(alloc)),
         None => None,
-    }
-}
-
-/// Returns whether a release is given and is below a version by precedence. It is enough to compare
-/// the numbers, since no version is above the release with the same numbers.
-fn is_below(release: Option<&Release>, version: &ReadVersion) -> bool
-    ensures { result ≡ is_below (option_map (λ r. release_value r.now) release.entry)
-        (read_plain version.now) }
-{
-    match release {
-        Some(release) => release
-            .cmp(&Release::from_version(&version.version))
-            .is_lt(),
-        None => false,
     }
 }

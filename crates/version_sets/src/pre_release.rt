@@ -6,6 +6,8 @@ ghost use Rattle.semver_texts.specs.VersionViews.{identifier_value, version_valu
 ghost use Rattle.semver_versions.specs.ReadVersions.{read_plain};
 
 use crate::boundary::Boundary;
+use crate::release::Release;
+use crate::set_ranges::is_lowest_pre;
 use semver_texts::grammar::Digits;
 use semver_versions::read_version::ReadVersion;
 use semver_versions::version::{Identifier, Version};
@@ -14,9 +16,12 @@ use std::cmp::Ordering;
 
 /// A boundary of pre-releases: a version, and how its numeric identifiers are read.
 impl Boundary for ReadVersion {
+    ghost use Rattle.std.specs.Prelude.{false};
     ghost use Rattle.semver_versions.specs.ReadVersions.{read_plain};
 
     ghost place = { read_plain };
+
+    ghost of_releases = { false };
 
     fn compare(&self, other: &ReadVersion) -> Ordering {
         self.compare_read(other)
@@ -25,6 +30,15 @@ impl Boundary for ReadVersion {
     /// Copies the version without its build metadata.
     fn at_same_place(&self, alloc: Global) -> Result<ReadVersion, AllocError> {
         self.without_build(alloc)
+    }
+
+    fn numbers(&self) -> Release {
+        Release::from_version(&self.version)
+    }
+
+    #[tactic(auto, using(crate::proofs::DigitLaws::lowest_by))]
+    fn has_lowest_pre(&self) -> bool {
+        is_lowest_pre(&self.version.pre)
     }
 }
 

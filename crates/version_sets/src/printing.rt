@@ -5,7 +5,7 @@ ghost use Rattle.std.specs.Fmt.{WritesOnOk};
 ghost use Rattle.version_sets.specs.SetRanges.{intervals, is_whole, npm_set, ranges_text};
 ghost use Rattle.version_sets.specs.Steps.ShownBounds.{others_text};
 
-use crate::intervals::{Bound, Shown, ShownInterval, first_interval};
+use crate::intervals::{Bound, Shown, ShownInterval, first_interval, is_lowest};
 use crate::version_set::VersionSet;
 use semver_texts::printing::write_part;
 use std::fmt;
@@ -113,7 +113,7 @@ fn is_whole<T: Bound>(boundaries: &[T]) -> bool
 {
     match boundaries {
         [only, others @ ..] if others.is_empty() => {
-            only.is_lowest() && !only.is_alone(others.first())
+            is_lowest(only) && !only.is_alone(others.first())
         }
         _ => false,
     }

@@ -8,9 +8,10 @@ ghost use Rattle.version_sets.specs.Comparisons.{LowestIsPreRelease, TellsLowest
 ghost use Rattle.version_sets.specs.VersionSets.{IsIn, same_set};
 
 use crate::boundaries::are_same;
-use crate::lowest::lower_one;
+use crate::lowest::lower;
 use crate::set_operations::{Combination, OperationError};
 use crate::version_set::VersionSet;
+use crate::within::First;
 use semver_versions::version::Version;
 use std::alloc::{AllocError, Global};
 
@@ -102,7 +103,7 @@ impl VersionSet {
     {
         let release = how.first(&self.releases, &other.releases);
         let pre_release = how.first(&self.pre_releases, &other.pre_releases);
-        lower_one(alloc, release, pre_release)
+        lower(alloc, First::at(release), First::at(pre_release))
     }
 }
 

@@ -1,19 +1,19 @@
 //! The first version of a kind, with numbers within a limit, that is inside some boundaries.
 
 ghost use Rattle.std.specs.Prelude.{◌≡◌, [], false, map, option_map, IfOk};
-ghost use Rattle.std.specs.Ordering.{is_lt};
+ghost use Rattle.std.specs.Ordering.{is_eq, is_lt};
 ghost use Rattle.semver_texts.specs.Digits.{plain_kept};
 ghost use Rattle.semver_texts.specs.Precedence.{precedence};
 ghost use Rattle.semver_texts.specs.Texts.{is_empty};
 ghost use Rattle.semver_texts.specs.VersionViews.{version_value};
 ghost use Rattle.semver_versions.specs.ReadVersions.{read_plain};
 ghost use Rattle.version_sets.specs.Releases.{release_value};
-ghost use Rattle.version_sets.specs.VersionSets.{AreBoundaries, IsRelease, IsPreRelease};
+ghost use Rattle.version_sets.specs.VersionSets.{AreBoundaries};
+ghost use Rattle.version_sets.specs.Steps.Bounds.{numbers_cmp};
 ghost use Rattle.version_sets.specs.Steps.Within.{AreFirstNumbers, IsFirstFrom, IsFirstInside};
-ghost use Rattle.version_sets.specs.Steps.Within.{IsReleaseWithin, IsPreReleaseWithin, first_place};
+ghost use Rattle.version_sets.specs.Steps.Within.{IsOfKind, IsOfKindWithin, first_value};
 
 use crate::boundary::Boundary;
-use crate::intervals::has_lowest_pre;
 use crate::pre_release::kept_version;
 use crate::release::Release;
 use semver_versions::read_version::ReadVersion;
@@ -21,67 +21,86 @@ use semver_versions::version::{Identifier, Version};
 use std::alloc::{AllocError, Global};
 use std::cmp::Ordering;
 
-/// The first pre-release inside some boundaries.
-#[derive(Clone, Copy)]
-pub(crate) enum FirstPreRelease<'a> {
-    /// The one at this boundary.
-    AtBoundary(&'a ReadVersion),
-    /// The lowest one of these numbers.
-    Lowest(Release),
+/// The first version of a kind at or above a boundary with numbers within a limit. It is the
+/// boundary's if its numbers are these, and otherwise the lowest version with these numbers.
+#[derive(Drop)]
+pub(crate) struct First<'a, T> {
+    pub(crate) boundary: &'a T,
+    pub(crate) numbers: Release,
 }
 
-impl FirstPreRelease<'_> {
-    /// Returns whether it is below a boundary of pre-releases.
-    fn is_below(&self, end: &ReadVersion) -> bool
-        requires { is_empty (read_plain end.now).pre ≡ false }
-        ensures { result ≡ is_lt (precedence (first_place self.now) (read_plain end.now)) }
+impl<'a, T: Boundary> First<'a, T> {
+    /// Returns the version of a boundary, if one is given.
+    pub(crate) fn at(boundary: Option<&'a T>) -> Option<First<'a, T>>
+        ensures { option_map (first_value T.of_releases T.place) result
+            ≡ option_map (λ b. T.place b.now) boundary.entry }
     {
-        match self {
-            FirstPreRelease::AtBoundary(version) => version.compare_read(end).is_lt(),
-            FirstPreRelease::Lowest(numbers) => is_lowest_below(numbers, end),
-        }
+        let boundary = boundary?;
+        let numbers = boundary.numbers();
+        Some(First { boundary, numbers })
     }
 
+    /// Returns the first version at or above a boundary whose numbers are at most `most`.
+    fn from_boundary(boundary: &'a T, most: u64) -> Option<First<'a, T>>
+        requires { is_empty (T.place boundary.now).pre ≡ T.of_releases }
+        ensures { IsFirstFrom (IsOfKindWithin T.of_releases most) (T.place boundary.entry.now)
+            (option_map (first_value T.of_releases T.place) result) }
+    {
+        let numbers = boundary.numbers().within(most)?;
+        Some(First { boundary, numbers })
+    }
+
+    /// Returns whether it is the version of its boundary.
+    fn is_at_boundary(&self) -> bool
+        ensures { result ≡ is_eq (numbers_cmp (release_value self.now.numbers)
+            (T.place self.now.boundary.now)) }
+    {
+        self.numbers.compare(&self.boundary.numbers()).is_eq()
+    }
+
+    /// Returns whether it is below another boundary.
+    fn is_below(&self, end: &T) -> bool
+        requires { is_empty (T.place end.now).pre ≡ T.of_releases }
+        ensures { result ≡ is_lt (precedence (first_value T.of_releases T.place self.now)
+            (T.place end.now)) }
+    {
+        if self.is_at_boundary() {
+            return self.boundary.compare(end).is_lt();
+        }
+        match self.numbers.compare(&end.numbers()) {
+            Ordering::Less => true,
+            Ordering::Equal => !end.has_lowest_pre(),
+            Ordering::Greater => false,
+        }
+    }
+}
+
+impl First<'_, ReadVersion> {
     /// Returns whether it is above a release.
     pub(crate) fn is_above(&self, release: &Release) -> bool
-        ensures { result ≡ is_lt (precedence (release_value release.now) (first_place self.now)) }
+        ensures { result ≡ is_lt (precedence (release_value release.now)
+            (first_value false read_plain self.now)) }
     {
-        match self {
-            FirstPreRelease::AtBoundary(read) => release
-                .compare(&Release::from_version(&read.version))
-                .is_lt(),
-            FirstPreRelease::Lowest(numbers) => release.compare(numbers).is_lt(),
-        }
+        release.compare(&self.numbers).is_lt()
     }
 
     /// Returns it as a `Version` keeps it, without build metadata. `Err` means out of memory.
     pub(crate) fn version(&self, alloc: Global) -> Result<Version, AllocError>
-        ensures { IfOk result (λ version. version_value version
-            ≡ record { plain = plain_kept (first_place self.now); build = [] }) }
+        ensures { IfOk result (λ version. version_value version ≡ record {
+          plain = plain_kept (first_value false read_plain self.now);
+          build = [];
+        }) }
     {
-        match self {
-            FirstPreRelease::AtBoundary(read) => kept_version(alloc, read),
-            FirstPreRelease::Lowest(numbers) => Ok(Version {
-                major: numbers.major,
-                minor: numbers.minor,
-                patch: numbers.patch,
-                pre: vec![in alloc; Identifier::Numeric(0)]?,
-                build: Vec::new(alloc),
-            }),
+        if self.is_at_boundary() {
+            return kept_version(alloc, self.boundary);
         }
-    }
-}
-
-/// Returns whether the lowest pre-release of these numbers is below a boundary of pre-releases.
-fn is_lowest_below(numbers: &Release, end: &ReadVersion) -> bool
-    requires { is_empty (read_plain end.now).pre ≡ false }
-    ensures { result
-        ≡ is_lt (precedence (first_place (FirstPreRelease.Lowest numbers.now)) (read_plain end.now)) }
-{
-    match numbers.compare(&Release::from_version(&end.version)) {
-        Ordering::Less => true,
-        Ordering::Equal => !has_lowest_pre(&end.version.pre, end.digits),
-        Ordering::Greater => false,
+        Ok(Version {
+            major: self.numbers.major,
+            minor: self.numbers.minor,
+            patch: self.numbers.patch,
+            pre: vec![in alloc; Identifier::Numeric(0)]?,
+            build: Vec::new(alloc),
+        })
     }
 }
 
@@ -117,57 +136,18 @@ impl Release {
     }
 }
 
-/// Returns the first release inside the boundaries whose numbers are at most `most`.
-pub(crate) fn first_release(boundaries: &[Release], most: u64) -> Option<Release>
-    requires { AreBoundaries IsRelease (map release_value boundaries.now) }
-    ensures { IsFirstInside (IsReleaseWithin most) (map release_value boundaries.now)
-        (option_map release_value result) }
+/// Returns the first version inside the boundaries whose numbers are at most `most`.
+pub(crate) fn first_inside<T: Boundary>(boundaries: &[T], most: u64) -> Option<First<'_, T>>
+    requires { AreBoundaries (IsOfKind T.of_releases) (map T.place boundaries.now) }
+    ensures { IsFirstInside (IsOfKindWithin T.of_releases most) (map T.place boundaries.now)
+        (option_map (first_value T.of_releases T.place) result) }
 {
     let mut rest = boundaries;
     loop {
         let Some((begin, others)) = rest.split_first() else {
             return None;
         };
-        let first = begin.within(most)?;
-        let Some((end, after)) = others.split_first() else {
-            return Some(first);
-        };
-        if first.is_below(end) {
-            return Some(first);
-        }
-        rest = after;
-    }
-}
-
-/// Returns the first pre-release at or above a boundary whose numbers are at most `most`.
-fn first_from(begin: &ReadVersion, most: u64) -> Option<FirstPreRelease<'_>>
-    requires { is_empty (read_plain begin.now).pre ≡ false }
-    ensures { IsFirstFrom (IsPreReleaseWithin most) (read_plain begin.now)
-        (option_map first_place result) }
-{
-    let numbers = Release::from_version(&begin.version);
-    let first = numbers.within(most)?;
-    if first.compare(&numbers).is_eq() {
-        return Some(FirstPreRelease::AtBoundary(begin));
-    }
-    Some(FirstPreRelease::Lowest(first))
-}
-
-/// Returns the first pre-release inside the boundaries whose numbers are at most `most`.
-pub(crate) fn first_pre_release(
-    boundaries: &[ReadVersion],
-    most: u64,
-) -> Option<FirstPreRelease<'_>>
-    requires { AreBoundaries IsPreRelease (map read_plain boundaries.now) }
-    ensures { IsFirstInside (IsPreReleaseWithin most) (map read_plain boundaries.now)
-        (option_map first_place result) }
-{
-    let mut rest = boundaries;
-    loop {
-        let Some((begin, others)) = rest.split_first() else {
-            return None;
-        };
-        let first = first_from(begin, most)?;
+        let first = First::from_boundary(begin, most)?;
         let Some((end, after)) = others.split_first() else {
             return Some(first);
         };

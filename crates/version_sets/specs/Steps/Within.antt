@@ -1,30 +1,40 @@
 -- A means of proof: the first version of a kind, with numbers within a limit, that is at or above a
 -- boundary, and the first that is inside some boundaries.
-use Rattle.std.specs.Prelude.{◌≡◌, ◌≢◌, ℕ, true, false, Option, Some, None, List}
-use Rattle.std.specs.Ordering.{is_ge}
+use Rattle.std.specs.Prelude.{◌≡◌, ◌≢◌, ℕ, Bool, true, false, Option, Some, None, List}
+use Rattle.std.specs.Prelude.{if◌then◌else◌}
+use Rattle.std.specs.Ordering.{is_eq, is_ge}
 use Rattle.std.specs.declared.cmp.Ordering.TheVariants.{Less}
 use Rattle.semver_texts.specs.Precedence.{precedence}
 use Rattle.semver_texts.specs.Texts.{is_empty}
 use Rattle.semver_texts.specs.Versions.{PlainVersion}
-use Rattle.semver_versions.specs.ReadVersions.{read_plain}
 use Rattle.version_sets.specs.Boundaries.{is_inside}
 use Rattle.version_sets.specs.Releases.{release_value}
-use Rattle.version_sets.specs.VersionSets.{IsWithin}
+use Rattle.version_sets.specs.VersionSets.{Fits, IsWithin}
 use Rattle.version_sets.specs.Steps.Bounds.{lowest_place, numbers_cmp}
 use Rattle.version_sets.specs.declared.release.Release.{Release}
-use Rattle.version_sets.specs.declared.within.FirstPreRelease.{FirstPreRelease}
-use Rattle.version_sets.specs.declared.within.FirstPreRelease.TheVariants.{AtBoundary, Lowest}
+use Rattle.version_sets.specs.declared.within.First.{First}
 
-abbrev pub IsReleaseWithin : ℕ → PlainVersion → Type 0
-IsReleaseWithin most v = IsWithin most v × (is_empty v.pre ≡ true)
+-- the versions of a kind: the releases, or the pre-releases
+abbrev pub IsOfKind : Bool → PlainVersion → Type 0
+IsOfKind of_releases v = Fits v × (is_empty v.pre ≡ of_releases)
 
-abbrev pub IsPreReleaseWithin : ℕ → PlainVersion → Type 0
-IsPreReleaseWithin most v = IsWithin most v × (is_empty v.pre ≡ false)
+abbrev pub IsOfKindWithin : Bool → ℕ → PlainVersion → Type 0
+IsOfKindWithin of_releases most v = IsWithin most v × (is_empty v.pre ≡ of_releases)
 
--- the version of a first pre-release
-abbrev pub first_place : FirstPreRelease → PlainVersion
-first_place (AtBoundary version) = read_plain version.now
-first_place (Lowest numbers) = lowest_place numbers
+-- the lowest version of a kind with the numbers of a release
+abbrev pub lowest_of_kind : Bool → Release → PlainVersion
+lowest_of_kind true r = release_value r
+lowest_of_kind false r = lowest_place r
+
+-- a boundary if it has some numbers, and otherwise the lowest version of its kind with these
+abbrev pub first_place : Bool → PlainVersion → Release → PlainVersion
+first_place of_releases b r =
+    if is_eq (numbers_cmp (release_value r) b) then b else lowest_of_kind of_releases r
+
+-- the version of a `First`
+abbrev pub first_value : Bool → {T : Type 0} → (T → PlainVersion) → First T → PlainVersion
+first_value of_releases place first =
+    first_place of_releases (place first.boundary.now) first.numbers
 
 -- the lowest numbers within the limit that are at or above those of b, if there are any
 abbrev pub AreFirstNumbers : ℕ → PlainVersion → Option Release → Type 0

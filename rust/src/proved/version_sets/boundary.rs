@@ -14,6 +14,12 @@ pub(crate) trait Boundary: Sized {
 
     /// Returns a boundary at the same position. `Err` means out of memory.
     fn at_same_place(&self) -> Result<Self, AllocError>;
+
+    /// Returns the three numbers of its version.
+    fn numbers(&self) -> Release;
+
+    /// Returns whether its version has no pre-release, or only the lowest, `0`.
+    fn has_lowest_pre(&self) -> bool;
 }
 
 impl Boundary for Release {
@@ -24,5 +30,13 @@ impl Boundary for Release {
     /// Copies the numbers. It does not allocate.
     fn at_same_place(&self) -> Result<Release, AllocError> {
         Ok(*self)
+    }
+
+    fn numbers(&self) -> Release {
+        *self
+    }
+
+    fn has_lowest_pre(&self) -> bool {
+        true
     }
 }

@@ -4,7 +4,6 @@
 use crate::rattle_std::prelude::*;
 use crate::proved::version_sets::boundary::Boundary;
 use crate::proved::version_sets::release::{Release, next_numbers};
-use crate::proved::version_sets::set_ranges::is_lowest_pre;
 use crate::proved::version_sets::successor::Successor;
 use crate::proved::semver_ranges::{Comparator, Compat, Identifier, Op, Range};
 use crate::proved::semver_texts::grammar::Digits;
@@ -36,9 +35,6 @@ impl Shown<'_> {
 
 /// A boundary as a bound of an interval.
 pub(crate) trait Bound: Boundary {
-    /// Returns whether the boundary is at the lowest version of its kind.
-    fn is_lowest(&self) -> bool;
-
     /// Returns whether the boundary's version is the only one of its kind that is at or above it
     /// and below `to`, if `to` is given.
     fn is_alone(&self, to: Option<&Self>) -> bool;
@@ -51,10 +47,6 @@ pub(crate) trait Bound: Boundary {
 }
 
 impl Bound for Release {
-    fn is_lowest(&self) -> bool {
-        self.major == 0 && self.minor == 0 && self.patch == 0
-    }
-
     fn is_alone(&self, to: Option<&Release>) -> bool {
         match (to, next_numbers(*self)) {
             (Some(to), Some(next)) => to.compare(&next).is_eq(),
@@ -78,21 +70,10 @@ impl Bound for Release {
 }
 
 impl Bound for ReadVersion {
-    fn is_lowest(&self) -> bool {
-        let version = &self.version;
-        version.major == 0
-            && version.minor == 0
-            && version.patch == 0
-            && has_lowest_pre(&version.pre, self.digits)
-    }
-
     fn is_alone(&self, to: Option<&ReadVersion>) -> bool {
         match to {
             Some(to) => {
-                Release::from_version(&to.version)
-                    .compare(&Release::from_version(&self.version))
-                    .is_eq()
-                    && are_right_above(to, self)
+                to.numbers().compare(&self.numbers()).is_eq() && are_right_above(to, self)
             }
             None => false,
         }
@@ -101,7 +82,7 @@ impl Bound for ReadVersion {
     fn shown<'a>(&'a self, op: Op) -> Shown<'a> {
         Shown {
             op,
-            numbers: Release::from_version(&self.version),
+            numbers: self.numbers(),
             pre: self.version.pre.as_slice(),
             digits: self.digits,
         }
@@ -113,7 +94,7 @@ impl Bound for ReadVersion {
         }
         Shown {
             op: Op::Lt,
-            numbers: Release::from_version(&self.version),
+            numbers: self.numbers(),
             pre: &[],
             digits: Digits::Kept,
         }
@@ -122,22 +103,20 @@ impl Bound for ReadVersion {
 
 /// Returns whether a boundary is at the lowest pre-release of the numbers right above another's.
 fn begins_next_numbers(boundary: &ReadVersion, below: &ReadVersion) -> bool {
-    match next_numbers(Release::from_version(&below.version)) {
+    match next_numbers(below.numbers()) {
         Some(next) => {
-            Release::from_version(&boundary.version)
-                .compare(&next)
-                .is_eq()
+            boundary.numbers().compare(&next).is_eq()
                 && !boundary.version.pre.is_empty()
-                && has_lowest_pre(&boundary.version.pre, boundary.digits)
+                && boundary.has_lowest_pre()
         }
         None => false,
     }
 }
 
-/// Returns whether identifiers, read as `digits` says, are none, or only the lowest, `0`.
-pub(crate) fn has_lowest_pre(identifiers: &[version::Identifier], digits: Digits) -> bool {
-    let _digits = digits;
-    is_lowest_pre(identifiers)
+/// Returns whether a boundary is at the lowest version of its kind.
+pub(crate) fn is_lowest<T: Boundary>(boundary: &T) -> bool {
+    let numbers = boundary.numbers();
+    numbers.major == 0 && numbers.minor == 0 && numbers.patch == 0 && boundary.has_lowest_pre()
 }
 
 /// Returns whether the identifiers of a boundary are another's followed by the number 0.
@@ -192,7 +171,7 @@ fn interval_of<'a, T: Bound>(from: &'a T, to: Option<&'a T>) -> ShownInterval<'a
             first: from.shown(Op::Gte),
             second: None,
         },
-        Some(to) if from.is_lowest() => ShownInterval {
+        Some(to) if is_lowest(from) => ShownInterval {
             first: from.shown_end(to),
             second: None,
         },

@@ -3,6 +3,8 @@
 
 use crate::rattle_std::prelude::*;
 use crate::proved::version_sets::boundary::Boundary;
+use crate::proved::version_sets::release::Release;
+use crate::proved::version_sets::set_ranges::is_lowest_pre;
 use crate::proved::semver_texts::grammar::Digits;
 use crate::proved::semver_versions::read_version::ReadVersion;
 use crate::proved::semver_versions::version::{Identifier, Version};
@@ -18,6 +20,14 @@ impl Boundary for ReadVersion {
     /// Copies the version without its build metadata.
     fn at_same_place(&self) -> Result<ReadVersion, AllocError> {
         self.without_build()
+    }
+
+    fn numbers(&self) -> Release {
+        Release::from_version(&self.version)
+    }
+
+    fn has_lowest_pre(&self) -> bool {
+        is_lowest_pre(&self.version.pre)
     }
 }
 

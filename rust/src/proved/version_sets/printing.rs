@@ -2,7 +2,7 @@
 //! Writes a set as a string, directly from its boundaries.
 
 use crate::rattle_std::prelude::*;
-use crate::proved::version_sets::intervals::{Bound, Shown, ShownInterval, first_interval};
+use crate::proved::version_sets::intervals::{Bound, Shown, ShownInterval, first_interval, is_lowest};
 use crate::proved::version_sets::version_set::VersionSet;
 use crate::proved::semver_texts::printing::write_part;
 use crate::rattle_std::fmt;
@@ -83,7 +83,7 @@ fn write_others<T: Bound>(f: &mut fmt::Formatter<'_>, boundaries: &[T]) -> fmt::
 fn is_whole<T: Bound>(boundaries: &[T]) -> bool {
     match boundaries {
         [only, others @ ..] if others.is_empty() => {
-            only.is_lowest() && !only.is_alone(others.first())
+            is_lowest(only) && !only.is_alone(others.first())
         }
         _ => false,
     }

@@ -4,9 +4,10 @@
 
 use crate::rattle_std::prelude::*;
 use crate::proved::version_sets::boundaries::are_same;
-use crate::proved::version_sets::lowest::lower_one;
+use crate::proved::version_sets::lowest::lower;
 use crate::proved::version_sets::set_operations::{Combination, OperationError};
 use crate::proved::version_sets::version_set::VersionSet;
+use crate::proved::version_sets::within::First;
 use crate::proved::semver_versions::version::Version;
 use crate::rattle_std::AllocError;
 
@@ -76,7 +77,7 @@ impl VersionSet {
     ) -> Result<Option<Version>, AllocError> {
         let release = how.first(&self.releases, &other.releases);
         let pre_release = how.first(&self.pre_releases, &other.pre_releases);
-        lower_one(release, pre_release)
+        lower(First::at(release), First::at(pre_release))
     }
 }
 

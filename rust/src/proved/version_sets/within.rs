@@ -3,7 +3,6 @@
 
 use crate::rattle_std::prelude::*;
 use crate::proved::version_sets::boundary::Boundary;
-use crate::proved::version_sets::intervals::has_lowest_pre;
 use crate::proved::version_sets::pre_release::kept_version;
 use crate::proved::version_sets::release::Release;
 use crate::proved::semver_versions::read_version::ReadVersion;
@@ -11,55 +10,63 @@ use crate::proved::semver_versions::version::{Identifier, Version};
 use crate::rattle_std::AllocError;
 use crate::rattle_std::cmp::Ordering;
 
-/// The first pre-release inside some boundaries.
-#[derive(Clone, Copy)]
-pub(crate) enum FirstPreRelease<'a> {
-    /// The one at this boundary.
-    AtBoundary(&'a ReadVersion),
-    /// The lowest one of these numbers.
-    Lowest(Release),
+/// The first version of a kind at or above a boundary with numbers within a limit. It is the
+/// boundary's if its numbers are these, and otherwise the lowest version with these numbers.
+pub(crate) struct First<'a, T> {
+    pub(crate) boundary: &'a T,
+    pub(crate) numbers: Release,
 }
 
-impl FirstPreRelease<'_> {
-    /// Returns whether it is below a boundary of pre-releases.
-    fn is_below(&self, end: &ReadVersion) -> bool {
-        match self {
-            FirstPreRelease::AtBoundary(version) => version.compare_read(end).is_lt(),
-            FirstPreRelease::Lowest(numbers) => is_lowest_below(numbers, end),
-        }
+impl<'a, T: Boundary> First<'a, T> {
+    /// Returns the version of a boundary, if one is given.
+    pub(crate) fn at(boundary: Option<&'a T>) -> Option<First<'a, T>> {
+        let boundary = boundary?;
+        let numbers = boundary.numbers();
+        Some(First { boundary, numbers })
     }
 
+    /// Returns the first version at or above a boundary whose numbers are at most `most`.
+    fn from_boundary(boundary: &'a T, most: u64) -> Option<First<'a, T>> {
+        let numbers = boundary.numbers().within(most)?;
+        Some(First { boundary, numbers })
+    }
+
+    /// Returns whether it is the version of its boundary.
+    fn is_at_boundary(&self) -> bool {
+        self.numbers.compare(&self.boundary.numbers()).is_eq()
+    }
+
+    /// Returns whether it is below another boundary.
+    fn is_below(&self, end: &T) -> bool {
+        if self.is_at_boundary() {
+            return self.boundary.compare(end).is_lt();
+        }
+        match self.numbers.compare(&end.numbers()) {
+            Ordering::Less => true,
+            Ordering::Equal => !end.has_lowest_pre(),
+            Ordering::Greater => false,
+        }
+    }
+}
+
+impl First<'_, ReadVersion> {
     /// Returns whether it is above a release.
     pub(crate) fn is_above(&self, release: &Release) -> bool {
-        match self {
-            FirstPreRelease::AtBoundary(read) => release
-                .compare(&Release::from_version(&read.version))
-                .is_lt(),
-            FirstPreRelease::Lowest(numbers) => release.compare(numbers).is_lt(),
-        }
+        release.compare(&self.numbers).is_lt()
     }
 
     /// Returns it as a `Version` keeps it, without build metadata. `Err` means out of memory.
     pub(crate) fn version(&self) -> Result<Version, AllocError> {
-        match self {
-            FirstPreRelease::AtBoundary(read) => kept_version(read),
-            FirstPreRelease::Lowest(numbers) => Ok(Version {
-                major: numbers.major,
-                minor: numbers.minor,
-                patch: numbers.patch,
-                pre: crate::rattle_std::fallible_vec![Identifier::Numeric(0)]?,
-                build: Vec::new(),
-            }),
+        if self.is_at_boundary() {
+            return kept_version(self.boundary);
         }
-    }
-}
-
-/// Returns whether the lowest pre-release of these numbers is below a boundary of pre-releases.
-fn is_lowest_below(numbers: &Release, end: &ReadVersion) -> bool {
-    match numbers.compare(&Release::from_version(&end.version)) {
-        Ordering::Less => true,
-        Ordering::Equal => !has_lowest_pre(&end.version.pre, end.digits),
-        Ordering::Greater => false,
+        Ok(Version {
+            major: self.numbers.major,
+            minor: self.numbers.minor,
+            patch: self.numbers.patch,
+            pre: crate::rattle_std::fallible_vec![Identifier::Numeric(0)]?,
+            build: Vec::new(),
+        })
     }
 }
 
@@ -93,45 +100,14 @@ impl Release {
     }
 }
 
-/// Returns the first release inside the boundaries whose numbers are at most `most`.
-pub(crate) fn first_release(boundaries: &[Release], most: u64) -> Option<Release> {
+/// Returns the first version inside the boundaries whose numbers are at most `most`.
+pub(crate) fn first_inside<T: Boundary>(boundaries: &[T], most: u64) -> Option<First<'_, T>> {
     let mut rest = boundaries;
     loop {
         let Some((begin, others)) = rest.split_first() else {
             return None;
         };
-        let first = begin.within(most)?;
-        let Some((end, after)) = others.split_first() else {
-            return Some(first);
-        };
-        if first.is_below(end) {
-            return Some(first);
-        }
-        rest = after;
-    }
-}
-
-/// Returns the first pre-release at or above a boundary whose numbers are at most `most`.
-fn first_from(begin: &ReadVersion, most: u64) -> Option<FirstPreRelease<'_>> {
-    let numbers = Release::from_version(&begin.version);
-    let first = numbers.within(most)?;
-    if first.compare(&numbers).is_eq() {
-        return Some(FirstPreRelease::AtBoundary(begin));
-    }
-    Some(FirstPreRelease::Lowest(first))
-}
-
-/// Returns the first pre-release inside the boundaries whose numbers are at most `most`.
-pub(crate) fn first_pre_release(
-    boundaries: &[ReadVersion],
-    most: u64,
-) -> Option<FirstPreRelease<'_>> {
-    let mut rest = boundaries;
-    loop {
-        let Some((begin, others)) = rest.split_first() else {
-            return None;
-        };
-        let first = first_from(begin, most)?;
+        let first = First::from_boundary(begin, most)?;
         let Some((end, after)) = others.split_first() else {
             return Some(first);
         };
