@@ -14,14 +14,13 @@ use command_line::Program;
 use copying::{Copying, Error};
 use report::report_invalid;
 use semver_parser::RangeError;
-use semver_parser::version::Digits;
 use std::alloc::Global;
 use std::io::ErrorKind;
 use std::process::ExitCode;
 use tool_ranges::dialect::Dialect;
-use tool_ranges::meaning::{self, Meaning};
+use tool_ranges::meaning;
 use tool_ranges::version_range::VersionRange;
-use version_sets::{Combination, PreReleases, VersionSet};
+use version_sets::{Combination, OperationError, VersionSet};
 
 /// The program.
 const PROGRAM: Program = Program {
@@ -115,8 +114,7 @@ fn filtered(rt: &HostRuntime, filtering: &Filtering) -> Result<bool, Error> {
 fn versions(alloc: Global, filtering: &Filtering) -> Result<VersionSet, RangeError> {
     let mut versions = meaning::read(alloc, filtering.meaning, filtering.range.as_str())?;
     if filtering.options.is_inverted {
-        let all = all_versions(alloc, versions.digits())?;
-        let Ok(others) = all.combined(alloc, Combination::Difference, &versions) else {
+        let Ok(others) = others(alloc, &versions) else {
             return Err(RangeError::OutOfMemory);
         };
         versions = others;
@@ -128,18 +126,10 @@ fn versions(alloc: Global, filtering: &Filtering) -> Result<VersionSet, RangeErr
     })
 }
 
-/// Returns all versions, with numeric identifiers read as `digits` says. No version is below
-/// 0.0.0-0.
-fn all_versions(alloc: Global, digits: Digits) -> Result<VersionSet, RangeError> {
-    let dialect = match digits {
-        Digits::Kept => Dialect::CrateNpm,
-        Digits::AnySize => Dialect::Npm,
-    };
-    let meaning = Meaning {
-        dialect,
-        pre_releases: PreReleases::Included,
-    };
-    meaning::read(alloc, meaning, ">=0.0.0-0")
+/// Returns all versions that aren't in a set.
+fn others(alloc: Global, versions: &VersionSet) -> Result<VersionSet, OperationError> {
+    let all = VersionSet::all(alloc, versions.digits())?;
+    all.combined(alloc, Combination::Difference, versions)
 }
 
 /// Reports an error on standard error, and returns status 2.

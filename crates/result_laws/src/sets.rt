@@ -114,6 +114,22 @@ pub fn one_empty(alloc: Global, digits: Digits) -> (VersionSet, VersionSet)
     (first, second)
 }
 
+/// `VersionSet::all` has only one permitted result.
+pub fn one_all(
+    alloc: Global,
+    digits: Digits,
+) -> (
+    Result<VersionSet, AllocError>,
+    Result<VersionSet, AllocError>,
+)
+    ensures one { AreOne alloc_error itself result.0 result.1 }
+{
+    let first = VersionSet::all(alloc, digits);
+    let second = VersionSet::all(alloc, digits);
+    results_are_alike(&first, &second);
+    (first, second)
+}
+
 /// `VersionSet::only_releases` has only one permitted result. It is called for two equal sets,
 /// since it consumes its argument.
 pub fn one_only_releases(

@@ -113,7 +113,8 @@ pub fn add_sets(alloc: Global, bytes: &[u8], sum: &mut Checksum) -> io::Result<(
 fn add_set(alloc: Global, set: &VersionSet, sum: &mut Checksum) -> io::Result<()> {
     let releases = set.release_ranges(alloc)?;
     let pre_releases = set.pre_release_ranges(alloc)?;
-    write!(sum, "{releases};{pre_releases};")?;
+    let all = VersionSet::all(alloc, set.digits())?;
+    write!(sum, "{releases};{pre_releases};{all};")?;
     add_version(&set.lowest(alloc)?, sum)?;
     sum.add(u64::from(set.is_empty()));
     if let Some(release) = set.lowest_release() {

@@ -1,6 +1,6 @@
 //! Sets of versions, and which versions are in them.
 
-ghost use Rattle.std.specs.Prelude.{◌≡◌, ◌&&◌, false, length, map, not};
+ghost use Rattle.std.specs.Prelude.{◌≡◌, ◌&&◌, IfOk, false, length, map, not, true};
 ghost use Rattle.std.specs.List.{AllByRecursion};
 ghost use Rattle.semver_texts.specs.Digits.{plain_by};
 ghost use Rattle.semver_texts.specs.Texts.{Text, is_empty};
@@ -13,13 +13,14 @@ ghost use Rattle.version_sets.specs.Releases.{release_value};
 ghost use Rattle.version_sets.specs.VersionSets.{contains, contains_kept, Fits, IsNormal};
 ghost use Rattle.version_sets.specs.Steps.Places.{set_of};
 
+use crate::conjunction::{Conjunction, Ranges};
 use crate::release::Release;
 use crate::{batch, boundaries};
 use semver_texts::grammar::Digits;
 use semver_versions::laws;
 use semver_versions::read_version::ReadVersion;
 use semver_versions::version::{Version, VersionRef};
-use std::alloc::Global;
+use std::alloc::{AllocError, Global};
 use std::marker::Model;
 
 /// A set of versions in a normal form: one list of boundaries for releases and one for
@@ -80,6 +81,32 @@ impl VersionSet {
         ensures digits { result.digits ≡ digits }
     {
         VersionSet::of_boundaries(digits, Vec::new(alloc), Vec::new(alloc))
+    }
+
+    // Determined by: law result_laws::sets::one_all.
+    /// Returns the set of all versions, whose numeric identifiers are read as `digits` says. `Err`
+    /// means out of memory.
+    ///
+    /// ```
+    /// use semver_parser::sets::{self, VersionSet};
+    /// use semver_parser::{version, Combination, Dialect};
+    ///
+    /// let set = sets::parse("^1.2.0", Dialect::Npm)?;
+    /// let all = VersionSet::all(set.digits()).unwrap();
+    /// let others = all.combined(Combination::Difference, &set).unwrap();
+    /// assert!(others.contains(&version::parse("1.1.9").unwrap()));
+    /// assert!(!others.contains(&version::parse("1.9.0").unwrap()));
+    /// # Ok::<(), semver_parser::Error>(())
+    /// ```
+    pub fn all(alloc: Global, digits: Digits) -> Result<VersionSet, AllocError>
+        ensures all { IfOk result (λ set. (v : PlainVersion) → Fits v → contains set v ≡ true) }
+        ensures printable { IfOk result IsPrintable }
+        ensures digits { IfOk result (λ set. set.digits ≡ digits) }
+    {
+        let all = Conjunction::new();
+        let mut ranges = Ranges::new(alloc);
+        ranges.push_pre_releases(&all)?;
+        ranges.into_set(alloc, &all, digits)
     }
 
     /// Returns the set with these boundaries, which are in the normal form. It does not allocate.

@@ -115,7 +115,8 @@ pub fn add_sets(bytes: &[u8], sum: &mut Checksum) -> io::Result<()> {
 fn add_set(set: &VersionSet, sum: &mut Checksum) -> io::Result<()> {
     let releases = set.release_ranges()?;
     let pre_releases = set.pre_release_ranges()?;
-    write!(sum, "{releases};{pre_releases};")?;
+    let all = VersionSet::all(set.digits())?;
+    write!(sum, "{releases};{pre_releases};{all};")?;
     add_version(&set.lowest()?, sum)?;
     sum.add(u64::from(set.is_empty()));
     if let Some(release) = set.lowest_release() {

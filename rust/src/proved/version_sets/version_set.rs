@@ -2,11 +2,13 @@
 //! Sets of versions, and which versions are in them.
 
 use crate::rattle_std::prelude::*;
+use crate::proved::version_sets::conjunction::{Conjunction, Ranges};
 use crate::proved::version_sets::release::Release;
 use crate::proved::version_sets::{batch, boundaries};
 use crate::proved::semver_texts::grammar::Digits;
 use crate::proved::semver_versions::read_version::ReadVersion;
 use crate::proved::semver_versions::version::{Version, VersionRef};
+use crate::rattle_std::AllocError;
 
 /// A set of versions in a normal form: one list of boundaries for releases and one for
 /// pre-releases, each in ascending order of precedence (SemVer 2.0.0, section 11). A version is in
@@ -50,6 +52,27 @@ impl VersionSet {
     #[must_use]
     pub fn empty(digits: Digits) -> VersionSet {
         VersionSet::of_boundaries(digits, Vec::new(), Vec::new())
+    }
+
+    /// Returns the set of all versions, whose numeric identifiers are read as `digits` says. `Err`
+    /// means out of memory.
+    ///
+    /// ```
+    /// use semver_parser::sets::{self, VersionSet};
+    /// use semver_parser::{version, Combination, Dialect};
+    ///
+    /// let set = sets::parse("^1.2.0", Dialect::Npm)?;
+    /// let all = VersionSet::all(set.digits()).unwrap();
+    /// let others = all.combined(Combination::Difference, &set).unwrap();
+    /// assert!(others.contains(&version::parse("1.1.9").unwrap()));
+    /// assert!(!others.contains(&version::parse("1.9.0").unwrap()));
+    /// # Ok::<(), semver_parser::Error>(())
+    /// ```
+    pub fn all(digits: Digits) -> Result<VersionSet, AllocError> {
+        let all = Conjunction::new();
+        let mut ranges = Ranges::new();
+        ranges.push_pre_releases(&all)?;
+        ranges.into_set(&all, digits)
     }
 
     /// Returns the set with these boundaries, which are in the normal form. It does not allocate.

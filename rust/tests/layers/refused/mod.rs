@@ -100,12 +100,13 @@ fn of_lines() -> [(&'static str, Ending); 9] {
 }
 
 /// Returns how each call for sets of versions ends, except reading these two.
-fn of_sets(first: &VersionSet, second: &VersionSet) -> [(&'static str, Ending); 9] {
+fn of_sets(first: &VersionSet, second: &VersionSet) -> [(&'static str, Ending); 10] {
     [
         ("refused_set_texts", sets::of_refused_texts()),
         ("union", sets::union(first, second)),
         ("intersection", sets::intersection(first, second)),
         ("difference", sets::difference(first, second)),
+        ("all", sets::all(first)),
         ("least", sets::lowest(first)),
         ("compared", sets::compared(first, second)),
         ("release_ranges", sets::release_ranges(first)),
