@@ -23,7 +23,7 @@ use Rattle.semver_ranges.specs.declared.range.Op.{Op}
 use Rattle.semver_ranges.specs.declared.range.Op.TheVariants.{Lt, Gte, Eq}
 use Rattle.semver_ranges.specs.RewritingTable.{comparator}
 use Rattle.version_sets.specs.DigitViews.{comparator_kept, range_kept}
-use Rattle.version_sets.specs.SetRanges.{Kind, bounds, interval, intervals, is_lowest, is_lowest_pre, is_same_end, npm_range}
+use Rattle.version_sets.specs.SetRanges.{Kind, bound_comparators, interval, intervals, is_lowest, is_lowest_pre, is_same_end, npm_range}
 use Rattle.version_sets.specs.Steps.SpanViews.{successor}
 
 pub by_none : (d : Digits) → identifiers_by d [] ≡ []
@@ -154,7 +154,7 @@ comparator_fits op v e = ap (comparator op) (plain_fits v e)
 module _ (kind : Kind) (end_prints : (a b : PlainVersion) → is_printable_version a ≡ true → is_printable_version b ≡ true
     → is_printable_version (kind.end a b) ≡ true) where
   bounds_fit : (from : PlainVersion) (to : Option PlainVersion) → is_printable_version from ≡ true
-      → IfSome to (λ v. is_printable_version v ≡ true) → map comparator_kept (bounds kind.end from to) ≡ bounds kind.end from to
+      → IfSome to (λ v. is_printable_version v ≡ true) → map comparator_kept (bound_comparators kind.end from to) ≡ bound_comparators kind.end from to
   bounds_fit from None e f = λ i. comparator_fits Gte from e i ∷ []
   bounds_fit from (Some to) e f =
       let g = end_prints from to e f in

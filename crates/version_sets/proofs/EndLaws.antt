@@ -16,14 +16,14 @@ use Rattle.semver_ranges.specs.PrintedRanges.{is_kept}
 use Rattle.semver_texts.proofs.Lists.{by_test}
 use Rattle.version_sets.specs.declared.release.Release.{Release}
 use Rattle.version_sets.specs.Releases.{release_value}
-use Rattle.version_sets.specs.Steps.Bounds.{lowest_place, numbers_cmp}
+use Rattle.version_sets.specs.Steps.Numbers.{lowest_place, numbers_cmp}
 use Rattle.version_sets.specs.Steps.Cuts.{first_numbers}
 use Rattle.version_sets.specs.Printable.{is_printable_boundary, prints_by}
 use Rattle.version_sets.specs.Steps.EndPlaces.{end_place, kept_end}
 use Rattle.version_sets.specs.Steps.Ends.{has_numbers}
 use Rattle.version_sets.specs.Steps.SpanViews.{successor}
-use Rattle.version_sets.specs.declared.pre_release_place.PreReleaseEnd.{PreReleaseEnd}
-use Rattle.version_sets.proofs.BoundLaws.{past, stated_numbers}
+use Rattle.version_sets.specs.declared.pre_release_end.PreReleaseEnd.{PreReleaseEnd}
+use Rattle.version_sets.proofs.NumberLaws.{past, stated_numbers}
 use Rattle.version_sets.proofs.DigitLaws.{by_empty, by_zero, prints_plain}
 use Rattle.version_sets.proofs.PrintedBoundaries.{zero_prints}
 

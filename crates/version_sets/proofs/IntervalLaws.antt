@@ -11,8 +11,8 @@ use Rattle.semver_texts.specs.Steps.PrecedenceLaws.{precedence_total, precedence
 use Rattle.semver_ranges.specs.RewritingTable.{comparator}
 use Rattle.semver_ranges.specs.SatisfiedComparators.{meets_comparator, meets_range}
 use Rattle.version_sets.specs.Boundaries.{is_inside, IsIncreasing}
-use Rattle.version_sets.specs.SetRanges.{Kind, is_lowest, is_same_end, bounds, interval, intervals}
-use Rattle.version_sets.proofs.BoundLaws.{from, and_true, at_and_not_above}
+use Rattle.version_sets.specs.SetRanges.{Kind, is_lowest, is_same_end, bound_comparators, interval, intervals}
+use Rattle.version_sets.proofs.NumberLaws.{from, and_true, at_and_not_above}
 use Rattle.version_sets.proofs.SameSets.{equal_is}
 use Rattle.version_sets.proofs.BoundaryLaws.{is_inside-below, below-first}
 use Rattle.version_sets.proofs.SweepLaws.{by_test}
@@ -46,7 +46,7 @@ pub record IsKind (P : PlainVersion → Type 0) (kind : Kind) : Type 0 where
 
 module _ (P : PlainVersion → Type 0) (kind : Kind) (k : IsKind P kind) (v : PlainVersion) (pv : P v) where
   bounds_meet : (a : PlainVersion) (to : Option PlainVersion) → P a → IfSome to P
-      → list_all (meets_comparator v) (bounds kind.end a to) ≡ (is_ge (precedence v a) && not (from to v))
+      → list_all (meets_comparator v) (bound_comparators kind.end a to) ≡ (is_ge (precedence v a) && not (from to v))
   bounds_meet a None pa pb = refl
   bounds_meet a (Some b) pa pb =
       let c = comparator Lt (kind.end a b) in
@@ -61,10 +61,10 @@ module _ (P : PlainVersion → Type 0) (kind : Kind) (k : IsKind P kind) (v : Pl
       → list_all (meets_comparator v) (interval kind a to) ≡ (is_ge (precedence v a) && not (from to v))
   interval_meets a to pa pb =
       by_test (is_same_end to (kind.next a))
-      (λ e. ap (λ t. list_all (meets_comparator v) (cond t (comparator Eq a ∷ []) (bounds kind.end a to))) e
+      (λ e. ap (λ t. list_all (meets_comparator v) (cond t (comparator Eq a ∷ []) (bound_comparators kind.end a to))) e
       ∙ and_true (is_eq (precedence v a)) ∙ sym (at_and_not_above (precedence v a))
       ∙ ap (λ t. is_ge (precedence v a) && not t) (sym (k.above a v pa pv) ∙ ap (λ t. from t v) (sym (same_end to (kind.next a) e))))
-      (λ e. ap (λ t. list_all (meets_comparator v) (cond t (comparator Eq a ∷ []) (bounds kind.end a to))) e ∙ bounds_meet a to pa pb)
+      (λ e. ap (λ t. list_all (meets_comparator v) (cond t (comparator Eq a ∷ []) (bound_comparators kind.end a to))) e ∙ bounds_meet a to pa pb)
 
   pub intervals_meet : (xs : List PlainVersion) → IsIncreasing precedence xs → AllByRecursion P xs
       → list_any (meets_range v) (intervals kind xs) ≡ is_inside precedence xs v

@@ -10,8 +10,8 @@ use Rattle.semver_texts.specs.Versions.{IdentifierValue, numeric, alphanumeric, 
 use Rattle.version_sets.specs.VersionSets.{Fits, IsRelease, IsPreRelease}
 use Rattle.version_sets.specs.SetRanges.{next_release, is_lowest, is_lowest_pre, is_same_end, pre_release_above}
 use Rattle.version_sets.specs.SetRanges.{lowest_pre_release, of_pre_releases, of_releases, pre_release_end}
-use Rattle.version_sets.specs.Steps.Bounds.{numbers_cmp}
-use Rattle.version_sets.proofs.BoundLaws.{from, from_lowest, before_release, zero_lowest, against, release_reaches, none_above, right_above}
+use Rattle.version_sets.specs.Steps.Numbers.{numbers_cmp}
+use Rattle.version_sets.proofs.NumberLaws.{from, from_lowest, before_release, zero_lowest, against, release_reaches, none_above, right_above}
 use Rattle.version_sets.proofs.SweepLaws.{by_test}
 use Rattle.version_sets.proofs.IntervalLaws.{IsKind, below_is, same_end}
 

@@ -8,7 +8,7 @@ mod SetLaws
 mod SpanLaws
 mod HeldBoundaries
 mod PrintedBoundaries
-mod BoundLaws
+mod NumberLaws
 mod EndLaws
 mod BorrowedPlaces
 mod SameSets

@@ -20,7 +20,7 @@ use Rattle.semver_ranges.specs.RewritingTable.{PlainComparator, PlainRange, Plai
 use Rattle.semver_ranges.specs.SatisfiedComparators.{meets_comparator, meets_range, meets_set}
 use Rattle.semver_ranges.specs.PrintedRanges.{is_printable_version, IsPrintableRange, IsPrintableSet, set_text}
 use Rattle.version_sets.specs.VersionSets.{SetValue, contains, IsRelease}
-use Rattle.version_sets.specs.SetRanges.{Kind, is_lowest, is_same_end, bounds, interval, npm_range, intervals, of_pre_releases, pre_release_above}
+use Rattle.version_sets.specs.SetRanges.{Kind, is_lowest, is_same_end, bound_comparators, interval, npm_range, intervals, of_pre_releases, pre_release_above}
 use Rattle.version_sets.specs.SetRanges.{is_from_lowest, is_whole, ranges_text, ReadsBack}
 use Rattle.version_sets.proofs.IntervalLaws.{below_is}
 use Rattle.version_sets.proofs.KindLaws.{release_lowest, pre_release_lowest}
@@ -53,7 +53,7 @@ end_prints a b e f =
 
 module _ (kind : Kind) (end_prints_too : EndPrints kind) where
   bounds_print : (a : PlainVersion) (to : Option PlainVersion) → is_printable_version a ≡ true → to_prints to ≡ true
-      → Prints (bounds kind.end a to)
+      → Prints (bound_comparators kind.end a to)
   bounds_print a None e f = (refl, and_from _ _ e refl)
   bounds_print a (Some b) e f =
       let c = comparator Lt (kind.end a b) in
@@ -67,8 +67,8 @@ module _ (kind : Kind) (end_prints_too : EndPrints kind) where
   range_prints a to e f =
       let p : Prints (interval kind a to) =
       by_test (is_same_end to (kind.next a))
-      (λ s. subst (λ t. Prints (cond t (comparator Eq a ∷ []) (bounds kind.end a to))) (sym s) (refl, and_from _ _ e refl))
-      (λ s. subst (λ t. Prints (cond t (comparator Eq a ∷ []) (bounds kind.end a to))) (sym s) (bounds_print a to e f)) in
+      (λ s. subst (λ t. Prints (cond t (comparator Eq a ∷ []) (bound_comparators kind.end a to))) (sym s) (refl, and_from _ _ e refl))
+      (λ s. subst (λ t. Prints (cond t (comparator Eq a ∷ []) (bound_comparators kind.end a to))) (sym s) (bounds_print a to e f)) in
       (p.0, refl, p.1)
 
   ranges_print : (xs : List PlainVersion) → list_all is_printable_version xs ≡ true → All (IsPrintableRange Npm) (intervals kind xs)

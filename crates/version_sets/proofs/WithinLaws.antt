@@ -11,10 +11,10 @@ use Rattle.semver_texts.specs.Versions.{PlainVersion}
 use Rattle.version_sets.specs.Boundaries.{is_inside, IsBelowFirst, IsIncreasing}
 use Rattle.version_sets.specs.Releases.{release_value}
 use Rattle.version_sets.specs.VersionSets.{AreBoundaries}
-use Rattle.version_sets.specs.Steps.Bounds.{lowest_place, numbers_cmp}
+use Rattle.version_sets.specs.Steps.Numbers.{lowest_place, numbers_cmp}
 use Rattle.version_sets.specs.Steps.Within.{AreFirstNumbers, IsFirstFrom, IsFirstInside, IsOfKindWithin, first_place, lowest_of_kind}
 use Rattle.version_sets.specs.declared.release.Release.{Release}
-use Rattle.version_sets.proofs.BoundLaws.{against, by_numbers, from_lowest}
+use Rattle.version_sets.proofs.NumberLaws.{against, by_numbers, from_lowest}
 use Rattle.version_sets.proofs.BoundaryLaws.{below-first, by_order, by_place, is_inside-at, is_inside-below, turned_below}
 
 -- ---- the first version at or above a boundary

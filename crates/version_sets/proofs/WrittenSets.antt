@@ -15,7 +15,7 @@ use Rattle.semver_ranges.specs.RewritingTable.{PlainRange}
 use Rattle.version_sets.specs.SetRanges.{is_whole, kinds_text, npm_set, pre_release_ranges}
 use Rattle.version_sets.specs.SetRanges.{ranges_text, release_ranges}
 use Rattle.version_sets.specs.VersionSets.{SetValue}
-use Rattle.version_sets.specs.Steps.ShownBounds.{others_text}
+use Rattle.version_sets.specs.Steps.ComparatorRefs.{others_text}
 
 -- ---- identifiers
 

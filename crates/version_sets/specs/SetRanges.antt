@@ -69,10 +69,10 @@ pre_release_end from to =
 -- the comparators of an interval, which begins with a version and ends below another, if there is
 -- one. If there is an end, the lowest version is not written as a bound, since no version is below
 -- it
-abbrev pub bounds : (PlainVersion → PlainVersion → PlainVersion) → PlainVersion
+abbrev pub bound_comparators : (PlainVersion → PlainVersion → PlainVersion) → PlainVersion
     → Option PlainVersion → List PlainComparator
-bounds end from None = comparator Gte from ∷ []
-bounds end from (Some to) =
+bound_comparators end from None = comparator Gte from ∷ []
+bound_comparators end from (Some to) =
     if is_lowest from then comparator Lt (end from to) ∷ []
     else (comparator Gte from ∷ comparator Lt (end from to) ∷ [])
 
@@ -90,7 +90,7 @@ of_pre_releases = record { next = next_pre_release; end = pre_release_end }
 -- the comparators of an interval: `=` if it has only one version, otherwise its bounds
 abbrev pub interval : Kind → PlainVersion → Option PlainVersion → List PlainComparator
 interval kind from to =
-    if is_same_end to (kind.next from) then comparator Eq from ∷ [] else bounds kind.end from to
+    if is_same_end to (kind.next from) then comparator Eq from ∷ [] else bound_comparators kind.end from to
 
 -- comparators as a range in npm mode
 abbrev pub npm_range : List PlainComparator → PlainRange

@@ -1,6 +1,6 @@
 pub mod Places
 pub mod Lower
-pub mod Bounds
+pub mod Numbers
 pub mod Spans
 pub mod SpanViews
 pub mod Sweeps
@@ -8,7 +8,7 @@ pub mod Between
 pub mod SweepViews
 pub mod Combined
 pub mod SameSets
-pub mod ShownBounds
+pub mod ComparatorRefs
 pub mod Cuts
 pub mod EndPlaces
 pub mod Ends

@@ -7,7 +7,7 @@ ghost use Rattle.version_sets.specs.Steps.EndPlaces.{end_place};
 ghost use Rattle.version_sets.specs.Steps.Spans.{some_empty};
 ghost use Rattle.version_sets.specs.Steps.SpanViews.{span_value};
 
-use crate::pre_release_place::PreReleaseEnd;
+use crate::pre_release_end::PreReleaseEnd;
 use crate::release::Release;
 use crate::spans::{Bounds, Span};
 

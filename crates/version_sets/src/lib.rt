@@ -2,19 +2,18 @@
 //! difference of two sets, the lowest version, and equality.
 #![tactic(auto)]
 
+mod above_cuts;
 mod batch;
-mod borrowed_boundary;
 mod boundaries;
 mod boundary;
+mod comparators;
 mod conjunction;
 mod cut;
-mod cut_tests;
-mod intervals;
+mod interval_membership;
 pub mod laws;
 mod lowest;
 mod pre_release;
 mod pre_release_end;
-mod pre_release_place;
 mod printing;
 mod ranges;
 mod release;
@@ -22,6 +21,7 @@ mod rules;
 mod set_difference;
 mod set_operations;
 mod set_ranges;
+mod span_end;
 mod spans;
 mod successor;
 mod sweep;

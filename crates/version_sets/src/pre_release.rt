@@ -51,13 +51,13 @@ pub(crate) fn kept_version(alloc: Global, read: &ReadVersion) -> Result<Version,
         major: read.version.major,
         minor: read.version.minor,
         patch: read.version.patch,
-        pre: kept(alloc, &read.version.pre, read.digits)?,
+        pre: kept_identifiers(alloc, &read.version.pre, read.digits)?,
         build: Vec::new(alloc),
     })
 }
 
 /// Copies identifiers, read as `digits` says, as a `Version` keeps them. `Err` means out of memory.
-fn kept(
+fn kept_identifiers(
     alloc: Global,
     identifiers: &[Identifier],
     digits: Digits,
@@ -67,14 +67,14 @@ fn kept(
 {
     let mut copies = Vec::with_capacity(alloc, identifiers.len())?;
     for identifier in identifiers {
-        copies.push(kept_copy(identifier, digits)?)?;
+        copies.push(kept_identifier(identifier, digits)?)?;
     }
     Ok(copies)
 }
 
 /// Copies an identifier, read as `digits` says, as a `Version` keeps it. `Err` means out of memory.
 #[tactic(auto, using(crate::proofs::DigitLaws::kept_number, crate::proofs::DigitLaws::kept_text))]
-fn kept_copy(identifier: &Identifier, digits: Digits) -> Result<Identifier, AllocError>
+fn kept_identifier(identifier: &Identifier, digits: Digits) -> Result<Identifier, AllocError>
     ensures { IfOk result (λ copy. identifier_value copy
         ≡ as_kept (identifier_by digits (identifier_value identifier.now))) }
 {

@@ -3,19 +3,19 @@
 ghost use Rattle.std.specs.Prelude.{◌≡◌, map};
 ghost use Rattle.std.specs.Fmt.{WritesOnOk};
 ghost use Rattle.version_sets.specs.SetRanges.{intervals, is_whole, npm_set, ranges_text};
-ghost use Rattle.version_sets.specs.Steps.ShownBounds.{others_text};
+ghost use Rattle.version_sets.specs.Steps.ComparatorRefs.{others_text};
 
-use crate::intervals::{Bound, Shown, ShownInterval, first_interval, is_lowest};
+use crate::comparators::{Bound, ComparatorRef, IntervalComparators, first_interval, is_lowest};
 use crate::version_set::VersionSet;
 use semver_texts::printing::write_part;
 use std::fmt;
 
-impl fmt::Display for Shown<'_> {
+impl fmt::Display for ComparatorRef<'_> {
     ghost use Rattle.std.specs.Prelude.{Some};
     ghost use Rattle.semver_ranges.specs.PrintedRanges.{comparator_text};
-    ghost use Rattle.version_sets.specs.Steps.ShownBounds.{shown_value};
+    ghost use Rattle.version_sets.specs.Steps.ComparatorRefs.{comparator_value};
 
-    ghost output = { λ s. Some (comparator_text (shown_value s)) };
+    ghost output = { λ s. Some (comparator_text (comparator_value s)) };
 
     /// Writes the comparator as the `Comparator` of the same parts is written.
     fn fmt<W: fmt::Write>(&self, f: &mut fmt::Formatter<W>) -> fmt::Result {
@@ -26,11 +26,11 @@ impl fmt::Display for Shown<'_> {
     }
 }
 
-impl fmt::Display for ShownInterval<'_> {
+impl fmt::Display for IntervalComparators<'_> {
     ghost use Rattle.std.specs.Prelude.{Some};
     ghost use Rattle.semver_ranges.specs.PrintedRanges.{range_text};
     ghost use Rattle.version_sets.specs.SetRanges.{npm_range};
-    ghost use Rattle.version_sets.specs.Steps.ShownBounds.{interval_value};
+    ghost use Rattle.version_sets.specs.Steps.ComparatorRefs.{interval_value};
 
     ghost output = { λ i. Some (range_text (npm_range (interval_value i))) };
 

@@ -18,10 +18,10 @@ ghost use Rattle.version_sets.specs.Steps.Ends.{in_ranges, ranges_print};
 ghost use Rattle.version_sets.specs.Steps.Spans.{in_some, some_empty};
 ghost use Rattle.version_sets.specs.Steps.SpanViews.{bounds_hold, is_within, span_value};
 
+use crate::above_cuts::first_release;
 use crate::conjunction::{Conjunction, Ranges};
 use crate::cut::Interval;
-use crate::pre_release_end::first_release;
-use crate::pre_release_place::PreReleaseEnd;
+use crate::pre_release_end::PreReleaseEnd;
 use crate::release::{LOWEST, Release};
 use crate::spans::{Bounds, Span, boundaries_of};
 use crate::version_set::VersionSet;

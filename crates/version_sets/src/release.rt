@@ -7,7 +7,7 @@ ghost use Rattle.semver_texts.specs.VersionViews.{version_value};
 ghost use Rattle.semver_texts.specs.Versions.{PlainVersion};
 ghost use Rattle.version_sets.specs.Releases.{release_value};
 ghost use Rattle.version_sets.specs.SetRanges.{next_release};
-ghost use Rattle.version_sets.specs.Steps.Bounds.{numbers_cmp, reaches};
+ghost use Rattle.version_sets.specs.Steps.Numbers.{numbers_cmp, reaches};
 ghost use Rattle.version_sets.specs.VersionSets.{Fits};
 
 use semver_versions::version::Version;

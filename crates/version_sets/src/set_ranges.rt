@@ -14,7 +14,7 @@ ghost use Rattle.version_sets.specs.SetRanges.{is_lowest_pre as lowest_pre};
 ghost use Rattle.version_sets.specs.SetRanges.{is_from_lowest as from_lowest};
 ghost use Rattle.version_sets.specs.VersionSets.{contains, IsIn, IsRelease, IsPreRelease};
 
-use crate::intervals::ranges_of;
+use crate::comparators::ranges_of;
 use crate::version_set::VersionSet;
 use semver_ranges::{Comparator, Compat, Op, Range, RangeSet, laws};
 use semver_texts::identifiers::AsIdentifier;

@@ -15,7 +15,7 @@ ghost use Rattle.version_sets.specs.Steps.Spans.{in_some};
 ghost use Rattle.version_sets.specs.Steps.SpanViews.{span_value, is_within};
 ghost use Rattle.version_sets.specs.Steps.SpanViews.{bounds_hold, spans_hold};
 
-use crate::borrowed_boundary::BorrowedBoundary;
+use crate::span_end::SpanEnd;
 use std::alloc::{AllocError, Global};
 
 /// The versions at or above one boundary and below another. `None` is a boundary above all
@@ -39,7 +39,7 @@ pub(crate) struct Span<L> {
 }
 
 /// Returns the higher of two boundaries. `None` is above all versions.
-fn later<L: BorrowedBoundary>(first: Option<L>, second: Option<L>) -> Option<L>
+fn later<L: SpanEnd>(first: Option<L>, second: Option<L>) -> Option<L>
     ensures { option_map L.place result
         ≡ later precedence (option_map L.place first) (option_map L.place second) }
 {
@@ -52,7 +52,7 @@ fn later<L: BorrowedBoundary>(first: Option<L>, second: Option<L>) -> Option<L>
 }
 
 /// Returns the lower of two boundaries. `None` is above all versions.
-fn earlier<L: BorrowedBoundary>(first: Option<L>, second: Option<L>) -> Option<L>
+fn earlier<L: SpanEnd>(first: Option<L>, second: Option<L>) -> Option<L>
     ensures { option_map L.place result
         ≡ earlier precedence (option_map L.place first) (option_map L.place second) }
 {
@@ -69,7 +69,7 @@ fn earlier<L: BorrowedBoundary>(first: Option<L>, second: Option<L>) -> Option<L
     }
 }
 
-impl<L: BorrowedBoundary> Bounds<L> {
+impl<L: SpanEnd> Bounds<L> {
     /// Returns the versions that are within other bounds, too.
     pub(crate) fn and(self, other: Bounds<L>) -> Bounds<L>
         ensures meaning { (v : PlainVersion) → is_within L.place result v
@@ -136,7 +136,7 @@ impl<L: BorrowedBoundary> Bounds<L> {
 }
 
 /// Returns the boundaries of the union of the spans. `Err` means out of memory.
-pub(crate) fn boundaries_of<L: BorrowedBoundary>(
+pub(crate) fn boundaries_of<L: SpanEnd>(
     alloc: Global,
     spans: &mut [Span<L>],
 ) -> Result<Vec<L::Boundary>, AllocError>
@@ -158,10 +158,7 @@ pub(crate) fn boundaries_of<L: BorrowedBoundary>(
 }
 
 /// Returns the boundaries of ascending spans. `Err` means out of memory.
-fn joined<L: BorrowedBoundary>(
-    alloc: Global,
-    spans: &[Span<L>],
-) -> Result<Vec<L::Boundary>, AllocError>
+fn joined<L: SpanEnd>(alloc: Global, spans: &[Span<L>]) -> Result<Vec<L::Boundary>, AllocError>
     ensures { IfOk result (λ boundaries.
         AllByRecursion L.IsOfKind (map L.Boundary.place boundaries.items)
         × (map L.Boundary.place boundaries.items
@@ -185,7 +182,7 @@ fn joined<L: BorrowedBoundary>(
 }
 
 /// Returns whether there is an end, and it is below a boundary.
-fn is_apart<L: BorrowedBoundary>(end: Option<L>, boundary: &L) -> bool
+fn is_apart<L: SpanEnd>(end: Option<L>, boundary: &L) -> bool
     ensures { result ≡ is_below precedence (option_map L.place end) (L.place boundary.now) }
 {
     match end {
@@ -195,7 +192,7 @@ fn is_apart<L: BorrowedBoundary>(end: Option<L>, boundary: &L) -> bool
 }
 
 /// Adds the boundaries of a span. `Err` means out of memory.
-fn push_boundaries<L: BorrowedBoundary>(
+fn push_boundaries<L: SpanEnd>(
     alloc: Global,
     span: &Span<L>,
     boundaries: &mut Vec<L::Boundary>,

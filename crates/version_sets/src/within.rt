@@ -9,7 +9,7 @@ ghost use Rattle.semver_texts.specs.VersionViews.{version_value};
 ghost use Rattle.semver_versions.specs.ReadVersions.{read_plain};
 ghost use Rattle.version_sets.specs.Releases.{release_value};
 ghost use Rattle.version_sets.specs.VersionSets.{AreBoundaries};
-ghost use Rattle.version_sets.specs.Steps.Bounds.{numbers_cmp};
+ghost use Rattle.version_sets.specs.Steps.Numbers.{numbers_cmp};
 ghost use Rattle.version_sets.specs.Steps.Within.{AreFirstNumbers, IsFirstFrom, IsFirstInside};
 ghost use Rattle.version_sets.specs.Steps.Within.{IsOfKind, IsOfKindWithin, first_value};
 

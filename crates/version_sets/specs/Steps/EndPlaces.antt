@@ -5,7 +5,7 @@ use Rattle.semver_texts.specs.Texts.{cut_at_dots, is_empty}
 use Rattle.semver_texts.specs.Versions.{PlainVersion}
 use Rattle.semver_ranges.specs.Partials.{kept}
 use Rattle.version_sets.specs.Steps.SpanViews.{successor}
-use Rattle.version_sets.specs.declared.pre_release_place.PreReleaseEnd.{PreReleaseEnd}
+use Rattle.version_sets.specs.declared.pre_release_end.PreReleaseEnd.{PreReleaseEnd}
 
 -- the version at an end of a span, with its identifiers as they are kept. If it has none, it gets
 -- the number 0, so that it is a pre-release

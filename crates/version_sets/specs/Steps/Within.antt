@@ -10,7 +10,7 @@ use Rattle.semver_texts.specs.Versions.{PlainVersion}
 use Rattle.version_sets.specs.Boundaries.{is_inside}
 use Rattle.version_sets.specs.Releases.{release_value}
 use Rattle.version_sets.specs.VersionSets.{Fits, IsWithin}
-use Rattle.version_sets.specs.Steps.Bounds.{lowest_place, numbers_cmp}
+use Rattle.version_sets.specs.Steps.Numbers.{lowest_place, numbers_cmp}
 use Rattle.version_sets.specs.declared.release.Release.{Release}
 use Rattle.version_sets.specs.declared.within.First.{First}
 

@@ -2,7 +2,7 @@
 //! The versions that are in each interval of a range, and in some of the ranges.
 
 use crate::rattle_std::prelude::*;
-use crate::proved::version_sets::pre_release_place::PreReleaseEnd;
+use crate::proved::version_sets::pre_release_end::PreReleaseEnd;
 use crate::proved::version_sets::release::Release;
 use crate::proved::version_sets::spans::{Bounds, Span};
 

@@ -37,25 +37,25 @@ pub(crate) fn kept_version(read: &ReadVersion) -> Result<Version, AllocError> {
         major: read.version.major,
         minor: read.version.minor,
         patch: read.version.patch,
-        pre: kept(&read.version.pre, read.digits)?,
+        pre: kept_identifiers(&read.version.pre, read.digits)?,
         build: Vec::new(),
     })
 }
 
 /// Copies identifiers, read as `digits` says, as a `Version` keeps them. `Err` means out of memory.
-fn kept(
+fn kept_identifiers(
     identifiers: &[Identifier],
     digits: Digits,
 ) -> Result<Vec<Identifier>, AllocError> {
     let mut copies = Vec::fallible_with_capacity(identifiers.len())?;
     for identifier in identifiers {
-        copies.fallible_push(kept_copy(identifier, digits)?)?;
+        copies.fallible_push(kept_identifier(identifier, digits)?)?;
     }
     Ok(copies)
 }
 
 /// Copies an identifier, read as `digits` says, as a `Version` keeps it. `Err` means out of memory.
-fn kept_copy(identifier: &Identifier, digits: Digits) -> Result<Identifier, AllocError> {
+fn kept_identifier(identifier: &Identifier, digits: Digits) -> Result<Identifier, AllocError> {
     let _digits = digits;
     match identifier {
         Identifier::Numeric(number) => Ok(Identifier::Numeric(*number)),

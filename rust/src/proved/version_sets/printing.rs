@@ -2,12 +2,12 @@
 //! Writes a set as a string, directly from its boundaries.
 
 use crate::rattle_std::prelude::*;
-use crate::proved::version_sets::intervals::{Bound, Shown, ShownInterval, first_interval, is_lowest};
+use crate::proved::version_sets::comparators::{Bound, ComparatorRef, IntervalComparators, first_interval, is_lowest};
 use crate::proved::version_sets::version_set::VersionSet;
 use crate::proved::semver_texts::printing::write_part;
 use crate::rattle_std::fmt;
 
-impl fmt::Display for Shown<'_> {
+impl fmt::Display for ComparatorRef<'_> {
     /// Writes the comparator as the `Comparator` of the same parts is written.
     fn fmt(&self, f: &mut fmt::Formatter<'_>) -> fmt::Result {
         let (op, numbers) = (&self.op, self.numbers);
@@ -17,7 +17,7 @@ impl fmt::Display for Shown<'_> {
     }
 }
 
-impl fmt::Display for ShownInterval<'_> {
+impl fmt::Display for IntervalComparators<'_> {
     /// Writes the comparators with a space between them.
     fn fmt(&self, f: &mut fmt::Formatter<'_>) -> fmt::Result {
         let first = &self.first;

@@ -3,10 +3,10 @@
 //! intervals.
 
 use crate::rattle_std::prelude::*;
+use crate::proved::version_sets::above_cuts::first_release;
 use crate::proved::version_sets::conjunction::{Conjunction, Ranges};
 use crate::proved::version_sets::cut::Interval;
-use crate::proved::version_sets::pre_release_end::first_release;
-use crate::proved::version_sets::pre_release_place::PreReleaseEnd;
+use crate::proved::version_sets::pre_release_end::PreReleaseEnd;
 use crate::proved::version_sets::release::{LOWEST, Release};
 use crate::proved::version_sets::spans::{Bounds, Span, boundaries_of};
 use crate::proved::version_sets::version_set::VersionSet;

@@ -2,7 +2,7 @@
 //! A set as ranges of plain comparators, and as a string.
 
 use crate::rattle_std::prelude::*;
-use crate::proved::version_sets::intervals::ranges_of;
+use crate::proved::version_sets::comparators::ranges_of;
 use crate::proved::version_sets::version_set::VersionSet;
 use crate::proved::semver_ranges::{Comparator, Compat, Op, Range, RangeSet};
 use crate::proved::semver_texts::identifiers::AsIdentifier;

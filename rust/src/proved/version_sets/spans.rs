@@ -2,7 +2,7 @@
 //! Spans of one kind of versions, and the boundaries of their union.
 
 use crate::rattle_std::prelude::*;
-use crate::proved::version_sets::borrowed_boundary::BorrowedBoundary;
+use crate::proved::version_sets::span_end::SpanEnd;
 use crate::rattle_std::AllocError;
 
 /// The versions at or above one boundary and below another. `None` is a boundary above all
@@ -26,7 +26,7 @@ pub(crate) struct Span<L> {
 }
 
 /// Returns the higher of two boundaries. `None` is above all versions.
-fn later<L: BorrowedBoundary>(first: Option<L>, second: Option<L>) -> Option<L> {
+fn later<L: SpanEnd>(first: Option<L>, second: Option<L>) -> Option<L> {
     let (first, second) = (first?, second?);
     Some(if first.compare(&second).is_ge() {
         first
@@ -36,7 +36,7 @@ fn later<L: BorrowedBoundary>(first: Option<L>, second: Option<L>) -> Option<L> 
 }
 
 /// Returns the lower of two boundaries. `None` is above all versions.
-fn earlier<L: BorrowedBoundary>(first: Option<L>, second: Option<L>) -> Option<L> {
+fn earlier<L: SpanEnd>(first: Option<L>, second: Option<L>) -> Option<L> {
     let Some(first) = first else {
         return second;
     };
@@ -50,7 +50,7 @@ fn earlier<L: BorrowedBoundary>(first: Option<L>, second: Option<L>) -> Option<L
     }
 }
 
-impl<L: BorrowedBoundary> Bounds<L> {
+impl<L: SpanEnd> Bounds<L> {
     /// Returns the versions that are within other bounds, too.
     pub(crate) fn and(self, other: Bounds<L>) -> Bounds<L> {
         Bounds {
@@ -91,7 +91,7 @@ impl<L: BorrowedBoundary> Bounds<L> {
 }
 
 /// Returns the boundaries of the union of the spans. `Err` means out of memory.
-pub(crate) fn boundaries_of<L: BorrowedBoundary>(
+pub(crate) fn boundaries_of<L: SpanEnd>(
     spans: &mut [Span<L>],
 ) -> Result<Vec<L::Boundary>, AllocError> {
     spans.sort_unstable_by(|span, other| span.from.compare(&other.from));
@@ -99,9 +99,7 @@ pub(crate) fn boundaries_of<L: BorrowedBoundary>(
 }
 
 /// Returns the boundaries of ascending spans. `Err` means out of memory.
-fn joined<L: BorrowedBoundary>(
-    spans: &[Span<L>],
-) -> Result<Vec<L::Boundary>, AllocError> {
+fn joined<L: SpanEnd>(spans: &[Span<L>]) -> Result<Vec<L::Boundary>, AllocError> {
     let [first, others @ ..] = spans else {
         return Ok(Vec::new());
     };
@@ -120,7 +118,7 @@ fn joined<L: BorrowedBoundary>(
 }
 
 /// Returns whether there is an end, and it is below a boundary.
-fn is_apart<L: BorrowedBoundary>(end: Option<L>, boundary: &L) -> bool {
+fn is_apart<L: SpanEnd>(end: Option<L>, boundary: &L) -> bool {
     match end {
         Some(end) => end.compare(boundary).is_lt(),
         None => false,
@@ -128,7 +126,7 @@ fn is_apart<L: BorrowedBoundary>(end: Option<L>, boundary: &L) -> bool {
 }
 
 /// Adds the boundaries of a span. `Err` means out of memory.
-fn push_boundaries<L: BorrowedBoundary>(
+fn push_boundaries<L: SpanEnd>(
     span: &Span<L>,
     boundaries: &mut Vec<L::Boundary>,
 ) -> Result<(), AllocError> {

@@ -3,7 +3,7 @@ use Rattle.std.proofs.Output.{has_written_append, has_written_of_eq}
 use Rattle.semver_ranges.specs.PrintedRanges.{range_text}
 use Rattle.semver_texts.specs.Texts.{Text}
 use Rattle.version_sets.specs.SetRanges.{intervals, npm_range}
-use Rattle.version_sets.specs.Steps.ShownBounds.{interval_value, others_text}
+use Rattle.version_sets.specs.Steps.ComparatorRefs.{interval_value, others_text}
 use Rattle.version_sets.proofs.printing.write_others.Goals as goal
 
 pub loop-next-preserved : goal.loop-next-preserved

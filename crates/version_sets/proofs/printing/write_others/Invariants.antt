@@ -4,7 +4,7 @@ use Rattle.std.proofs.Common.{◌≡◌, ◌++◌, length, map}
 use Rattle.std.specs.Fmt.{HasWritten, IsPlainFormatter}
 use Rattle.semver_texts.specs.Texts.{Text}
 use Rattle.version_sets.specs.SetRanges.{intervals}
-use Rattle.version_sets.specs.Steps.ShownBounds.{others_text}
+use Rattle.version_sets.specs.Steps.ComparatorRefs.{others_text}
 use Rattle.version_sets.proofs.printing.write_others.Given as goal
 
 abbrev pub invariant-loop-next : goal.invariant-loop-next

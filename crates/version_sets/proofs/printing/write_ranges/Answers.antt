@@ -2,7 +2,7 @@ use Rattle.std.proofs.Common.{◌≡◌, ◌∷◌, ◌∙◌, List, false, ap, 
 use Rattle.std.proofs.Output.{has_written_append, has_written_of_eq}
 use Rattle.semver_ranges.specs.RewritingTable.{PlainRange}
 use Rattle.version_sets.specs.SetRanges.{intervals, is_whole, npm_range, npm_set, ranges_text}
-use Rattle.version_sets.specs.Steps.ShownBounds.{interval_value}
+use Rattle.version_sets.specs.Steps.ComparatorRefs.{interval_value}
 use Rattle.version_sets.proofs.WrittenSets.{first_and_others, not_whole}
 use Rattle.version_sets.proofs.printing.write_ranges.Goals as goal
 

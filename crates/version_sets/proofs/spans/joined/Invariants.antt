@@ -9,7 +9,7 @@ use Rattle.version_sets.proofs.spans.joined.Given as goal
 
 abbrev pub invariant-loop-next : goal.invariant-loop-next
 invariant-loop-next g l =
-    let seen = span_value g.L.BorrowedBoundary.place in
-    AllByRecursion g.L.BorrowedBoundary.IsOfKind (map g.L.Boundary.Boundary.place l.boundaries.items)
+    let seen = span_value g.L.SpanEnd.place in
+    AllByRecursion g.L.SpanEnd.IsOfKind (map g.L.Boundary.Boundary.place l.boundaries.items)
     × (map g.L.Boundary.Boundary.place l.boundaries.items ++ joined precedence (seen l.span) (map seen (drop l.next-index l.others))
     ≡ joined precedence (seen l.initial.span) (map seen l.others))

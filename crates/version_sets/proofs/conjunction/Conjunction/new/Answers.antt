@@ -2,7 +2,7 @@ use Rattle.std.proofs.Common.{◌∙◌, ap, is_ge, refl}
 use Rattle.semver_texts.specs.Precedence.{precedence}
 use Rattle.semver_texts.specs.Texts.{is_empty}
 use Rattle.semver_texts.proofs.Lists.{by_test}
-use Rattle.version_sets.proofs.BoundLaws.{and_true}
+use Rattle.version_sets.proofs.NumberLaws.{and_true}
 use Rattle.version_sets.proofs.KindLaws.{pre_release_lowest, release_lowest}
 use Rattle.version_sets.proofs.conjunction.Conjunction.new.Goals as goal
 

@@ -10,7 +10,7 @@ pub returns : goal.returns
 returns g c =
     let place = g.L.Boundary.Boundary.place in
     let none = ap (map place) c.in_ok-boundaries.ensures.items in
-    let of = are_of_one g.L.BorrowedBoundary.IsOfKind (span_value g.L.BorrowedBoundary.place c.in-Some.span) _ c.in-Some.ensures.meaning.0
-    (c.in_ok-push_boundaries.ensures.boundaries ∙ ap (λ ys. ys ++ span_boundaries precedence (span_value g.L.BorrowedBoundary.place c.in-Some.span)) none)
-    (c.in_ok-push_boundaries.ensures.kind (subst (AllByRecursion g.L.BorrowedBoundary.IsOfKind) (sym none) tt)) in
+    let of = are_of_one g.L.SpanEnd.IsOfKind (span_value g.L.SpanEnd.place c.in-Some.span) _ c.in-Some.ensures.meaning.0
+    (c.in_ok-push_boundaries.ensures.boundaries ∙ ap (λ ys. ys ++ span_boundaries precedence (span_value g.L.SpanEnd.place c.in-Some.span)) none)
+    (c.in_ok-push_boundaries.ensures.kind (subst (AllByRecursion g.L.SpanEnd.IsOfKind) (sym none) tt)) in
     record { boundaries = of.are_boundaries; meaning = λ v. of.turn v ∙ grind (arith, c.in-Some.ensures.meaning.1 v) }

@@ -9,7 +9,7 @@ use Rattle.version_sets.proofs.spans.Bounds.push_to.Goals as goal
 
 pub returns-in_ok-push-clause-meaning : goal.returns-in_ok-push-clause-meaning
 returns-in_ok-push-clause-meaning g c = λ v.
-    let seen = span_value g.L.BorrowedBoundary.place in
+    let seen = span_value g.L.SpanEnd.place in
     ap (λ spans. in_some precedence (map seen spans) v) c.in_ok-push.ensures.items
     ∙ ap (λ spans. in_some precedence spans v) (map-append seen c.args.spans.now.items _)
     ∙ list_any-append (λ span. is_in precedence span v) _ _

@@ -4,7 +4,7 @@ use Rattle.std.proofs.Common.{◌≡◌, ◌≤◌, map, ◌++◌, length}
 use Rattle.semver_ranges.specs.RangeViews.{range_of}
 use Rattle.version_sets.specs.DigitViews.{range_kept}
 use Rattle.version_sets.specs.SetRanges.{intervals}
-use Rattle.version_sets.proofs.intervals.ranges_of.Given as goal
+use Rattle.version_sets.proofs.comparators.ranges_of.Given as goal
 
 abbrev pub invariant-loop-first : goal.invariant-loop-first
 invariant-loop-first g l =

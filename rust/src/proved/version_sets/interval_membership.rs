@@ -1,4 +1,4 @@
-// Made by tools/erase.py from crates/version_sets/src/cut_tests.rt; not edited by hand.
+// Made by tools/erase.py from crates/version_sets/src/interval_membership.rt; not edited by hand.
 //! Whether a version is above a cut, and whether it is in an interval.
 
 use crate::rattle_std::prelude::*;

@@ -11,7 +11,7 @@ use Rattle.semver_texts.specs.Precedence.{identifier_cmp, pre_cmp, precedence}
 use Rattle.semver_texts.specs.Texts.{is_empty}
 use Rattle.semver_texts.specs.Versions.{IdentifierValue, numeric, alphanumeric, numbers, PlainVersion}
 use Rattle.version_sets.specs.declared.release.Release.{Release}
-use Rattle.version_sets.specs.Steps.Bounds.{lowest_place, numbers_cmp, reaches}
+use Rattle.version_sets.specs.Steps.Numbers.{lowest_place, numbers_cmp, reaches}
 use Rattle.version_sets.specs.Steps.Spans.{reached}
 use Rattle.version_sets.specs.Steps.SpanViews.{is_past, successor}
 use Rattle.version_sets.specs.Releases.{release_value}

@@ -1,8 +1,8 @@
 use Rattle.std.proofs.Common.{◌∙◌, ap, is_ge}
 use Rattle.std.specs.Prelude.{Some}
 use Rattle.semver_texts.specs.Precedence.{precedence}
-use Rattle.version_sets.proofs.BoundLaws.{from-lowest}
-use Rattle.version_sets.proofs.pre_release_place.PreReleaseEnd.above_numbers.Goals as goal
+use Rattle.version_sets.proofs.NumberLaws.{from-lowest}
+use Rattle.version_sets.proofs.pre_release_end.PreReleaseEnd.above_numbers.Goals as goal
 
 pub returns-clause-meaning : goal.returns-clause-meaning
 returns-clause-meaning c = λ v kind.

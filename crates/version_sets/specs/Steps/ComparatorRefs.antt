@@ -6,20 +6,20 @@ use Rattle.semver_texts.specs.Texts.{Text}
 use Rattle.semver_texts.specs.Digits.{identifiers_by}
 use Rattle.semver_texts.specs.VersionViews.{identifier_value}
 use Rattle.version_sets.specs.Releases.{release_value}
-use Rattle.version_sets.specs.declared.intervals.ShownInterval.{ShownInterval}
-use Rattle.version_sets.specs.declared.intervals.Shown.{Shown}
+use Rattle.version_sets.specs.declared.comparators.IntervalComparators.{IntervalComparators}
+use Rattle.version_sets.specs.declared.comparators.ComparatorRef.{ComparatorRef}
 
-abbrev pub shown_value : Shown → PlainComparator
-shown_value s = comparator s.op (record (release_value s.numbers) {
+abbrev pub comparator_value : ComparatorRef → PlainComparator
+comparator_value s = comparator s.op (record (release_value s.numbers) {
   pre = identifiers_by s.digits (map identifier_value s.pre.now);
 })
 
-abbrev pub others_value : Option Shown → List PlainComparator
+abbrev pub others_value : Option ComparatorRef → List PlainComparator
 others_value None = []
-others_value (Some s) = shown_value s ∷ []
+others_value (Some s) = comparator_value s ∷ []
 
-abbrev pub interval_value : ShownInterval → List PlainComparator
-interval_value i = shown_value i.first ∷ others_value i.second
+abbrev pub interval_value : IntervalComparators → List PlainComparator
+interval_value i = comparator_value i.first ∷ others_value i.second
 
 -- the text of ranges that follow others, with ` || ` before each
 abbrev pub others_text : List PlainRange → Text

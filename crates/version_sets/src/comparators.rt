@@ -13,7 +13,7 @@ ghost use Rattle.version_sets.specs.DigitViews.{comparator_kept, range_kept};
 ghost use Rattle.version_sets.specs.SetRanges.{Kind, interval, intervals, is_lowest, is_same_end};
 ghost use Rattle.semver_versions.specs.ReadVersions.{read_plain};
 ghost use Rattle.version_sets.specs.SetRanges.{npm_range, pre_release_above};
-ghost use Rattle.version_sets.specs.Steps.ShownBounds.{interval_value, shown_value};
+ghost use Rattle.version_sets.specs.Steps.ComparatorRefs.{interval_value, comparator_value};
 
 use crate::boundary::Boundary;
 use crate::release::{Release, next_numbers};
@@ -27,18 +27,18 @@ use std::alloc::{AllocError, Global};
 
 /// A comparator of a boundary, whose identifiers are borrowed from it.
 #[derive(Drop)]
-pub(crate) struct Shown<'a> {
+pub(crate) struct ComparatorRef<'a> {
     pub(crate) op: Op,
     pub(crate) numbers: Release,
     pub(crate) pre: &'a [version::Identifier],
     pub(crate) digits: Digits,
 }
 
-impl Shown<'_> {
+impl ComparatorRef<'_> {
     /// Returns the comparator with identifiers that it owns. `Err` means out of memory.
     fn comparator(self, alloc: Global) -> Result<Comparator, AllocError>
         ensures { IfOk result
-            (λ made. comparator_of made ≡ comparator_kept (shown_value self.entry)) }
+            (λ made. comparator_of made ≡ comparator_kept (comparator_value self.entry)) }
     {
         Ok(Comparator {
             op: self.op,
@@ -61,12 +61,12 @@ pub(crate) trait Bound: Boundary {
             (kind.next (Self.place self.now)) };
 
     /// Returns the comparator with an operator and the boundary's version.
-    fn shown<'a>(&'a self, op: Op) -> Shown<'a>
-        ensures { shown_value result ≡ plain_comparator op (Self.place self.now) };
+    fn shown<'a>(&'a self, op: Op) -> ComparatorRef<'a>
+        ensures { comparator_value result ≡ plain_comparator op (Self.place self.now) };
 
     /// Returns the upper comparator of the interval from this boundary up to another.
-    fn shown_end<'a>(&self, to: &'a Self) -> Shown<'a>
-        ensures { shown_value result
+    fn shown_end<'a>(&self, to: &'a Self) -> ComparatorRef<'a>
+        ensures { comparator_value result
             ≡ plain_comparator Op.Lt (kind.end (Self.place self.now) (Self.place to.now)) };
 }
 
@@ -83,8 +83,8 @@ impl Bound for Release {
         }
     }
 
-    fn shown<'a>(&'a self, op: Op) -> Shown<'a> {
-        Shown {
+    fn shown<'a>(&'a self, op: Op) -> ComparatorRef<'a> {
+        ComparatorRef {
             op,
             numbers: *self,
             pre: &[],
@@ -92,7 +92,7 @@ impl Bound for Release {
         }
     }
 
-    fn shown_end<'a>(&self, to: &'a Release) -> Shown<'a> {
+    fn shown_end<'a>(&self, to: &'a Release) -> ComparatorRef<'a> {
         to.shown(Op::Lt)
     }
 }
@@ -111,8 +111,8 @@ impl Bound for ReadVersion {
         }
     }
 
-    fn shown<'a>(&'a self, op: Op) -> Shown<'a> {
-        Shown {
+    fn shown<'a>(&'a self, op: Op) -> ComparatorRef<'a> {
+        ComparatorRef {
             op,
             numbers: self.numbers(),
             pre: self.version.pre.as_slice(),
@@ -120,11 +120,11 @@ impl Bound for ReadVersion {
         }
     }
 
-    fn shown_end<'a>(&self, to: &'a ReadVersion) -> Shown<'a> {
+    fn shown_end<'a>(&self, to: &'a ReadVersion) -> ComparatorRef<'a> {
         if !begins_next_numbers(to, self) {
             return to.shown(Op::Lt);
         }
-        Shown {
+        ComparatorRef {
             op: Op::Lt,
             numbers: self.numbers(),
             pre: &[],
@@ -201,33 +201,33 @@ fn copy_of(identifier: &version::Identifier, digits: Digits) -> Result<Identifie
 
 /// The one or two comparators of an interval.
 #[derive(Drop)]
-pub(crate) struct ShownInterval<'a> {
-    pub(crate) first: Shown<'a>,
-    pub(crate) second: Option<Shown<'a>>,
+pub(crate) struct IntervalComparators<'a> {
+    pub(crate) first: ComparatorRef<'a>,
+    pub(crate) second: Option<ComparatorRef<'a>>,
 }
 
 /// Returns the comparators of the versions that are at or above one boundary, and below another if
 /// it is given. No version is below the lowest.
-fn interval_of<'a, T: Bound>(from: &'a T, to: Option<&'a T>) -> ShownInterval<'a>
+fn interval_of<'a, T: Bound>(from: &'a T, to: Option<&'a T>) -> IntervalComparators<'a>
     ensures { interval_value result ≡ interval T.kind (T.place from.now)
         (option_map (λ x. T.place x.now) to.entry) }
 {
     if from.is_alone(to) {
-        return ShownInterval {
+        return IntervalComparators {
             first: from.shown(Op::Eq),
             second: None,
         };
     }
     match to {
-        None => ShownInterval {
+        None => IntervalComparators {
             first: from.shown(Op::Gte),
             second: None,
         },
-        Some(to) if is_lowest(from) => ShownInterval {
+        Some(to) if is_lowest(from) => IntervalComparators {
             first: from.shown_end(to),
             second: None,
         },
-        Some(to) => ShownInterval {
+        Some(to) => IntervalComparators {
             first: from.shown(Op::Gte),
             second: Some(from.shown_end(to)),
         },
@@ -238,7 +238,7 @@ fn interval_of<'a, T: Bound>(from: &'a T, to: Option<&'a T>) -> ShownInterval<'a
 /// is no boundary.
 pub(crate) fn first_interval<'a, T: Bound>(
     boundaries: &'a [T],
-) -> Option<(ShownInterval<'a>, &'a [T])>
+) -> Option<(IntervalComparators<'a>, &'a [T])>
     ensures none { IfNone result (boundaries.entry.now ≡ []) }
     ensures first { IfSome result (λ found. intervals T.kind (map T.place boundaries.entry.now)
         ≡ npm_range (interval_value found.0) ∷ intervals T.kind (map T.place found.1.now)) }
@@ -251,7 +251,7 @@ pub(crate) fn first_interval<'a, T: Bound>(
     }
 }
 
-impl ShownInterval<'_> {
+impl IntervalComparators<'_> {
     /// Returns the interval as a range of comparators. `Err` means out of memory.
     fn range(self, alloc: Global) -> Result<Range, AllocError>
         ensures { IfOk result (λ range.

@@ -1,4 +1,4 @@
-// Made by tools/erase.py from crates/version_sets/src/borrowed_boundary.rt; not edited by hand.
+// Made by tools/erase.py from crates/version_sets/src/span_end.rt; not edited by hand.
 //! Boundaries of spans of versions, and those of releases.
 
 use crate::rattle_std::prelude::*;
@@ -8,7 +8,7 @@ use crate::rattle_std::AllocError;
 use crate::rattle_std::cmp::Ordering;
 
 /// The beginning or the end of a span of one kind of versions. It owns no memory.
-pub(crate) trait BorrowedBoundary: Copy {
+pub(crate) trait SpanEnd: Copy {
     /// The boundary as a set keeps it.
     type Boundary: Boundary;
 
@@ -19,7 +19,7 @@ pub(crate) trait BorrowedBoundary: Copy {
     fn boundary(&self) -> Result<Self::Boundary, AllocError>;
 }
 
-impl BorrowedBoundary for Release {
+impl SpanEnd for Release {
     type Boundary = Release;
 
     fn compare(&self, other: &Release) -> Ordering {

@@ -1,7 +1,7 @@
 use Rattle.std.proofs.Common.{◌≡◌, map, take}
 use Rattle.semver_texts.specs.Digits.{as_kept, identifier_by}
 use Rattle.semver_texts.specs.VersionViews.{identifier_value}
-use Rattle.version_sets.proofs.pre_release.kept.Given as goal
+use Rattle.version_sets.proofs.pre_release.kept_identifiers.Given as goal
 
 abbrev pub invariant-loop-identifier : goal.invariant-loop-identifier
 invariant-loop-identifier l = map identifier_value l.copies.items

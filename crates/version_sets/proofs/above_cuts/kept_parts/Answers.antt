@@ -5,7 +5,7 @@ use Rattle.semver_texts.proofs.PartRuns.{parts_pass}
 use Rattle.semver_texts.specs.Texts.{cut_at_dots}
 use Rattle.semver_texts.specs.VersionViews.{identifier_value}
 use Rattle.semver_ranges.specs.Partials.{kept}
-use Rattle.version_sets.proofs.pre_release_end.kept_parts.Goals as goal
+use Rattle.version_sets.proofs.above_cuts.kept_parts.Goals as goal
 
 pub text_of_parts-requires : goal.text_of_parts-requires
 text_of_parts-requires c = parts_pass c.args.pre.now c.requires

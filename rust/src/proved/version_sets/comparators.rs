@@ -1,4 +1,4 @@
-// Made by tools/erase.py from crates/version_sets/src/intervals.rt; not edited by hand.
+// Made by tools/erase.py from crates/version_sets/src/comparators.rt; not edited by hand.
 //! The intervals of a set's boundaries as ranges of comparators.
 
 use crate::rattle_std::prelude::*;
@@ -13,14 +13,14 @@ use crate::proved::semver_versions::version;
 use crate::rattle_std::AllocError;
 
 /// A comparator of a boundary, whose identifiers are borrowed from it.
-pub(crate) struct Shown<'a> {
+pub(crate) struct ComparatorRef<'a> {
     pub(crate) op: Op,
     pub(crate) numbers: Release,
     pub(crate) pre: &'a [version::Identifier],
     pub(crate) digits: Digits,
 }
 
-impl Shown<'_> {
+impl ComparatorRef<'_> {
     /// Returns the comparator with identifiers that it owns. `Err` means out of memory.
     fn comparator(self) -> Result<Comparator, AllocError> {
         Ok(Comparator {
@@ -40,10 +40,10 @@ pub(crate) trait Bound: Boundary {
     fn is_alone(&self, to: Option<&Self>) -> bool;
 
     /// Returns the comparator with an operator and the boundary's version.
-    fn shown<'a>(&'a self, op: Op) -> Shown<'a>;
+    fn shown<'a>(&'a self, op: Op) -> ComparatorRef<'a>;
 
     /// Returns the upper comparator of the interval from this boundary up to another.
-    fn shown_end<'a>(&self, to: &'a Self) -> Shown<'a>;
+    fn shown_end<'a>(&self, to: &'a Self) -> ComparatorRef<'a>;
 }
 
 impl Bound for Release {
@@ -55,8 +55,8 @@ impl Bound for Release {
         }
     }
 
-    fn shown<'a>(&'a self, op: Op) -> Shown<'a> {
-        Shown {
+    fn shown<'a>(&'a self, op: Op) -> ComparatorRef<'a> {
+        ComparatorRef {
             op,
             numbers: *self,
             pre: &[],
@@ -64,7 +64,7 @@ impl Bound for Release {
         }
     }
 
-    fn shown_end<'a>(&self, to: &'a Release) -> Shown<'a> {
+    fn shown_end<'a>(&self, to: &'a Release) -> ComparatorRef<'a> {
         to.shown(Op::Lt)
     }
 }
@@ -79,8 +79,8 @@ impl Bound for ReadVersion {
         }
     }
 
-    fn shown<'a>(&'a self, op: Op) -> Shown<'a> {
-        Shown {
+    fn shown<'a>(&'a self, op: Op) -> ComparatorRef<'a> {
+        ComparatorRef {
             op,
             numbers: self.numbers(),
             pre: self.version.pre.as_slice(),
@@ -88,11 +88,11 @@ impl Bound for ReadVersion {
         }
     }
 
-    fn shown_end<'a>(&self, to: &'a ReadVersion) -> Shown<'a> {
+    fn shown_end<'a>(&self, to: &'a ReadVersion) -> ComparatorRef<'a> {
         if !begins_next_numbers(to, self) {
             return to.shown(Op::Lt);
         }
-        Shown {
+        ComparatorRef {
             op: Op::Lt,
             numbers: self.numbers(),
             pre: &[],
@@ -152,30 +152,30 @@ fn copy_of(identifier: &version::Identifier, digits: Digits) -> Result<Identifie
 }
 
 /// The one or two comparators of an interval.
-pub(crate) struct ShownInterval<'a> {
-    pub(crate) first: Shown<'a>,
-    pub(crate) second: Option<Shown<'a>>,
+pub(crate) struct IntervalComparators<'a> {
+    pub(crate) first: ComparatorRef<'a>,
+    pub(crate) second: Option<ComparatorRef<'a>>,
 }
 
 /// Returns the comparators of the versions that are at or above one boundary, and below another if
 /// it is given. No version is below the lowest.
-fn interval_of<'a, T: Bound>(from: &'a T, to: Option<&'a T>) -> ShownInterval<'a> {
+fn interval_of<'a, T: Bound>(from: &'a T, to: Option<&'a T>) -> IntervalComparators<'a> {
     if from.is_alone(to) {
-        return ShownInterval {
+        return IntervalComparators {
             first: from.shown(Op::Eq),
             second: None,
         };
     }
     match to {
-        None => ShownInterval {
+        None => IntervalComparators {
             first: from.shown(Op::Gte),
             second: None,
         },
-        Some(to) if is_lowest(from) => ShownInterval {
+        Some(to) if is_lowest(from) => IntervalComparators {
             first: from.shown_end(to),
             second: None,
         },
-        Some(to) => ShownInterval {
+        Some(to) => IntervalComparators {
             first: from.shown(Op::Gte),
             second: Some(from.shown_end(to)),
         },
@@ -186,7 +186,7 @@ fn interval_of<'a, T: Bound>(from: &'a T, to: Option<&'a T>) -> ShownInterval<'a
 /// is no boundary.
 pub(crate) fn first_interval<'a, T: Bound>(
     boundaries: &'a [T],
-) -> Option<(ShownInterval<'a>, &'a [T])> {
+) -> Option<(IntervalComparators<'a>, &'a [T])> {
     match boundaries {
         [] => None,
         [from] => Some((interval_of(from, None), &[])),
@@ -194,7 +194,7 @@ pub(crate) fn first_interval<'a, T: Bound>(
     }
 }
 
-impl ShownInterval<'_> {
+impl IntervalComparators<'_> {
     /// Returns the interval as a range of comparators. `Err` means out of memory.
     fn range(self) -> Result<Range, AllocError> {
         let first = self.first.comparator()?;

@@ -5,9 +5,9 @@ use Rattle.semver_texts.specs.Precedence.{precedence}
 use Rattle.semver_texts.specs.Texts.{cut_at_dots, is_empty}
 use Rattle.semver_ranges.specs.Partials.{kept}
 use Rattle.version_sets.specs.Releases.{release_value}
-use Rattle.version_sets.proofs.BoundLaws.{from-lowest}
+use Rattle.version_sets.proofs.NumberLaws.{from-lowest}
 use Rattle.version_sets.proofs.EndLaws.{by_first, end_prints, past_end}
-use Rattle.version_sets.proofs.pre_release_place.PreReleaseEnd.first.Goals as goal
+use Rattle.version_sets.proofs.pre_release_end.PreReleaseEnd.first.Goals as goal
 
 pub returns-in-Below-clause-meaning : goal.returns-in-Below-clause-meaning
 returns-in-Below-clause-meaning c = λ v kind. rw c.in-Below.is

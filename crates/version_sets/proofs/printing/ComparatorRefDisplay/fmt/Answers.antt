@@ -10,7 +10,7 @@ use Rattle.semver_texts.specs.Texts.{Text, marked}
 use Rattle.semver_texts.specs.VersionViews.{identifier_value}
 use Rattle.semver_texts.specs.declared.version.Identifier.{Identifier}
 use Rattle.version_sets.proofs.WrittenSets.{same_texts}
-use Rattle.version_sets.proofs.printing.ShownDisplay.fmt.Goals as goal
+use Rattle.version_sets.proofs.printing.ComparatorRefDisplay.fmt.Goals as goal
 
 pub returns-clause-writes : goal.returns-clause-writes
 returns-clause-writes g c = λ plain ok.

@@ -12,7 +12,7 @@ use std::alloc::{AllocError, Global};
 use std::cmp::Ordering;
 
 /// The beginning or the end of a span of one kind of versions. It owns no memory.
-pub(crate) trait BorrowedBoundary: Copy {
+pub(crate) trait SpanEnd: Copy {
     /// The boundary as a set keeps it.
     type Boundary: Boundary;
 
@@ -30,7 +30,7 @@ pub(crate) trait BorrowedBoundary: Copy {
         ensures kind { IfOk result (λ _. IsOfKind (place self.now)) };
 }
 
-impl BorrowedBoundary for Release {
+impl SpanEnd for Release {
     type Boundary = Release;
 
     ghost place = { release_value };

@@ -3,7 +3,7 @@ use Rattle.std.proofs.lemmas.List.{take_all}
 use Rattle.semver_texts.specs.Digits.{as_kept, identifier_by}
 use Rattle.semver_texts.specs.VersionViews.{identifier_value}
 use Rattle.version_sets.proofs.DigitLaws.{kept_each}
-use Rattle.version_sets.proofs.pre_release.kept.Goals as goal
+use Rattle.version_sets.proofs.pre_release.kept_identifiers.Goals as goal
 
 pub returns : goal.returns
 returns c =
