@@ -150,8 +150,6 @@ impl<'text> SpanEnd for PreReleaseEnd<'text> {
 
     ghost place = { end_place };
 
-    ghost IsOfKind = { IsPreRelease };
-
     fn compare(&self, other: &PreReleaseEnd<'text>) -> Ordering {
         let turns = self.numbers.compare(&other.numbers);
         if !turns.is_eq() {

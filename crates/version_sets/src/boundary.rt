@@ -1,12 +1,17 @@
 //! The trait of both kinds of boundaries: they have a position in the order of precedence.
 
-ghost use Rattle.std.specs.Prelude.{◌≡◌, [], Bool, IfOk};
+ghost use Rattle.std.specs.Prelude.{◌≡◌, [], Bool, IfOk, option_map};
+ghost use Rattle.semver_ranges.specs.RewritingTable.{comparator as plain_comparator};
 ghost use Rattle.semver_texts.specs.Versions.{PlainVersion};
 ghost use Rattle.semver_texts.specs.Precedence.{precedence};
 ghost use Rattle.version_sets.specs.Releases.{release_value};
-ghost use Rattle.version_sets.specs.SetRanges.{is_lowest_pre};
+ghost use Rattle.version_sets.specs.SetRanges.{Kind, is_lowest_pre, is_same_end};
+ghost use Rattle.version_sets.specs.Steps.ComparatorRefs.{comparator_value};
 
-use crate::release::Release;
+use crate::comparators::ComparatorRef;
+use crate::release::{Release, next_numbers};
+use semver_ranges::Op;
+use semver_texts::grammar::Digits;
 use std::alloc::{AllocError, Global};
 use std::cmp::Ordering;
 
@@ -15,7 +20,9 @@ use std::cmp::Ordering;
 pub(crate) trait Boundary: Drop {
     ghost place: { Self → PlainVersion };
 
-    ghost of_releases: { Bool };
+    ghost are_releases: { Bool };
+
+    ghost kind: { Kind };
 
     /// Compares two boundaries by precedence.
     fn compare(&self, other: &Self) -> Ordering
@@ -32,15 +39,33 @@ pub(crate) trait Boundary: Drop {
     /// Returns whether its version has no pre-release, or only the lowest, `0`.
     fn has_lowest_pre(&self) -> bool
         ensures { result ≡ is_lowest_pre (place self.now).pre };
+
+    /// Returns whether the boundary's version is the only one of its kind that is at or above it
+    /// and below `to`, if `to` is given.
+    fn is_alone(&self, to: Option<&Self>) -> bool
+        ensures { result ≡ is_same_end (option_map (λ x. Self.place x.now) to.entry)
+            (kind.next (Self.place self.now)) };
+
+    /// Returns the comparator with an operator and the boundary's version.
+    fn comparator<'a>(&'a self, op: Op) -> ComparatorRef<'a>
+        ensures { comparator_value result ≡ plain_comparator op (Self.place self.now) };
+
+    /// Returns the upper comparator of the interval from this boundary up to another.
+    fn upper_comparator<'a>(&self, to: &'a Self) -> ComparatorRef<'a>
+        ensures { comparator_value result
+            ≡ plain_comparator Op.Lt (kind.end (Self.place self.now) (Self.place to.now)) };
 }
 
 impl Boundary for Release {
     ghost use Rattle.std.specs.Prelude.{true};
     ghost use Rattle.version_sets.specs.Releases.{release_value};
+    ghost use Rattle.version_sets.specs.SetRanges.{of_releases};
 
     ghost place = { release_value };
 
-    ghost of_releases = { true };
+    ghost are_releases = { true };
+
+    ghost kind = { of_releases };
 
     fn compare(&self, other: &Release) -> Ordering {
         self.cmp(other)
@@ -57,5 +82,26 @@ impl Boundary for Release {
 
     fn has_lowest_pre(&self) -> bool {
         true
+    }
+
+    fn is_alone(&self, to: Option<&Release>) -> bool {
+        match (to, next_numbers(*self)) {
+            (Some(to), Some(next)) => to.compare(&next).is_eq(),
+            (None, None) => true,
+            _ => false,
+        }
+    }
+
+    fn comparator<'a>(&'a self, op: Op) -> ComparatorRef<'a> {
+        ComparatorRef {
+            op,
+            numbers: *self,
+            pre: &[],
+            digits: Digits::Kept,
+        }
+    }
+
+    fn upper_comparator<'a>(&self, to: &'a Release) -> ComparatorRef<'a> {
+        to.comparator(Op::Lt)
     }
 }

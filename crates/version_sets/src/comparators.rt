@@ -1,27 +1,18 @@
-//! The intervals of a set's boundaries as ranges of comparators.
+//! The comparators of a set: one range for each interval between its boundaries.
 
-ghost use Rattle.std.specs.Prelude.{◌≡◌, ◌<◌, ◌++◌, ◌∷◌, [], length, map, option_map, Option, Some};
+ghost use Rattle.std.specs.Prelude.{◌≡◌, ◌<◌, ◌∷◌, [], length, map, option_map};
 ghost use Rattle.std.specs.Prelude.{IfOk, IfErr, IfNone, IfSome};
-ghost use Rattle.std.specs.Ordering.{is_eq};
-ghost use Rattle.semver_texts.specs.Precedence.{pre_cmp};
 ghost use Rattle.semver_ranges.specs.RangeViews.{comparator_of, identifier_of, range_of};
-ghost use Rattle.semver_ranges.specs.RewritingTable.{comparator as plain_comparator};
-ghost use Rattle.semver_texts.specs.Versions.{numeric, PlainVersion};
 ghost use Rattle.semver_texts.specs.VersionViews.{identifier_value};
 ghost use Rattle.semver_texts.specs.Digits.{as_kept, identifier_by, identifiers_by};
 ghost use Rattle.version_sets.specs.DigitViews.{comparator_kept, range_kept};
-ghost use Rattle.version_sets.specs.SetRanges.{Kind, interval, intervals, is_lowest, is_same_end};
-ghost use Rattle.semver_versions.specs.ReadVersions.{read_plain};
-ghost use Rattle.version_sets.specs.SetRanges.{npm_range, pre_release_above};
+ghost use Rattle.version_sets.specs.SetRanges.{interval, intervals, is_lowest, npm_range};
 ghost use Rattle.version_sets.specs.Steps.ComparatorRefs.{interval_value, comparator_value};
 
 use crate::boundary::Boundary;
-use crate::release::{Release, next_numbers};
-use crate::successor::Successor;
+use crate::release::Release;
 use semver_ranges::{Comparator, Compat, Identifier, Op, Range};
 use semver_texts::grammar::Digits;
-use semver_texts::precedence::compare_pre_releases;
-use semver_versions::read_version::ReadVersion;
 use semver_versions::version;
 use std::alloc::{AllocError, Global};
 
@@ -36,7 +27,7 @@ pub(crate) struct ComparatorRef<'a> {
 
 impl ComparatorRef<'_> {
     /// Returns the comparator with identifiers that it owns. `Err` means out of memory.
-    fn comparator(self, alloc: Global) -> Result<Comparator, AllocError>
+    fn owned(self, alloc: Global) -> Result<Comparator, AllocError>
         ensures { IfOk result
             (λ made. comparator_of made ≡ comparator_kept (comparator_value self.entry)) }
     {
@@ -50,122 +41,12 @@ impl ComparatorRef<'_> {
     }
 }
 
-/// A boundary as a bound of an interval.
-pub(crate) trait Bound: Boundary {
-    ghost kind: { Kind };
-
-    /// Returns whether the boundary's version is the only one of its kind that is at or above it
-    /// and below `to`, if `to` is given.
-    fn is_alone(&self, to: Option<&Self>) -> bool
-        ensures { result ≡ is_same_end (option_map (λ x. Self.place x.now) to.entry)
-            (kind.next (Self.place self.now)) };
-
-    /// Returns the comparator with an operator and the boundary's version.
-    fn shown<'a>(&'a self, op: Op) -> ComparatorRef<'a>
-        ensures { comparator_value result ≡ plain_comparator op (Self.place self.now) };
-
-    /// Returns the upper comparator of the interval from this boundary up to another.
-    fn shown_end<'a>(&self, to: &'a Self) -> ComparatorRef<'a>
-        ensures { comparator_value result
-            ≡ plain_comparator Op.Lt (kind.end (Self.place self.now) (Self.place to.now)) };
-}
-
-impl Bound for Release {
-    ghost use Rattle.version_sets.specs.SetRanges.{of_releases};
-
-    ghost kind = { of_releases };
-
-    fn is_alone(&self, to: Option<&Release>) -> bool {
-        match (to, next_numbers(*self)) {
-            (Some(to), Some(next)) => to.compare(&next).is_eq(),
-            (None, None) => true,
-            _ => false,
-        }
-    }
-
-    fn shown<'a>(&'a self, op: Op) -> ComparatorRef<'a> {
-        ComparatorRef {
-            op,
-            numbers: *self,
-            pre: &[],
-            digits: Digits::Kept,
-        }
-    }
-
-    fn shown_end<'a>(&self, to: &'a Release) -> ComparatorRef<'a> {
-        to.shown(Op::Lt)
-    }
-}
-
-impl Bound for ReadVersion {
-    ghost use Rattle.version_sets.specs.SetRanges.{of_pre_releases};
-
-    ghost kind = { of_pre_releases };
-
-    fn is_alone(&self, to: Option<&ReadVersion>) -> bool {
-        match to {
-            Some(to) => {
-                to.numbers().compare(&self.numbers()).is_eq() && are_right_above(to, self)
-            }
-            None => false,
-        }
-    }
-
-    fn shown<'a>(&'a self, op: Op) -> ComparatorRef<'a> {
-        ComparatorRef {
-            op,
-            numbers: self.numbers(),
-            pre: self.version.pre.as_slice(),
-            digits: self.digits,
-        }
-    }
-
-    fn shown_end<'a>(&self, to: &'a ReadVersion) -> ComparatorRef<'a> {
-        if !begins_next_numbers(to, self) {
-            return to.shown(Op::Lt);
-        }
-        ComparatorRef {
-            op: Op::Lt,
-            numbers: self.numbers(),
-            pre: &[],
-            digits: Digits::Kept,
-        }
-    }
-}
-
-/// Returns whether a boundary is at the lowest pre-release of the numbers right above another's.
-fn begins_next_numbers(boundary: &ReadVersion, below: &ReadVersion) -> bool
-    ensures { result ≡ is_same_end (Some (read_plain boundary.now))
-        (pre_release_above (read_plain below.now)) }
-{
-    match next_numbers(below.numbers()) {
-        Some(next) => {
-            boundary.numbers().compare(&next).is_eq()
-                && !boundary.version.pre.is_empty()
-                && boundary.has_lowest_pre()
-        }
-        None => false,
-    }
-}
-
 /// Returns whether a boundary is at the lowest version of its kind.
 pub(crate) fn is_lowest<T: Boundary>(boundary: &T) -> bool
     ensures { result ≡ is_lowest (T.place boundary.now) }
 {
     let numbers = boundary.numbers();
     numbers.major == 0 && numbers.minor == 0 && numbers.patch == 0 && boundary.has_lowest_pre()
-}
-
-/// Returns whether the identifiers of a boundary are another's followed by the number 0.
-fn are_right_above(boundary: &ReadVersion, below: &ReadVersion) -> bool
-    ensures { result ≡ is_eq (pre_cmp (read_plain boundary.now).pre
-        ((read_plain below.now).pre ++ numeric 0 ∷ [])) }
-{
-    let above = Successor {
-        identifiers: below.pre(),
-        zero: true,
-    };
-    compare_pre_releases(boundary.pre(), above).is_eq()
 }
 
 /// Copies identifiers of a version, read as `digits` says, as identifiers of a range. `Err` means
@@ -208,35 +89,35 @@ pub(crate) struct IntervalComparators<'a> {
 
 /// Returns the comparators of the versions that are at or above one boundary, and below another if
 /// it is given. No version is below the lowest.
-fn interval_of<'a, T: Bound>(from: &'a T, to: Option<&'a T>) -> IntervalComparators<'a>
+fn interval_of<'a, T: Boundary>(from: &'a T, to: Option<&'a T>) -> IntervalComparators<'a>
     ensures { interval_value result ≡ interval T.kind (T.place from.now)
         (option_map (λ x. T.place x.now) to.entry) }
 {
     if from.is_alone(to) {
         return IntervalComparators {
-            first: from.shown(Op::Eq),
+            first: from.comparator(Op::Eq),
             second: None,
         };
     }
     match to {
         None => IntervalComparators {
-            first: from.shown(Op::Gte),
+            first: from.comparator(Op::Gte),
             second: None,
         },
         Some(to) if is_lowest(from) => IntervalComparators {
-            first: from.shown_end(to),
+            first: from.upper_comparator(to),
             second: None,
         },
         Some(to) => IntervalComparators {
-            first: from.shown(Op::Gte),
-            second: Some(from.shown_end(to)),
+            first: from.comparator(Op::Gte),
+            second: Some(from.upper_comparator(to)),
         },
     }
 }
 
 /// Returns the first interval of boundaries, and the boundaries that follow it, or `None` if there
 /// is no boundary.
-pub(crate) fn first_interval<'a, T: Bound>(
+pub(crate) fn first_interval<'a, T: Boundary>(
     boundaries: &'a [T],
 ) -> Option<(IntervalComparators<'a>, &'a [T])>
     ensures none { IfNone result (boundaries.entry.now ≡ []) }
@@ -257,10 +138,10 @@ impl IntervalComparators<'_> {
         ensures { IfOk result (λ range.
             range_of range ≡ range_kept (npm_range (interval_value self.entry))) }
     {
-        let first = self.first.comparator(alloc)?;
+        let first = self.first.owned(alloc)?;
         let comparator_set = match self.second {
             None => vec![in alloc; first]?,
-            Some(second) => vec![in alloc; first, second.comparator(alloc)?]?,
+            Some(second) => vec![in alloc; first, second.owned(alloc)?]?,
         };
         Ok(Range {
             comparator_set,
@@ -271,7 +152,10 @@ impl IntervalComparators<'_> {
 
 /// Returns the ranges of increasing boundaries in npm mode, one for each interval. It allocates
 /// only if there is a boundary. `Err` means out of memory.
-pub(crate) fn ranges_of<T: Bound>(alloc: Global, boundaries: &[T]) -> Result<Vec<Range>, AllocError>
+pub(crate) fn ranges_of<T: Boundary>(
+    alloc: Global,
+    boundaries: &[T],
+) -> Result<Vec<Range>, AllocError>
     ensures ranges { IfOk result (λ ranges.
         map range_of ranges.items
         ≡ map range_kept (intervals T.kind (map T.place boundaries.now))) }

@@ -1,14 +1,22 @@
 //! Boundaries of pre-releases.
 
-ghost use Rattle.std.specs.Prelude.{◌≡◌, [], map, IfOk};
+ghost use Rattle.std.specs.Prelude.{◌≡◌, ◌++◌, ◌∷◌, [], map, IfOk, Some};
+ghost use Rattle.std.specs.Ordering.{is_eq};
+ghost use Rattle.semver_texts.specs.Precedence.{pre_cmp};
+ghost use Rattle.semver_texts.specs.Versions.{numeric};
+ghost use Rattle.version_sets.specs.SetRanges.{is_same_end, pre_release_above};
 ghost use Rattle.semver_texts.specs.Digits.{as_kept, identifier_by, identifiers_by, plain_kept};
 ghost use Rattle.semver_texts.specs.VersionViews.{identifier_value, version_value};
 ghost use Rattle.semver_versions.specs.ReadVersions.{read_plain};
 
 use crate::boundary::Boundary;
-use crate::release::Release;
+use crate::comparators::ComparatorRef;
+use crate::release::{Release, next_numbers};
 use crate::set_ranges::is_lowest_pre;
+use crate::successor::Successor;
+use semver_ranges::Op;
 use semver_texts::grammar::Digits;
+use semver_texts::precedence::compare_pre_releases;
 use semver_versions::read_version::ReadVersion;
 use semver_versions::version::{Identifier, Version};
 use std::alloc::{AllocError, Global};
@@ -17,11 +25,14 @@ use std::cmp::Ordering;
 /// A boundary of pre-releases: a version, and how its numeric identifiers are read.
 impl Boundary for ReadVersion {
     ghost use Rattle.std.specs.Prelude.{false};
+    ghost use Rattle.version_sets.specs.SetRanges.{of_pre_releases};
     ghost use Rattle.semver_versions.specs.ReadVersions.{read_plain};
 
     ghost place = { read_plain };
 
-    ghost of_releases = { false };
+    ghost are_releases = { false };
+
+    ghost kind = { of_pre_releases };
 
     fn compare(&self, other: &ReadVersion) -> Ordering {
         self.compare_read(other)
@@ -40,6 +51,63 @@ impl Boundary for ReadVersion {
     fn has_lowest_pre(&self) -> bool {
         is_lowest_pre(&self.version.pre)
     }
+
+    fn is_alone(&self, to: Option<&ReadVersion>) -> bool {
+        match to {
+            Some(to) => {
+                to.numbers().compare(&self.numbers()).is_eq() && are_right_above(to, self)
+            }
+            None => false,
+        }
+    }
+
+    fn comparator<'a>(&'a self, op: Op) -> ComparatorRef<'a> {
+        ComparatorRef {
+            op,
+            numbers: self.numbers(),
+            pre: self.version.pre.as_slice(),
+            digits: self.digits,
+        }
+    }
+
+    fn upper_comparator<'a>(&self, to: &'a ReadVersion) -> ComparatorRef<'a> {
+        if !begins_next_numbers(to, self) {
+            return to.comparator(Op::Lt);
+        }
+        ComparatorRef {
+            op: Op::Lt,
+            numbers: self.numbers(),
+            pre: &[],
+            digits: Digits::Kept,
+        }
+    }
+}
+
+/// Returns whether a boundary is at the lowest pre-release of the numbers right above another's.
+fn begins_next_numbers(boundary: &ReadVersion, below: &ReadVersion) -> bool
+    ensures { result ≡ is_same_end (Some (read_plain boundary.now))
+        (pre_release_above (read_plain below.now)) }
+{
+    match next_numbers(below.numbers()) {
+        Some(next) => {
+            boundary.numbers().compare(&next).is_eq()
+                && !boundary.version.pre.is_empty()
+                && boundary.has_lowest_pre()
+        }
+        None => false,
+    }
+}
+
+/// Returns whether the identifiers of a boundary are another's followed by the number 0.
+fn are_right_above(boundary: &ReadVersion, below: &ReadVersion) -> bool
+    ensures { result ≡ is_eq (pre_cmp (read_plain boundary.now).pre
+        ((read_plain below.now).pre ++ numeric 0 ∷ [])) }
+{
+    let above = Successor {
+        identifiers: below.pre(),
+        zero: true,
+    };
+    compare_pre_releases(boundary.pre(), above).is_eq()
 }
 
 /// Returns the version as a `Version` keeps it, without build metadata. `Err` means out of memory.

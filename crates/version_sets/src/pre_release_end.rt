@@ -1,4 +1,4 @@
-//! Boundaries of spans of pre-releases.
+//! Ends of spans of pre-releases.
 
 ghost use Rattle.std.specs.Prelude.{◌≡◌, true};
 ghost use Rattle.std.specs.List.{list_all};

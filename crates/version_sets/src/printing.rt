@@ -5,7 +5,8 @@ ghost use Rattle.std.specs.Fmt.{WritesOnOk};
 ghost use Rattle.version_sets.specs.SetRanges.{intervals, is_whole, npm_set, ranges_text};
 ghost use Rattle.version_sets.specs.Steps.ComparatorRefs.{others_text};
 
-use crate::comparators::{Bound, ComparatorRef, IntervalComparators, first_interval, is_lowest};
+use crate::boundary::Boundary;
+use crate::comparators::{ComparatorRef, IntervalComparators, first_interval, is_lowest};
 use crate::version_set::VersionSet;
 use semver_texts::printing::write_part;
 use std::fmt;
@@ -79,7 +80,10 @@ impl fmt::Display for VersionSet {
 
 /// Writes the intervals of increasing boundaries as a range in npm mode, separated by ` || `: `*`
 /// if they contain all versions of the kind, and `<0.0.0-0` if they contain none.
-fn write_ranges<W: fmt::Write, T: Bound>(f: &mut fmt::Formatter<W>, boundaries: &[T]) -> fmt::Result
+fn write_ranges<W: fmt::Write, T: Boundary>(
+    f: &mut fmt::Formatter<W>,
+    boundaries: &[T],
+) -> fmt::Result
     ensures { WritesOnOk W.write_str_gives f.old result
         (ranges_text (npm_set (intervals T.kind (map T.place boundaries.now)))) f.new }
 {
@@ -94,7 +98,10 @@ fn write_ranges<W: fmt::Write, T: Bound>(f: &mut fmt::Formatter<W>, boundaries: 
 }
 
 /// Writes intervals, each after ` || `.
-fn write_others<W: fmt::Write, T: Bound>(f: &mut fmt::Formatter<W>, boundaries: &[T]) -> fmt::Result
+fn write_others<W: fmt::Write, T: Boundary>(
+    f: &mut fmt::Formatter<W>,
+    boundaries: &[T],
+) -> fmt::Result
     ensures { WritesOnOk W.write_str_gives f.old result
         (others_text (intervals T.kind (map T.place boundaries.now))) f.new }
 {
@@ -108,7 +115,7 @@ fn write_others<W: fmt::Write, T: Bound>(f: &mut fmt::Formatter<W>, boundaries: 
 
 /// Returns whether the intervals contain all versions of a kind. The last release of all has no
 /// upper bound either, but it is written as a single version.
-fn is_whole<T: Bound>(boundaries: &[T]) -> bool
+fn is_whole<T: Boundary>(boundaries: &[T]) -> bool
     ensures { result ≡ is_whole (intervals T.kind (map T.place boundaries.now)) }
 {
     match boundaries {

@@ -1,9 +1,9 @@
-//! Boundaries of spans of versions, and those of releases.
+//! The trait of both kinds of ends of spans.
 
 ghost use Rattle.std.specs.Prelude.{◌≡◌, IfOk};
 ghost use Rattle.semver_texts.specs.Precedence.{precedence};
 ghost use Rattle.semver_texts.specs.Versions.{PlainVersion};
-ghost use Rattle.version_sets.specs.VersionSets.{IsRelease};
+ghost use Rattle.version_sets.specs.Steps.Places.{IsOfKind};
 ghost use Rattle.version_sets.specs.Releases.{release_value};
 
 use crate::boundary::Boundary;
@@ -18,24 +18,20 @@ pub(crate) trait SpanEnd: Copy {
 
     ghost place: { Self → PlainVersion };
 
-    ghost IsOfKind: { PlainVersion → Type 0 };
-
-    /// Compares two boundaries by precedence.
+    /// Compares two ends by precedence.
     fn compare(&self, other: &Self) -> Ordering
         ensures { result ≡ precedence (place self.now) (place other.now) };
 
     /// Returns the boundary at the same position. `Err` means out of memory.
     fn boundary(&self, alloc: Global) -> Result<Self::Boundary, AllocError>
         ensures same { IfOk result (λ boundary. Self.Boundary.place boundary ≡ place self.now) }
-        ensures kind { IfOk result (λ _. IsOfKind (place self.now)) };
+        ensures kind { IfOk result (λ _. IsOfKind Self.Boundary.are_releases (place self.now)) };
 }
 
 impl SpanEnd for Release {
     type Boundary = Release;
 
     ghost place = { release_value };
-
-    ghost IsOfKind = { IsRelease };
 
     fn compare(&self, other: &Release) -> Ordering {
         self.cmp(other)

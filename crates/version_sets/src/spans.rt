@@ -9,6 +9,7 @@ ghost use Rattle.semver_texts.specs.Precedence.{precedence};
 ghost use Rattle.version_sets.specs.Boundaries.{is_inside};
 ghost use Rattle.version_sets.specs.declared.spans.Span.{Span};
 ghost use Rattle.version_sets.specs.VersionSets.{AreBoundaries};
+ghost use Rattle.version_sets.specs.Steps.Places.{IsOfKind};
 ghost use Rattle.version_sets.specs.Steps.Spans.{is_in, IsSpan, later, earlier};
 ghost use Rattle.version_sets.specs.Steps.Spans.{is_below, span_boundaries, all_joined, some_empty};
 ghost use Rattle.version_sets.specs.Steps.Spans.{in_some};
@@ -18,8 +19,7 @@ ghost use Rattle.version_sets.specs.Steps.SpanViews.{bounds_hold, spans_hold};
 use crate::span_end::SpanEnd;
 use std::alloc::{AllocError, Global};
 
-/// The versions at or above one boundary and below another. `None` is a boundary above all
-/// versions.
+/// The versions at or above one end and below another. `None` is above all versions.
 #[derive(Clone, Copy)]
 pub(crate) struct Bounds<L> {
     /// The beginning.
@@ -28,8 +28,8 @@ pub(crate) struct Bounds<L> {
     pub to: Option<L>,
 }
 
-/// The versions at or above one boundary, and below another if there is one. The second is above
-/// the first.
+/// The versions at or above one end, and below another if there is one. The second is above the
+/// first.
 #[derive(Clone, Copy)]
 pub(crate) struct Span<L> {
     /// The beginning.
@@ -38,7 +38,7 @@ pub(crate) struct Span<L> {
     pub to: Option<L>,
 }
 
-/// Returns the higher of two boundaries. `None` is above all versions.
+/// Returns the higher of two ends. `None` is above all versions.
 fn later<L: SpanEnd>(first: Option<L>, second: Option<L>) -> Option<L>
     ensures { option_map L.place result
         ≡ later precedence (option_map L.place first) (option_map L.place second) }
@@ -51,7 +51,7 @@ fn later<L: SpanEnd>(first: Option<L>, second: Option<L>) -> Option<L>
     })
 }
 
-/// Returns the lower of two boundaries. `None` is above all versions.
+/// Returns the lower of two ends. `None` is above all versions.
 fn earlier<L: SpanEnd>(first: Option<L>, second: Option<L>) -> Option<L>
     ensures { option_map L.place result
         ≡ earlier precedence (option_map L.place first) (option_map L.place second) }
@@ -83,7 +83,7 @@ impl<L: SpanEnd> Bounds<L> {
         }
     }
 
-    /// Returns the span of the versions, if there is anything between the boundaries.
+    /// Returns the span of the versions, if there is anything between the bounds.
     fn span(self) -> Option<Span<L>>
         ensures meaning { MatchOption result ((v : PlainVersion) → is_within L.place self v ≡ false)
             (λ span. IsSpan precedence (span_value L.place span) × ((v : PlainVersion)
@@ -100,7 +100,7 @@ impl<L: SpanEnd> Bounds<L> {
         Some(Span { from, to: self.to })
     }
 
-    /// Adds the span of the versions to others, if there is anything between the boundaries. `Err`
+    /// Adds the span of the versions to others, if there is anything between the bounds. `Err`
     /// means out of memory.
     pub(crate) fn push_to(self, spans: &mut Vec<Span<L>>) -> Result<(), AllocError>
         ensures spans { some_empty precedence (map (span_value L.place) spans.old.items) ≡ false
@@ -121,7 +121,7 @@ impl<L: SpanEnd> Bounds<L> {
     /// Returns the boundaries of the versions. `Err` means out of memory.
     pub(crate) fn boundaries(self, alloc: Global) -> Result<Vec<L::Boundary>, AllocError>
         ensures boundaries { IfOk result (λ boundaries.
-            AreBoundaries L.IsOfKind (map L.Boundary.place boundaries.items)) }
+            AreBoundaries (IsOfKind L.Boundary.are_releases) (map L.Boundary.place boundaries.items)) }
         ensures meaning { IfOk result (λ boundaries. (v : PlainVersion)
             → is_inside precedence (map L.Boundary.place boundaries.items) v
             ≡ is_within L.place self v) }
@@ -142,7 +142,7 @@ pub(crate) fn boundaries_of<L: SpanEnd>(
 ) -> Result<Vec<L::Boundary>, AllocError>
     requires { some_empty precedence (map (span_value L.place) spans.old) ≡ false }
     ensures boundaries { IfOk result (λ boundaries.
-        AreBoundaries L.IsOfKind (map L.Boundary.place boundaries.items)) }
+        AreBoundaries (IsOfKind L.Boundary.are_releases) (map L.Boundary.place boundaries.items)) }
     ensures meaning { IfOk result (λ boundaries. (v : PlainVersion)
         → is_inside precedence (map L.Boundary.place boundaries.items) v
         ≡ in_some precedence (map (span_value L.place) spans.old) v) }
@@ -160,7 +160,7 @@ pub(crate) fn boundaries_of<L: SpanEnd>(
 /// Returns the boundaries of ascending spans. `Err` means out of memory.
 fn joined<L: SpanEnd>(alloc: Global, spans: &[Span<L>]) -> Result<Vec<L::Boundary>, AllocError>
     ensures { IfOk result (λ boundaries.
-        AllByRecursion L.IsOfKind (map L.Boundary.place boundaries.items)
+        AllByRecursion (IsOfKind L.Boundary.are_releases) (map L.Boundary.place boundaries.items)
         × (map L.Boundary.place boundaries.items
         ≡ all_joined precedence (map (span_value L.place) spans.now))) }
 {
@@ -181,7 +181,7 @@ fn joined<L: SpanEnd>(alloc: Global, spans: &[Span<L>]) -> Result<Vec<L::Boundar
     Ok(boundaries)
 }
 
-/// Returns whether there is an end, and it is below a boundary.
+/// Returns whether there is an end, and it is below another.
 fn is_apart<L: SpanEnd>(end: Option<L>, boundary: &L) -> bool
     ensures { result ≡ is_below precedence (option_map L.place end) (L.place boundary.now) }
 {
@@ -198,8 +198,8 @@ fn push_boundaries<L: SpanEnd>(
     boundaries: &mut Vec<L::Boundary>,
 ) -> Result<(), AllocError>
     ensures kind { IfOk result (λ _.
-        AllByRecursion L.IsOfKind (map L.Boundary.place boundaries.old.items)
-        → AllByRecursion L.IsOfKind (map L.Boundary.place boundaries.new.items)) }
+        AllByRecursion (IsOfKind L.Boundary.are_releases) (map L.Boundary.place boundaries.old.items)
+        → AllByRecursion (IsOfKind L.Boundary.are_releases) (map L.Boundary.place boundaries.new.items)) }
     ensures boundaries { IfOk result (λ _. map L.Boundary.place boundaries.new.items
         ≡ map L.Boundary.place boundaries.old.items
         ++ span_boundaries precedence (span_value L.place span.now)) }

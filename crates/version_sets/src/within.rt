@@ -11,7 +11,8 @@ ghost use Rattle.version_sets.specs.Releases.{release_value};
 ghost use Rattle.version_sets.specs.VersionSets.{AreBoundaries};
 ghost use Rattle.version_sets.specs.Steps.Numbers.{numbers_cmp};
 ghost use Rattle.version_sets.specs.Steps.Within.{AreFirstNumbers, IsFirstFrom, IsFirstInside};
-ghost use Rattle.version_sets.specs.Steps.Within.{IsOfKind, IsOfKindWithin, first_value};
+ghost use Rattle.version_sets.specs.Steps.Within.{IsOfKindWithin, first_value};
+ghost use Rattle.version_sets.specs.Steps.Places.{IsOfKind};
 
 use crate::boundary::Boundary;
 use crate::pre_release::kept_version;
@@ -32,7 +33,7 @@ pub(crate) struct First<'a, T> {
 impl<'a, T: Boundary> First<'a, T> {
     /// Returns the version of a boundary, if one is given.
     pub(crate) fn at(boundary: Option<&'a T>) -> Option<First<'a, T>>
-        ensures { option_map (first_value T.of_releases T.place) result
+        ensures { option_map (first_value T.are_releases T.place) result
             ≡ option_map (λ b. T.place b.now) boundary.entry }
     {
         let boundary = boundary?;
@@ -42,9 +43,9 @@ impl<'a, T: Boundary> First<'a, T> {
 
     /// Returns the first version at or above a boundary whose numbers are at most `most`.
     fn from_boundary(boundary: &'a T, most: u64) -> Option<First<'a, T>>
-        requires { is_empty (T.place boundary.now).pre ≡ T.of_releases }
-        ensures { IsFirstFrom (IsOfKindWithin T.of_releases most) (T.place boundary.entry.now)
-            (option_map (first_value T.of_releases T.place) result) }
+        requires { is_empty (T.place boundary.now).pre ≡ T.are_releases }
+        ensures { IsFirstFrom (IsOfKindWithin T.are_releases most) (T.place boundary.entry.now)
+            (option_map (first_value T.are_releases T.place) result) }
     {
         let numbers = boundary.numbers().within(most)?;
         Some(First { boundary, numbers })
@@ -60,8 +61,8 @@ impl<'a, T: Boundary> First<'a, T> {
 
     /// Returns whether it is below another boundary.
     fn is_below(&self, end: &T) -> bool
-        requires { is_empty (T.place end.now).pre ≡ T.of_releases }
-        ensures { result ≡ is_lt (precedence (first_value T.of_releases T.place self.now)
+        requires { is_empty (T.place end.now).pre ≡ T.are_releases }
+        ensures { result ≡ is_lt (precedence (first_value T.are_releases T.place self.now)
             (T.place end.now)) }
     {
         if self.is_at_boundary() {
@@ -138,9 +139,9 @@ impl Release {
 
 /// Returns the first version inside the boundaries whose numbers are at most `most`.
 pub(crate) fn first_inside<T: Boundary>(boundaries: &[T], most: u64) -> Option<First<'_, T>>
-    requires { AreBoundaries (IsOfKind T.of_releases) (map T.place boundaries.now) }
-    ensures { IsFirstInside (IsOfKindWithin T.of_releases most) (map T.place boundaries.now)
-        (option_map (first_value T.of_releases T.place) result) }
+    requires { AreBoundaries (IsOfKind T.are_releases) (map T.place boundaries.now) }
+    ensures { IsFirstInside (IsOfKindWithin T.are_releases most) (map T.place boundaries.now)
+        (option_map (first_value T.are_releases T.place) result) }
 {
     let mut rest = boundaries;
     loop {

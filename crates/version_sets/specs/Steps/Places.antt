@@ -1,11 +1,13 @@
--- A means of proof: the version that precedence compares, and the value of a `VersionSet`.
-use Rattle.std.specs.Prelude.{List, map}
+-- A means of proof: the version that precedence compares, the value of a `VersionSet`, and the two
+-- kinds of versions.
+use Rattle.std.specs.Prelude.{◌≡◌, Bool, List, map}
+use Rattle.semver_texts.specs.Texts.{is_empty}
 use Rattle.semver_texts.specs.Versions.{PlainVersion}
 use Rattle.semver_texts.specs.VersionViews.{version_value}
 use Rattle.semver_texts.specs.declared.grammar.Digits.{Digits}
 use Rattle.semver_texts.specs.declared.version.Version.{Version}
 use Rattle.version_sets.specs.Releases.{release_value}
-use Rattle.version_sets.specs.VersionSets.{SetValue}
+use Rattle.version_sets.specs.VersionSets.{Fits, SetValue}
 use Rattle.semver_versions.specs.declared.read_version.ReadVersion.{ReadVersion}
 use Rattle.semver_versions.specs.ReadVersions.{read_plain}
 use Rattle.version_sets.specs.declared.release.Release.{Release}
@@ -19,3 +21,7 @@ set_of digits releases pre_releases = record {
   pre_releases = map read_plain pre_releases;
   digits = digits;
 }
+
+-- the versions of a kind: the releases, or the pre-releases
+abbrev pub IsOfKind : Bool → PlainVersion → Type 0
+IsOfKind are_releases v = Fits v × (is_empty v.pre ≡ are_releases)

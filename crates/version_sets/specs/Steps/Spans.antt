@@ -1,5 +1,5 @@
 -- A means of proof: spans of one kind of versions, and the boundaries of their union. A span begins
--- at a bound and ends below another, if there is one.
+-- at one version and ends below another, if there is one.
 use Rattle.std.specs.Prelude.{◌≡◌, Bool, false, ◌&&◌, not, if◌then◌else◌, ⊤}
 use Rattle.std.specs.Prelude.{Option, Some, None, option_to_list, List, [], ◌∷◌, ◌++◌}
 use Rattle.std.specs.List.{list_any}
@@ -11,12 +11,12 @@ pub record SpanValue (T : Type 0) : Type 0 where
   pub to : Option T
 
 module _ {T : Type 0} (cmp : T → T → Ordering) where
-  -- whether v is at or above a bound; if there is no bound, nothing is
+  -- whether v is at or above an end; if there is no end, nothing is
   abbrev pub reached : Option T → T → Bool
   reached None v = false
   reached (Some b) v = is_ge (cmp v b)
 
-  -- whether v is at or above one bound, and below the other
+  -- whether v is at or above one end, and below the other
   abbrev pub is_between : Option T → Option T → T → Bool
   is_between from to v = reached from v && not (reached to v)
 
@@ -27,19 +27,19 @@ module _ {T : Type 0} (cmp : T → T → Ordering) where
   abbrev pub IsSpan : SpanValue T → Type 0
   IsSpan s = reached s.to s.from ≡ false
 
-  -- the higher of two bounds; `None` is above all others
+  -- the higher of two ends; `None` is above all others
   abbrev pub later : Option T → Option T → Option T
   later None b = None
   later (Some a) None = None
   later (Some a) (Some b) = if is_ge (cmp a b) then Some a else Some b
 
-  -- the lower of two bounds; `None` is above all others
+  -- the lower of two ends; `None` is above all others
   abbrev pub earlier : Option T → Option T → Option T
   earlier None b = b
   earlier (Some a) None = Some a
   earlier (Some a) (Some b) = if is_lt (cmp b a) then Some b else Some a
 
-  -- whether a bound is below v; `None` is not
+  -- whether an end is below v; `None` is not
   abbrev pub is_below : Option T → T → Bool
   is_below None v = false
   is_below (Some b) v = is_lt (cmp b v)

@@ -9,17 +9,14 @@ use Rattle.semver_texts.specs.Texts.{is_empty}
 use Rattle.semver_texts.specs.Versions.{PlainVersion}
 use Rattle.version_sets.specs.Boundaries.{is_inside}
 use Rattle.version_sets.specs.Releases.{release_value}
-use Rattle.version_sets.specs.VersionSets.{Fits, IsWithin}
+use Rattle.version_sets.specs.VersionSets.{IsWithin}
 use Rattle.version_sets.specs.Steps.Numbers.{lowest_place, numbers_cmp}
 use Rattle.version_sets.specs.declared.release.Release.{Release}
 use Rattle.version_sets.specs.declared.within.First.{First}
 
--- the versions of a kind: the releases, or the pre-releases
-abbrev pub IsOfKind : Bool → PlainVersion → Type 0
-IsOfKind of_releases v = Fits v × (is_empty v.pre ≡ of_releases)
-
+-- the versions of a kind whose numbers are at most `most`
 abbrev pub IsOfKindWithin : Bool → ℕ → PlainVersion → Type 0
-IsOfKindWithin of_releases most v = IsWithin most v × (is_empty v.pre ≡ of_releases)
+IsOfKindWithin are_releases most v = IsWithin most v × (is_empty v.pre ≡ are_releases)
 
 -- the lowest version of a kind with the numbers of a release
 abbrev pub lowest_of_kind : Bool → Release → PlainVersion
@@ -28,13 +25,13 @@ lowest_of_kind false r = lowest_place r
 
 -- a boundary if it has some numbers, and otherwise the lowest version of its kind with these
 abbrev pub first_place : Bool → PlainVersion → Release → PlainVersion
-first_place of_releases b r =
-    if is_eq (numbers_cmp (release_value r) b) then b else lowest_of_kind of_releases r
+first_place are_releases b r =
+    if is_eq (numbers_cmp (release_value r) b) then b else lowest_of_kind are_releases r
 
 -- the version of a `First`
 abbrev pub first_value : Bool → {T : Type 0} → (T → PlainVersion) → First T → PlainVersion
-first_value of_releases place first =
-    first_place of_releases (place first.boundary.now) first.numbers
+first_value are_releases place first =
+    first_place are_releases (place first.boundary.now) first.numbers
 
 -- the lowest numbers within the limit that are at or above those of b, if there are any
 abbrev pub AreFirstNumbers : ℕ → PlainVersion → Option Release → Type 0

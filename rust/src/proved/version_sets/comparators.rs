@@ -1,14 +1,11 @@
 // Made by tools/erase.py from crates/version_sets/src/comparators.rt; not edited by hand.
-//! The intervals of a set's boundaries as ranges of comparators.
+//! The comparators of a set: one range for each interval between its boundaries.
 
 use crate::rattle_std::prelude::*;
 use crate::proved::version_sets::boundary::Boundary;
-use crate::proved::version_sets::release::{Release, next_numbers};
-use crate::proved::version_sets::successor::Successor;
+use crate::proved::version_sets::release::Release;
 use crate::proved::semver_ranges::{Comparator, Compat, Identifier, Op, Range};
 use crate::proved::semver_texts::grammar::Digits;
-use crate::proved::semver_texts::precedence::compare_pre_releases;
-use crate::proved::semver_versions::read_version::ReadVersion;
 use crate::proved::semver_versions::version;
 use crate::rattle_std::AllocError;
 
@@ -22,7 +19,7 @@ pub(crate) struct ComparatorRef<'a> {
 
 impl ComparatorRef<'_> {
     /// Returns the comparator with identifiers that it owns. `Err` means out of memory.
-    fn comparator(self) -> Result<Comparator, AllocError> {
+    fn owned(self) -> Result<Comparator, AllocError> {
         Ok(Comparator {
             op: self.op,
             major: self.numbers.major,
@@ -33,99 +30,10 @@ impl ComparatorRef<'_> {
     }
 }
 
-/// A boundary as a bound of an interval.
-pub(crate) trait Bound: Boundary {
-    /// Returns whether the boundary's version is the only one of its kind that is at or above it
-    /// and below `to`, if `to` is given.
-    fn is_alone(&self, to: Option<&Self>) -> bool;
-
-    /// Returns the comparator with an operator and the boundary's version.
-    fn shown<'a>(&'a self, op: Op) -> ComparatorRef<'a>;
-
-    /// Returns the upper comparator of the interval from this boundary up to another.
-    fn shown_end<'a>(&self, to: &'a Self) -> ComparatorRef<'a>;
-}
-
-impl Bound for Release {
-    fn is_alone(&self, to: Option<&Release>) -> bool {
-        match (to, next_numbers(*self)) {
-            (Some(to), Some(next)) => to.compare(&next).is_eq(),
-            (None, None) => true,
-            _ => false,
-        }
-    }
-
-    fn shown<'a>(&'a self, op: Op) -> ComparatorRef<'a> {
-        ComparatorRef {
-            op,
-            numbers: *self,
-            pre: &[],
-            digits: Digits::Kept,
-        }
-    }
-
-    fn shown_end<'a>(&self, to: &'a Release) -> ComparatorRef<'a> {
-        to.shown(Op::Lt)
-    }
-}
-
-impl Bound for ReadVersion {
-    fn is_alone(&self, to: Option<&ReadVersion>) -> bool {
-        match to {
-            Some(to) => {
-                to.numbers().compare(&self.numbers()).is_eq() && are_right_above(to, self)
-            }
-            None => false,
-        }
-    }
-
-    fn shown<'a>(&'a self, op: Op) -> ComparatorRef<'a> {
-        ComparatorRef {
-            op,
-            numbers: self.numbers(),
-            pre: self.version.pre.as_slice(),
-            digits: self.digits,
-        }
-    }
-
-    fn shown_end<'a>(&self, to: &'a ReadVersion) -> ComparatorRef<'a> {
-        if !begins_next_numbers(to, self) {
-            return to.shown(Op::Lt);
-        }
-        ComparatorRef {
-            op: Op::Lt,
-            numbers: self.numbers(),
-            pre: &[],
-            digits: Digits::Kept,
-        }
-    }
-}
-
-/// Returns whether a boundary is at the lowest pre-release of the numbers right above another's.
-fn begins_next_numbers(boundary: &ReadVersion, below: &ReadVersion) -> bool {
-    match next_numbers(below.numbers()) {
-        Some(next) => {
-            boundary.numbers().compare(&next).is_eq()
-                && !boundary.version.pre.is_empty()
-                && boundary.has_lowest_pre()
-        }
-        None => false,
-    }
-}
-
 /// Returns whether a boundary is at the lowest version of its kind.
 pub(crate) fn is_lowest<T: Boundary>(boundary: &T) -> bool {
     let numbers = boundary.numbers();
     numbers.major == 0 && numbers.minor == 0 && numbers.patch == 0 && boundary.has_lowest_pre()
-}
-
-/// Returns whether the identifiers of a boundary are another's followed by the number 0.
-fn are_right_above(boundary: &ReadVersion, below: &ReadVersion) -> bool {
-    let above = Successor {
-        identifiers: below.pre(),
-        zero: true,
-    };
-    compare_pre_releases(boundary.pre(), above).is_eq()
 }
 
 /// Copies identifiers of a version, read as `digits` says, as identifiers of a range. `Err` means
@@ -159,32 +67,32 @@ pub(crate) struct IntervalComparators<'a> {
 
 /// Returns the comparators of the versions that are at or above one boundary, and below another if
 /// it is given. No version is below the lowest.
-fn interval_of<'a, T: Bound>(from: &'a T, to: Option<&'a T>) -> IntervalComparators<'a> {
+fn interval_of<'a, T: Boundary>(from: &'a T, to: Option<&'a T>) -> IntervalComparators<'a> {
     if from.is_alone(to) {
         return IntervalComparators {
-            first: from.shown(Op::Eq),
+            first: from.comparator(Op::Eq),
             second: None,
         };
     }
     match to {
         None => IntervalComparators {
-            first: from.shown(Op::Gte),
+            first: from.comparator(Op::Gte),
             second: None,
         },
         Some(to) if is_lowest(from) => IntervalComparators {
-            first: from.shown_end(to),
+            first: from.upper_comparator(to),
             second: None,
         },
         Some(to) => IntervalComparators {
-            first: from.shown(Op::Gte),
-            second: Some(from.shown_end(to)),
+            first: from.comparator(Op::Gte),
+            second: Some(from.upper_comparator(to)),
         },
     }
 }
 
 /// Returns the first interval of boundaries, and the boundaries that follow it, or `None` if there
 /// is no boundary.
-pub(crate) fn first_interval<'a, T: Bound>(
+pub(crate) fn first_interval<'a, T: Boundary>(
     boundaries: &'a [T],
 ) -> Option<(IntervalComparators<'a>, &'a [T])> {
     match boundaries {
@@ -197,10 +105,10 @@ pub(crate) fn first_interval<'a, T: Bound>(
 impl IntervalComparators<'_> {
     /// Returns the interval as a range of comparators. `Err` means out of memory.
     fn range(self) -> Result<Range, AllocError> {
-        let first = self.first.comparator()?;
+        let first = self.first.owned()?;
         let comparator_set = match self.second {
             None => crate::rattle_std::fallible_vec![first]?,
-            Some(second) => crate::rattle_std::fallible_vec![first, second.comparator()?]?,
+            Some(second) => crate::rattle_std::fallible_vec![first, second.owned()?]?,
         };
         Ok(Range {
             comparator_set,
@@ -211,7 +119,9 @@ impl IntervalComparators<'_> {
 
 /// Returns the ranges of increasing boundaries in npm mode, one for each interval. It allocates
 /// only if there is a boundary. `Err` means out of memory.
-pub(crate) fn ranges_of<T: Bound>(boundaries: &[T]) -> Result<Vec<Range>, AllocError> {
+pub(crate) fn ranges_of<T: Boundary>(
+    boundaries: &[T],
+) -> Result<Vec<Range>, AllocError> {
     let mut ranges = Vec::new();
     let mut left = boundaries;
     while let Some((first, others)) = first_interval(left) {

@@ -3,9 +3,13 @@
 
 use crate::rattle_std::prelude::*;
 use crate::proved::version_sets::boundary::Boundary;
-use crate::proved::version_sets::release::Release;
+use crate::proved::version_sets::comparators::ComparatorRef;
+use crate::proved::version_sets::release::{Release, next_numbers};
 use crate::proved::version_sets::set_ranges::is_lowest_pre;
+use crate::proved::version_sets::successor::Successor;
+use crate::proved::semver_ranges::Op;
 use crate::proved::semver_texts::grammar::Digits;
+use crate::proved::semver_texts::precedence::compare_pre_releases;
 use crate::proved::semver_versions::read_version::ReadVersion;
 use crate::proved::semver_versions::version::{Identifier, Version};
 use crate::rattle_std::AllocError;
@@ -29,6 +33,57 @@ impl Boundary for ReadVersion {
     fn has_lowest_pre(&self) -> bool {
         is_lowest_pre(&self.version.pre)
     }
+
+    fn is_alone(&self, to: Option<&ReadVersion>) -> bool {
+        match to {
+            Some(to) => {
+                to.numbers().compare(&self.numbers()).is_eq() && are_right_above(to, self)
+            }
+            None => false,
+        }
+    }
+
+    fn comparator<'a>(&'a self, op: Op) -> ComparatorRef<'a> {
+        ComparatorRef {
+            op,
+            numbers: self.numbers(),
+            pre: self.version.pre.as_slice(),
+            digits: self.digits,
+        }
+    }
+
+    fn upper_comparator<'a>(&self, to: &'a ReadVersion) -> ComparatorRef<'a> {
+        if !begins_next_numbers(to, self) {
+            return to.comparator(Op::Lt);
+        }
+        ComparatorRef {
+            op: Op::Lt,
+            numbers: self.numbers(),
+            pre: &[],
+            digits: Digits::Kept,
+        }
+    }
+}
+
+/// Returns whether a boundary is at the lowest pre-release of the numbers right above another's.
+fn begins_next_numbers(boundary: &ReadVersion, below: &ReadVersion) -> bool {
+    match next_numbers(below.numbers()) {
+        Some(next) => {
+            boundary.numbers().compare(&next).is_eq()
+                && !boundary.version.pre.is_empty()
+                && boundary.has_lowest_pre()
+        }
+        None => false,
+    }
+}
+
+/// Returns whether the identifiers of a boundary are another's followed by the number 0.
+fn are_right_above(boundary: &ReadVersion, below: &ReadVersion) -> bool {
+    let above = Successor {
+        identifiers: below.pre(),
+        zero: true,
+    };
+    compare_pre_releases(boundary.pre(), above).is_eq()
 }
 
 /// Returns the version as a `Version` keeps it, without build metadata. `Err` means out of memory.

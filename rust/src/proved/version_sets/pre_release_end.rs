@@ -1,5 +1,5 @@
 // Made by tools/erase.py from crates/version_sets/src/pre_release_end.rt; not edited by hand.
-//! Boundaries of spans of pre-releases.
+//! Ends of spans of pre-releases.
 
 use crate::rattle_std::prelude::*;
 use crate::proved::version_sets::release::Release;

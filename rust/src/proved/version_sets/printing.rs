@@ -2,7 +2,8 @@
 //! Writes a set as a string, directly from its boundaries.
 
 use crate::rattle_std::prelude::*;
-use crate::proved::version_sets::comparators::{Bound, ComparatorRef, IntervalComparators, first_interval, is_lowest};
+use crate::proved::version_sets::boundary::Boundary;
+use crate::proved::version_sets::comparators::{ComparatorRef, IntervalComparators, first_interval, is_lowest};
 use crate::proved::version_sets::version_set::VersionSet;
 use crate::proved::semver_texts::printing::write_part;
 use crate::rattle_std::fmt;
@@ -57,7 +58,10 @@ impl fmt::Display for VersionSet {
 
 /// Writes the intervals of increasing boundaries as a range in npm mode, separated by ` || `: `*`
 /// if they contain all versions of the kind, and `<0.0.0-0` if they contain none.
-fn write_ranges<T: Bound>(f: &mut fmt::Formatter<'_>, boundaries: &[T]) -> fmt::Result {
+fn write_ranges<T: Boundary>(
+    f: &mut fmt::Formatter<'_>,
+    boundaries: &[T],
+) -> fmt::Result {
     if is_whole(boundaries) {
         return f.write_str("*");
     }
@@ -69,7 +73,10 @@ fn write_ranges<T: Bound>(f: &mut fmt::Formatter<'_>, boundaries: &[T]) -> fmt::
 }
 
 /// Writes intervals, each after ` || `.
-fn write_others<T: Bound>(f: &mut fmt::Formatter<'_>, boundaries: &[T]) -> fmt::Result {
+fn write_others<T: Boundary>(
+    f: &mut fmt::Formatter<'_>,
+    boundaries: &[T],
+) -> fmt::Result {
     let mut left = boundaries;
     while let Some((next, others)) = first_interval(left) {
         write!(f, " || {next}")?;
@@ -80,7 +87,7 @@ fn write_others<T: Bound>(f: &mut fmt::Formatter<'_>, boundaries: &[T]) -> fmt::
 
 /// Returns whether the intervals contain all versions of a kind. The last release of all has no
 /// upper bound either, but it is written as a single version.
-fn is_whole<T: Bound>(boundaries: &[T]) -> bool {
+fn is_whole<T: Boundary>(boundaries: &[T]) -> bool {
     match boundaries {
         [only, others @ ..] if others.is_empty() => {
             is_lowest(only) && !only.is_alone(others.first())

@@ -1,5 +1,5 @@
 // Made by tools/erase.py from crates/version_sets/src/span_end.rt; not edited by hand.
-//! Boundaries of spans of versions, and those of releases.
+//! The trait of both kinds of ends of spans.
 
 use crate::rattle_std::prelude::*;
 use crate::proved::version_sets::boundary::Boundary;
@@ -12,7 +12,7 @@ pub(crate) trait SpanEnd: Copy {
     /// The boundary as a set keeps it.
     type Boundary: Boundary;
 
-    /// Compares two boundaries by precedence.
+    /// Compares two ends by precedence.
     fn compare(&self, other: &Self) -> Ordering;
 
     /// Returns the boundary at the same position. `Err` means out of memory.

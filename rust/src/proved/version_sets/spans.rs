@@ -5,8 +5,7 @@ use crate::rattle_std::prelude::*;
 use crate::proved::version_sets::span_end::SpanEnd;
 use crate::rattle_std::AllocError;
 
-/// The versions at or above one boundary and below another. `None` is a boundary above all
-/// versions.
+/// The versions at or above one end and below another. `None` is above all versions.
 #[derive(Clone, Copy)]
 pub(crate) struct Bounds<L> {
     /// The beginning.
@@ -15,8 +14,8 @@ pub(crate) struct Bounds<L> {
     pub to: Option<L>,
 }
 
-/// The versions at or above one boundary, and below another if there is one. The second is above
-/// the first.
+/// The versions at or above one end, and below another if there is one. The second is above the
+/// first.
 #[derive(Clone, Copy)]
 pub(crate) struct Span<L> {
     /// The beginning.
@@ -25,7 +24,7 @@ pub(crate) struct Span<L> {
     pub to: Option<L>,
 }
 
-/// Returns the higher of two boundaries. `None` is above all versions.
+/// Returns the higher of two ends. `None` is above all versions.
 fn later<L: SpanEnd>(first: Option<L>, second: Option<L>) -> Option<L> {
     let (first, second) = (first?, second?);
     Some(if first.compare(&second).is_ge() {
@@ -35,7 +34,7 @@ fn later<L: SpanEnd>(first: Option<L>, second: Option<L>) -> Option<L> {
     })
 }
 
-/// Returns the lower of two boundaries. `None` is above all versions.
+/// Returns the lower of two ends. `None` is above all versions.
 fn earlier<L: SpanEnd>(first: Option<L>, second: Option<L>) -> Option<L> {
     let Some(first) = first else {
         return second;
@@ -59,7 +58,7 @@ impl<L: SpanEnd> Bounds<L> {
         }
     }
 
-    /// Returns the span of the versions, if there is anything between the boundaries.
+    /// Returns the span of the versions, if there is anything between the bounds.
     fn span(self) -> Option<Span<L>> {
         let from = self.from?;
         if let Some(to) = self.to {
@@ -70,7 +69,7 @@ impl<L: SpanEnd> Bounds<L> {
         Some(Span { from, to: self.to })
     }
 
-    /// Adds the span of the versions to others, if there is anything between the boundaries. `Err`
+    /// Adds the span of the versions to others, if there is anything between the bounds. `Err`
     /// means out of memory.
     pub(crate) fn push_to(self, spans: &mut Vec<Span<L>>) -> Result<(), AllocError> {
         if let Some(span) = self.span() {
@@ -117,7 +116,7 @@ fn joined<L: SpanEnd>(spans: &[Span<L>]) -> Result<Vec<L::Boundary>, AllocError>
     Ok(boundaries)
 }
 
-/// Returns whether there is an end, and it is below a boundary.
+/// Returns whether there is an end, and it is below another.
 fn is_apart<L: SpanEnd>(end: Option<L>, boundary: &L) -> bool {
     match end {
         Some(end) => end.compare(boundary).is_lt(),

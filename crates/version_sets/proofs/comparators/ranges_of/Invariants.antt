@@ -9,7 +9,7 @@ use Rattle.version_sets.proofs.comparators.ranges_of.Given as goal
 abbrev pub invariant-loop-first : goal.invariant-loop-first
 invariant-loop-first g l =
     let place = g.T.Boundary.place in
-    let kind = g.T.Bound.kind in record {
+    let kind = g.T.Boundary.kind in record {
       told : map range_of l.ranges.items ++ map range_kept (intervals kind (map place l.left))
           ≡ map range_kept (intervals kind (map place l.boundaries));
       within : length l.left ≤ length l.boundaries;

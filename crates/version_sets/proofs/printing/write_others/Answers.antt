@@ -8,7 +8,7 @@ use Rattle.version_sets.proofs.printing.write_others.Goals as goal
 
 pub loop-next-preserved : goal.loop-next-preserved
 loop-next-preserved g c = λ plain.
-    let kind = g.T.Bound.kind in
+    let kind = g.T.Boundary.kind in
     let place = g.T.Boundary.place in
     let (text, wrote, whole) = c.loop-next.invariant plain in
     let piece : Text = codes " || " ++ range_text (npm_range (interval_value c.in-Some.next)) in
@@ -21,7 +21,7 @@ loop-next-preserved g c = λ plain.
 
 pub returns : goal.returns
 returns g c = λ plain ok.
-    let kind = g.T.Bound.kind in
+    let kind = g.T.Boundary.kind in
     let place = g.T.Boundary.place in
     let (text, wrote, whole) = c.loop-next.invariant plain in
     has_written_of_eq _ _ _ _ _

@@ -10,7 +10,7 @@ use Rattle.version_sets.proofs.printing.write_others.Given as goal
 abbrev pub invariant-loop-next : goal.invariant-loop-next
 invariant-loop-next g l =
     let place = g.T.Boundary.place in
-    let kind = g.T.Bound.kind in
+    let kind = g.T.Boundary.kind in
     IsPlainFormatter l.initial.f → (text : Text) × HasWritten g.W.Write.write_str_gives l.initial.f text l.f
     × (text ++ others_text (intervals kind (map place l.left)) ≡ others_text (intervals kind (map place l.boundaries)))
 

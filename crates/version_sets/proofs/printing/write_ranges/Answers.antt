@@ -8,7 +8,7 @@ use Rattle.version_sets.proofs.printing.write_ranges.Goals as goal
 
 pub returns : goal.returns
 returns g c = λ plain ok.
-    let kind = g.T.Bound.kind in
+    let kind = g.T.Boundary.kind in
     let place = g.T.Boundary.place in
     let first = npm_range (interval_value c.in-Some.first) in
     let others = intervals kind (map place c.in-Some.others.now) in

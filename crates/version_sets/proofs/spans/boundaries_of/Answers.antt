@@ -6,6 +6,7 @@ use Rattle.version_sets.specs.declared.spans.Span.{Span}
 use Rattle.version_sets.proofs.Lists.{answered_so}
 use Rattle.version_sets.proofs.SpanLaws.{begins_below, compares, are_of_sorted}
 use Rattle.version_sets.proofs.HeldBoundaries.{boundaries_hold}
+use Rattle.version_sets.specs.Steps.Places.{IsOfKind}
 use Rattle.version_sets.proofs.spans.boundaries_of.Goals as goal
 
 pub returns : goal.returns
@@ -13,7 +14,7 @@ returns g c =
     let place = g.L.SpanEnd.place in
     let sorted = c.sort_unstable_by.ensures.sorted (begins_below place)
     (ranks_by precedence_total (λ (s : Span g.row.L.Denot). place s.from)) (compares place (λ a r q k. search rules)) in
-    let of = are_of_sorted place g.L.SpanEnd.IsOfKind c.args.spans.now _ c.sort_unstable_by.ensures.permutation sorted c.requires in
+    let of = are_of_sorted place (IsOfKind g.L.Boundary.Boundary.are_releases) c.args.spans.now _ c.sort_unstable_by.ensures.permutation sorted c.requires in
     record {
       boundaries = answered_so _ c.joined.result c.joined.ensures
           (λ boundaries is. (of (map g.L.Boundary.Boundary.place boundaries.items) is).are_boundaries);

@@ -3,13 +3,14 @@ use Rattle.semver_texts.specs.Precedence.{precedence}
 use Rattle.semver_texts.specs.Versions.{PlainVersion}
 use Rattle.version_sets.specs.Boundaries.{is_inside}
 use Rattle.version_sets.specs.VersionSets.{AreBoundaries}
-use Rattle.version_sets.specs.Steps.Within.{IsOfKind, IsOfKindWithin}
+use Rattle.version_sets.specs.Steps.Places.{IsOfKind}
+use Rattle.version_sets.specs.Steps.Within.{IsOfKindWithin}
 use Rattle.version_sets.proofs.within.first_inside.Given as goal
 
 abbrev pub invariant-loop-begin : goal.invariant-loop-begin
 invariant-loop-begin g l =
     let place = g.T.Boundary.place in
-    let kind = g.T.Boundary.of_releases in ((v : PlainVersion) → IsOfKindWithin kind l.most v
+    let kind = g.T.Boundary.are_releases in ((v : PlainVersion) → IsOfKindWithin kind l.most v
     → is_inside precedence (map place l.boundaries) v ≡ is_inside precedence (map place l.rest) v)
     × AreBoundaries (IsOfKind kind) (map place l.rest)
 

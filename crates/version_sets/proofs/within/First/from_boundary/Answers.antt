@@ -7,4 +7,4 @@ pub returns : goal.returns
 returns g c =
     let r = c.in_ok-numbers.numbers in
     first_from c.args.most (g.T.Boundary.place c.args.boundary.now) r
-    (subst (λ w. AreFirstNumbers c.args.most w (Some r)) c.numbers.ensures c.in_ok-numbers.ensures) g.T.Boundary.of_releases c.requires
+    (subst (λ w. AreFirstNumbers c.args.most w (Some r)) c.numbers.ensures c.in_ok-numbers.ensures) g.T.Boundary.are_releases c.requires
