@@ -1,6 +1,6 @@
 -- A version satisfies the ranges of a set if and only if it is in the set, and the text of the
 -- ranges reads back. A set that has a boundary of a kind contains a version of that kind.
-use Rattle.std.proofs.Common.{arith, ◌≡◌, ◌<◌, not, List, [], ◌∷◌, map, length, IsTrue, sym, ◌∙◌, subst}
+use Rattle.std.proofs.Common.{arith, ◌≡◌, ◌<◌, not, List, [], ◌∷◌, map, length, IsTrue, sym, ◌∙◌}
 use Rattle.std.specs.List.{list_all}
 use Rattle.semver_texts.specs.Versions.{PlainVersion}
 use Rattle.semver_ranges.specs.SatisfiedComparators.{meets_set}
@@ -9,7 +9,7 @@ use Rattle.version_sets.specs.VersionSets.{SetValue, contains, IsIn, IsRelease, 
 use Rattle.version_sets.specs.SetRanges.{of_releases, of_pre_releases, release_ranges, pre_release_ranges, is_whole}
 use Rattle.version_sets.specs.SetRanges.{ranges_text, ReadsBack}
 use Rattle.std.specs.Prelude.{slice_get}
-use Rattle.version_sets.proofs.FirstBoundaries.{TellsPlain, first_release, first_pre_release}
+use Rattle.version_sets.proofs.FirstBoundaries.{TellsPlain}
 use Rattle.version_sets.proofs.IntervalLaws.{intervals_meet}
 use Rattle.version_sets.proofs.KindLaws.{releases_are_kind, pre_releases_are_kind}
 use Rattle.version_sets.proofs.ReadBack.{PrintedReadBack, end_prints, releases_print, reads, whole_reads}
@@ -38,16 +38,8 @@ module _ (set : SetValue) (n : IsNormal set) where
   pre_releases_read law prints part =
       reads law IsPreRelease set of_pre_releases end_prints set.pre_releases prints pre_releases_meet (λ whole. absurd (cc (part, whole)))
 
-  -- if there is a boundary, the first one is in the set
-  pub contains_release : {X : Type 0} (f : X → PlainVersion) (xs : List X) → set.releases ≡ map f xs → 0 < length xs
-      → (v : PlainVersion) × IsRelease v × IsIn v set
-  contains_release f [] e some = absurd (omega arith)
-  contains_release f (x ∷ xs) e some =
-      let lowest = subst (λ l. TellsPlain IsRelease set (slice_get l 0)) e (first_release set n) in (f x, lowest.is_of_kind, lowest.is_in)
-
-  pub has_pre_release : {X : Type 0} (f : X → PlainVersion) (xs : List X) → set.pre_releases ≡ map f xs → 0 < length xs
-      → (v : PlainVersion) × IsPreRelease v × IsIn v set
-  has_pre_release f [] e some = absurd (omega arith)
-  has_pre_release f (x ∷ xs) e some =
-      let lowest = subst (λ l. TellsPlain IsPreRelease set (slice_get l 0)) e (first_pre_release set n) in
-      (f x, lowest.is_of_kind, lowest.is_in)
+-- if there is a boundary of a kind, the first one is in the set
+pub has_one : {X : Type 0} (K : PlainVersion → Type 0) (set : SetValue) (f : X → PlainVersion) (xs : List X)
+    → TellsPlain K set (slice_get (map f xs) 0) → 0 < length xs → (v : PlainVersion) × K v × IsIn v set
+has_one K set f [] none some = absurd (omega arith)
+has_one K set f (x ∷ xs) lowest some = (f x, lowest.is_of_kind, lowest.is_in)

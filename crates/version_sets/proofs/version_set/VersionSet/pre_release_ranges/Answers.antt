@@ -1,4 +1,4 @@
-use Rattle.std.proofs.Common.{rules, ◌≡◌, refl, sym, ap, subst, ◌∙◌, IsTrue, not}
+use Rattle.std.proofs.Common.{rules, ◌≡◌, sym, ap, subst, ◌∙◌, IsTrue, not}
 use Rattle.semver_ranges.specs.declared.range.Compat.TheVariants.{Npm}
 use Rattle.semver_ranges.specs.RangeViews.{set_of as ranges_of_set}
 use Rattle.semver_ranges.specs.RewritingTable.{PlainSet}
@@ -10,8 +10,9 @@ use Rattle.version_sets.specs.SetRanges.{of_pre_releases, pre_release_ranges, is
 use Rattle.version_sets.specs.DigitViews.{set_kept}
 use Rattle.version_sets.proofs.DigitLaws.{intervals_fit}
 use Rattle.version_sets.proofs.ReadBack.{end_prints}
+use Rattle.version_sets.proofs.FirstBoundaries.{first_pre_release}
 use Rattle.version_sets.proofs.Lists.{on_err}
-use Rattle.version_sets.proofs.SetRangeLaws.{pre_releases_meet, pre_releases_read, has_pre_release}
+use Rattle.version_sets.proofs.SetRangeLaws.{pre_releases_meet, pre_releases_read, has_one}
 use Rattle.version_sets.proofs.version_set.VersionSet.pre_release_ranges.Goals as goal
 
 made : (c : goal.After-in_npm_mode)
@@ -23,7 +24,7 @@ returns-in_err-ranges-clause-out_of_memory c =
     let s = set_of c.self.inside.digits c.self.inside.releases.items c.self.inside.pre_releases.items in
     on_err c.from_residual.result
     (subst (λ t. (v : PlainVersion) × IsPreRelease v × IsIn v t) c.self.view_is
-    (has_pre_release s c.self.invariant read_plain c.self.inside.pre_releases.items refl (search rules)))
+    (has_one IsPreRelease s read_plain c.self.inside.pre_releases.items (first_pre_release s c.self.invariant) (search rules)))
 
 pub returns-clause-meaning : goal.returns-clause-meaning
 returns-clause-meaning c =

@@ -1,5 +1,5 @@
-use Rattle.std.proofs.Common.{rules, ◌≡◌, sym, ap, subst, ◌∙◌, refl}
-use Rattle.semver_ranges.specs.SatisfiedComparators.{meets_set}
+use Rattle.std.proofs.Common.{rules, ◌≡◌, sym, ap, subst, ◌∙◌}
+use Rattle.semver_ranges.specs.Meeting.{meets_set}
 use Rattle.semver_ranges.specs.RangeViews.{set_of as ranges_of_set}
 use Rattle.semver_texts.specs.Versions.{PlainVersion}
 use Rattle.version_sets.specs.Releases.{release_value}
@@ -10,8 +10,9 @@ use Rattle.semver_ranges.specs.declared.range.Compat.TheVariants.{Npm}
 use Rattle.version_sets.specs.DigitViews.{set_kept}
 use Rattle.version_sets.proofs.DigitLaws.{intervals_fit}
 use Rattle.version_sets.proofs.ReadBack.{releases_print}
+use Rattle.version_sets.proofs.FirstBoundaries.{first_release}
 use Rattle.version_sets.proofs.Lists.{on_err}
-use Rattle.version_sets.proofs.SetRangeLaws.{releases_meet, releases_read, contains_release}
+use Rattle.version_sets.proofs.SetRangeLaws.{releases_meet, releases_read, has_one}
 use Rattle.version_sets.proofs.version_set.VersionSet.release_ranges.Goals as goal
 
 made : (c : goal.After-in_npm_mode) → ranges_of_set c.in_npm_mode.result.range_set ≡ release_ranges c.args.self.now
@@ -28,7 +29,7 @@ returns-in_err-ranges-clause-out_of_memory c =
     let s = set_of c.self.inside.digits c.self.inside.releases.items c.self.inside.pre_releases.items in
     on_err c.from_residual.result
     (subst (λ t. (v : PlainVersion) × IsRelease v × IsIn v t) c.self.view_is
-    (contains_release s c.self.invariant release_value c.self.inside.releases.items refl (search rules)))
+    (has_one IsRelease s release_value c.self.inside.releases.items (first_release s c.self.invariant) (search rules)))
 
 pub returns-clause-meaning : goal.returns-clause-meaning
 returns-clause-meaning c =
