@@ -1,21 +1,27 @@
-mod BoundaryLaws
-mod SweepLaws
-mod SearchLaws
-mod EachAnswer
-pub mod DigitLaws
+-- lists, identifiers and numbers
 mod Lists
-mod SetLaws
+pub mod DigitLaws
+mod NumberLaws
+mod KindLaws
+-- which versions are inside boundaries
+mod BoundaryLaws
+mod SearchLaws
+mod BorrowedPlaces
+mod EachAnswer
+-- from cuts to the boundaries of a set
+mod EndLaws
 mod SpanLaws
 mod HeldBoundaries
-mod PrintedBoundaries
-mod NumberLaws
-mod EndLaws
-mod BorrowedPlaces
+-- two sets
+mod SweepLaws
+mod SetLaws
 mod SameSets
+-- the lowest version
 mod FirstBoundaries
-mod IntervalLaws
-mod KindLaws
-mod ReadBack
-mod SetRangeLaws
-mod WrittenSets
 mod WithinLaws
+-- sets as ranges of comparators, and as texts
+mod IntervalLaws
+mod SetRangeLaws
+mod PrintedBoundaries
+mod WrittenSets
+mod ReadBack

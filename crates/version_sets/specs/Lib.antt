@@ -1,12 +1,15 @@
-pub mod Boundaries
+-- which versions are in a set
 pub mod Releases
+pub mod Boundaries
 pub mod VersionSets
-pub mod Combinations
+-- two sets that are compared
 pub mod Comparisons
+-- the rules for pre-releases
 pub mod PreReleaseRules
 pub mod PreReleaseTable
+-- sets as ranges of comparators, and as texts
 pub mod SetRanges
 pub mod DigitViews
 pub mod Printable
-pub mod Sides
+-- means of proof
 pub mod Steps
