@@ -2,7 +2,10 @@
 pub mod Releases
 pub mod Boundaries
 pub mod VersionSets
--- two sets that are compared
+-- the sides of a version, at which an interval begins or ends
+pub mod Sides
+-- two sets that are combined or compared
+pub mod Combinations
 pub mod Comparisons
 -- the rules for pre-releases
 pub mod PreReleaseRules

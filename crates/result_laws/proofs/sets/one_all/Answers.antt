@@ -4,7 +4,7 @@ use Rattle.semver_parser.specs.Versions.{PlainVersion}
 use Rattle.semver_texts.specs.declared.grammar.Digits.{Digits}
 use Rattle.version_sets.specs.VersionSets.{SetValue, contains, Fits}
 use Rattle.result_laws.specs.OneResult.{AreOne, itself}
-use Rattle.result_laws.proofs.OneResult.{one_made, said}
+use Rattle.result_laws.proofs.OneResult.{one_made, of_ok}
 use Rattle.result_laws.proofs.SameSets.{Alike, ReadsAs}
 use Rattle.result_laws.proofs.sets.one_all.Goals as goal
 
@@ -14,7 +14,7 @@ HasAll set = (v : PlainVersion) → Fits v → contains set v ≡ true
 one : (d : Digits) (r s : Result SetValue AllocError) → Alike r s → ReadsAs d r → ReadsAs d s → IfOk r HasAll → IfOk s HasAll
     → AreOne alloc_error itself r s
 one d r s alike dr ds h k = one_made itself r s (λ a b is is'.
-    said _ is' (said _ is alike) (said _ is dr ∙ sym (said _ is' ds)) (λ v fits. said HasAll is h v fits ∙ sym (said HasAll is' k v fits)))
+    of_ok _ is' (of_ok _ is alike) (of_ok _ is dr ∙ sym (of_ok _ is' ds)) (λ v fits. of_ok HasAll is h v fits ∙ sym (of_ok HasAll is' k v fits)))
 
 pub returns : goal.returns
 returns c =

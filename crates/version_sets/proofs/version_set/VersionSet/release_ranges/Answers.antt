@@ -1,5 +1,5 @@
 use Rattle.std.proofs.Common.{rules, ◌≡◌, sym, ap, subst, ◌∙◌}
-use Rattle.semver_ranges.specs.Meeting.{meets_set}
+use Rattle.semver_ranges.specs.SatisfiedComparators.{meets_set}
 use Rattle.semver_ranges.specs.RangeViews.{set_of as ranges_of_set}
 use Rattle.semver_texts.specs.Versions.{PlainVersion}
 use Rattle.version_sets.specs.Releases.{release_value}
