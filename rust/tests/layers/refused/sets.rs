@@ -158,10 +158,10 @@ pub fn difference(first: &VersionSet, second: &VersionSet) -> Ending {
     }
 }
 
-/// The set of all versions contains 0.0.0-0, and the first set is a subset of it.
+/// The set of all versions contains 0.0.0, and the first set is a subset of it.
 pub fn all(first: &VersionSet) -> Ending {
     match VersionSet::all(first.digits()) {
-        Ok(set) => Ending::full_if(contains(&set, "0.0.0-0") && is_within(first, &set)),
+        Ok(set) => Ending::full_if(contains(&set, "0.0.0") && is_within(first, &set)),
         Err(_) => Ending::Refused,
     }
 }
