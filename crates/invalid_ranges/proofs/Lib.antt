@@ -1,7 +1,7 @@
 mod Places
 mod RangeErrors
 mod RangeReasons
-mod TooLargeWords
+mod FirstOffsets
 mod RangeLeaves
 mod PartialCompletions
 mod WordCompletions

@@ -18,10 +18,10 @@ use Rattle.invalid_ranges.specs.Prefixes.{BeginsAs}
 use Rattle.tool_ranges.specs.CargoGrammar.{SpellsRequirement}
 use Rattle.tool_ranges.specs.Dialects.{IsTextAs}
 use Rattle.invalid_ranges.specs.Steps.Places.{range_completions}
-use Rattle.invalid_ranges.specs.TooLarge.{IsLimitOffset, limit_offset}
+use Rattle.invalid_ranges.specs.TooLarge.{IsLimitOffset}
+use Rattle.invalid_ranges.proofs.FirstOffsets.{same_limit}
 use Rattle.invalid_ranges.proofs.ReadingCompletions.{goes_on}
-use Rattle.tool_ranges.proofs.ReadingLaws.{one_tree}
-use Rattle.std.proofs.Common.{ap, ◌∙◌}
+use Rattle.std.proofs.Common.{◌∙◌}
 use Rattle.std.proofs.lemmas.Grind.{common_steps}
 
 -- ---- prefixes
@@ -101,5 +101,4 @@ module _ (dialect : Dialect) (t : Text) (utf8 : IsUtf8 t) where
 -- ---- numbers that are too large
 
 pub one_limit : (dialect : Dialect) (t : Text) (m n : ℕ) → IsLimitOffset dialect t m → IsLimitOffset dialect t n → m ≡ n
-one_limit dialect t m n a b =
-    a.is ∙ ap (λ tree. limit_offset dialect tree t) (one_tree dialect a.tree b.tree t a.spelled b.spelled) ∙ sym b.is
+one_limit dialect t m n a b = a.is ∙ same_limit dialect t a.tree a.spelled b.tree b.spelled ∙ sym b.is

@@ -24,7 +24,6 @@ use Rattle.tool_ranges.specs.declared.dialect.Dialect.{Dialect}
 use Rattle.semver_texts.specs.declared.grammar.Grammar.{Grammar}
 use Rattle.semver_texts.specs.declared.grammar.Grammar.TheVariants.{Cargo, Npm, Crate}
 use Rattle.tool_ranges.specs.Dialects.{IsTextAs, grammar_of}
-use Rattle.invalid_ranges.specs.TooLarge.{is_separator}
 
 -- ---- the prefix
 
@@ -42,6 +41,10 @@ is_wildcard b = (b == code "x") || ((b == code "X") || (b == code "*"))
 -- whether the prefix ends in a digit or a wildcard
 abbrev pub ends_in_component : Text → Bool
 ends_in_component prefix = ends_in_digit prefix || is_wildcard (from_end prefix 0)
+
+-- whether a byte separates words: any byte except letters, digits, `-`, `.`, `+` and `*`
+abbrev pub is_separator : ℕ → Bool
+is_separator b = not (is_dotted_byte b || ((b == code "+") || (b == code "*")))
 
 -- whether the prefix doesn't end in a word
 abbrev pub is_between : Text → Bool

@@ -3,7 +3,7 @@
 #![tactic(auto)]
 
 pub mod laws;
+mod limit;
 mod offset;
-mod overflow_offset;
 mod reasons;
 pub mod refusals;

@@ -9,14 +9,12 @@ ghost use Rattle.invalid_strings.specs.Reasons.{byte_at};
 ghost use Rattle.invalid_ranges.specs.RangeReasons.{IsReasonAs, begins_partial, ends_identifier};
 ghost use Rattle.invalid_ranges.specs.RangeReasons.{ends_in_component, expects_number};
 ghost use Rattle.invalid_ranges.specs.RangeReasons.{has_leading_zero, is_begun, is_long, is_open};
-ghost use Rattle.invalid_ranges.specs.RangeReasons.{is_operator, is_spaces, is_wildcard, is_word};
-ghost use Rattle.invalid_ranges.specs.RangeReasons.{reason_at_end, reason_by, reason_of};
-ghost use Rattle.invalid_ranges.specs.RangeReasons.{reason_of_any, reason_of_cargo, reason_of_comma};
-ghost use Rattle.invalid_ranges.specs.RangeReasons.{reason_of_crate};
-ghost use Rattle.invalid_ranges.specs.RangeReasons.{reason_of_npm};
+ghost use Rattle.invalid_ranges.specs.RangeReasons.{is_operator, is_separator, is_spaces};
+ghost use Rattle.invalid_ranges.specs.RangeReasons.{is_wildcard, is_word, reason_at_end, reason_by};
+ghost use Rattle.invalid_ranges.specs.RangeReasons.{reason_of, reason_of_any, reason_of_cargo};
+ghost use Rattle.invalid_ranges.specs.RangeReasons.{reason_of_comma, reason_of_crate, reason_of_npm};
 
 use crate::offset::is_range;
-use crate::overflow_offset::is_separator;
 use invalid_strings::buffers::join;
 use invalid_strings::prefix_bytes::{self, byte_at, ends_in_zero, from_end, has_no_digit};
 use invalid_strings::reasons::Reason;
@@ -230,6 +228,13 @@ fn is_word(bytes: &[u8]) -> bool
     ensures { result ≡ is_word bytes.now }
 {
     bytes.iter().all(|byte| !is_separator(*byte))
+}
+
+/// Returns whether a byte separates words.
+fn is_separator(byte: u8) -> bool
+    ensures { result ≡ is_separator byte }
+{
+    !(byte.is_ascii_alphanumeric() || matches!(byte, b'-' | b'.' | b'+' | b'*'))
 }
 
 /// Returns whether an operator begins with the byte.

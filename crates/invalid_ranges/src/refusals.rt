@@ -11,8 +11,8 @@ ghost use Rattle.invalid_ranges.specs.RangeReasons.{IsReasonAs};
 ghost use Rattle.invalid_ranges.specs.Refusals.{IsRefusalAs};
 ghost use Rattle.invalid_ranges.specs.TooLarge.{limit_offset, limit_reason};
 
+use crate::limit::{limit_offset, limit_reason};
 use crate::offset::{check, prefix_end};
-use crate::overflow_offset::{limit_offset, limit_reason};
 use crate::reasons::reason_at;
 use invalid_strings::reasons::Reason;
 use semver_ranges::RangeError;
@@ -78,12 +78,14 @@ fn explained(
     text: &str,
     error: &RangeError,
 ) -> Result<(usize, Reason), AllocError>
+    requires { error.now ≡ NumberTooLarge → IsTextAs dialect text.now }
     ensures offset { IfOk result (λ r.
         error.now ≡ NotARange → IsLongestPrefix (BeginsAs dialect) text.now r.0) }
     ensures reason { IfOk result (λ r. error.now ≡ NotARange
         → IsReasonAs dialect (take r.0 text.now) (byte_at text.now r.0) r.1) }
     ensures limit { IfOk result (λ r. error.now ≡ NumberTooLarge → (tree : TreeOf dialect)
-        → SpellsAs dialect tree text.now → r.0 ≡ limit_offset dialect tree text.now) }
+        (spelled : SpellsAs dialect tree text.now)
+        → r.0 ≡ limit_offset dialect tree text.now spelled) }
     ensures limit_reason { IfOk result (λ r. error.now ≡ NumberTooLarge
         → r.1 ≡ limit_reason dialect (drop r.0 text.now)) }
     ensures out_of_memory { IfErr result (λ _. error.now ≢ NumberTooLarge) }

@@ -9,7 +9,7 @@ use Rattle.semver_ranges.proofs.LongWords.{no_dot}
 
 -- split at dots, a text that begins with a component and a dot has this component as its first
 -- piece
-cut_here : (word rest : Text) → is_component word ≡ true → slice_split is_dot (word ++ (46 ∷ rest)) ≡ word ∷ slice_split is_dot rest
+pub cut_here : (word rest : Text) → is_component word ≡ true → slice_split is_dot (word ++ (46 ∷ rest)) ≡ word ∷ slice_split is_dot rest
 cut_here word rest e = slice_split_at is_dot word 46 rest (All-from_recursion _ word (no_dot word e)) refl
 
 pub after_first : (word rest before after : Text) → is_component word ≡ true

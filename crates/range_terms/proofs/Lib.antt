@@ -6,6 +6,7 @@ pub mod FoundComparators
 pub mod Bars
 pub mod Dots
 pub mod MadeVersions
+pub mod SpelledTerms
 pub mod LowBytes
 pub mod Places
 pub mod RangePlaces

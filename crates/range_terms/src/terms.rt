@@ -13,6 +13,7 @@ ghost use Rattle.range_terms.specs.WrittenTerms.{component_of, major_of, minor_o
 ghost use Rattle.range_terms.specs.WrittenTerms.{patch_of, term_value, terms_in, version_value};
 ghost use Rattle.range_terms.specs.Replacing.{IsReplaceable};
 ghost use Rattle.range_terms.specs.RewrittenVersions.{IsRewritable};
+ghost use Rattle.range_terms.specs.SpelledTerms.{first_form};
 ghost use Rattle.range_terms.specs.Steps.{after_ranges, term_of, terms_left, upper_in};
 ghost use Rattle.range_terms.specs.Steps.{version_in, IsFound, IsVersionOf};
 
@@ -118,12 +119,7 @@ impl<'text> Terms<'text> {
             pre_releases: PreReleases::Default,
         };
         check(meaning, range)?;
-        Ok(Terms {
-            len: range.len(),
-            grammar: dialect.grammar(),
-            range: 0,
-            rest: range.as_bytes(),
-        })
+        Ok(of_range(range, dialect))
     }
 }
 
@@ -146,6 +142,21 @@ impl<'text> Iterator for Terms<'text> {
         self.range += bars;
         self.rest = rest;
         Some(term(self.range, form, self.len - text.len(), version, upper))
+    }
+}
+
+// Determined by: equation.
+/// Returns the terms of a range string that was checked, even if one of its numbers is too large.
+#[must_use]
+pub fn of_range(range: &str, dialect: Dialect) -> Terms<'_>
+    ensures { (tree : TreeOf dialect) (spelled : SpellsAs dialect tree range.now)
+        → result ≡ terms_in dialect tree range.now spelled }
+{
+    Terms {
+        len: range.len(),
+        grammar: dialect.grammar(),
+        range: 0,
+        rest: range.as_bytes(),
     }
 }
 
@@ -200,6 +211,25 @@ fn operator_of(form: Form) -> Operator
         Form::AtLeast => Operator::GreaterOrEqual,
         Form::Tilde => Operator::Tilde,
         Form::Caret => Operator::Caret,
+    }
+}
+
+// Determined by: equation.
+/// Returns the operator of the first version of a term. The left side of a hyphen range is a term
+/// with `>=`.
+#[must_use]
+pub fn form_of(operator: Operator) -> Form
+    ensures { form_of result ≡ first_form operator }
+{
+    match operator {
+        Operator::Bare => Form::Bare,
+        Operator::Equal => Form::Equal,
+        Operator::Less => Form::Less,
+        Operator::LessOrEqual => Form::AtMost,
+        Operator::Greater => Form::Greater,
+        Operator::GreaterOrEqual | Operator::Hyphen => Form::AtLeast,
+        Operator::Tilde => Form::Tilde,
+        Operator::Caret => Form::Caret,
     }
 }
 

@@ -22,7 +22,7 @@ use Rattle.semver_ranges.proofs.SetMeanings.{stated_shape}
 use Rattle.version_sets.specs.Sides.{above}
 use Rattle.tool_ranges.specs.declared.dialect.Dialect.{Dialect}
 use Rattle.tool_ranges.specs.declared.dialect.Dialect.TheVariants.{Cargo, Npm, CrateCargo, CrateNpm}
-use Rattle.tool_ranges.specs.FittingTerms.{is_within_limit, unraised}
+use Rattle.tool_ranges.specs.DialectTable.{limit}
 use Rattle.tool_ranges.specs.Sides.{may_rise, raised_place, sides, sides_fit, term_fits}
 use Rattle.tool_ranges.proofs.Cells.{Spot, leading_of_two, leading_of_three}
 
@@ -142,6 +142,9 @@ own_fits s =
     )
 
 -- numbers within the limit of a dialect are below 2^64
+abbrev is_within_limit : Dialect → ℕ → Bool
+is_within_limit d n = nat_le n (limit d)
+
 within_one : (d : Dialect) (n : ℕ) → is_within_limit d n ≡ true → fits_u64 n ≡ true
 within_one Cargo n e = u64_is n ∙ e
 within_one Npm n e = grind arith
@@ -170,17 +173,10 @@ module _ (s : Simple) (simple : read.Simple) (is : IsSimpleOf s simple) where
       (λ y. rw (sym is.1.0 ∙ y) (same_sides d y))
       (λ n. rw (sym is.1.0 ∙ n) (sym (by_test (term_fits d s) (λ y. absurd (both_ways _ n (term_stated d s y))) (λ no. no))))
 
-  -- whether its numbers are within the limit
-  pub read_within : (d : Dialect) → (simple.partial.fits && list_all (is_within_limit d) (stated_of simple.partial))
-      ≡ list_all (is_within_limit d) (stated s.partial)
-  read_within d = by_test (list_all fits_u64 (stated s.partial))
-      (λ y. rw (sym is.1.0 ∙ y) (ap (list_all (is_within_limit d)) (is.1.1 (sym is.1.0 ∙ y)).0))
-      (λ n. rw (sym is.1.0 ∙ n) (sym (by_test (list_all (is_within_limit d) (stated s.partial))
-      (λ y. absurd (both_ways _ n (within_all d (stated s.partial) y)))
-      (λ no. no))))
-
-  pub read_unraised : (d : Dialect) → list_all (is_within_limit d) (stated s.partial) ≡ true
-      → raised_place (sides d (form_of simple.form) (stated_of simple.partial) (not (is_empty (version_of simple.partial).pre))) ≡ unraised d s
-  read_unraised d all =
+  -- the same number is raised for its sides
+  pub read_raised : (d : Dialect) → list_all (is_within_limit d) (stated s.partial) ≡ true
+      → raised_place (sides d (form_of simple.form) (stated_of simple.partial) (not (is_empty (version_of simple.partial).pre)))
+      ≡ raised_place (sides d s.form (stated s.partial) (not (is_empty (zero_filled s.partial).pre)))
+  read_raised d all =
       let same = is.1.1 (sym is.1.0 ∙ within_all d (stated s.partial) all) in
-      rw all (λ i. raised_place (sides d (is.0 i) (same.0 i) (not (is_empty (same.1 i).pre))))
+      λ i. raised_place (sides d (is.0 i) (same.0 i) (not (is_empty (same.1 i).pre)))

@@ -10,7 +10,7 @@ mod NumberSteps
 mod TableLaws
 mod FitCells
 mod CheckedEvents
-mod FittingTerms
+mod TooLargeNumbers
 -- a version is between the sides of a term if and only if it satisfies the term
 mod Cells
 mod CargoCells

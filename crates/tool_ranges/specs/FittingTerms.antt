@@ -1,10 +1,10 @@
--- The terms of a range in the order of its text, whether the numbers of each are within the limit of
--- a dialect, and which number can't be raised.
-use Rattle.std.specs.Prelude.{ℕ, Bool, not, if◌then◌else◌, List, [], ◌∷◌, map, nat_le}
-use Rattle.std.specs.List.{filter, flat_map, list_all, prefix_len}
+-- The terms of a range in the order of its text, and which number of a term is too large.
+use Rattle.std.specs.Prelude.{ℕ, not, if◌then◌else◌, List, [], ◌∷◌, map, nat_le}
+use Rattle.std.specs.Prelude.{Option, Some, None, unwrap_or}
+use Rattle.std.specs.List.{flat_map, list_all, prefix_len}
 use Rattle.semver_texts.specs.Texts.{is_empty}
-use Rattle.semver_ranges.specs.RangeTree.{RangeTree, Simple, empty, hyphen, simples}
-use Rattle.semver_ranges.specs.Partials.{stated, states_nothing, zero_filled}
+use Rattle.semver_ranges.specs.RangeTree.{Form, RangeTree, Simple, empty, hyphen, simples}
+use Rattle.semver_ranges.specs.Partials.{stated, zero_filled}
 use Rattle.semver_ranges.specs.Terms.{left_side, right_side}
 use Rattle.tool_ranges.specs.declared.dialect.Dialect.{Dialect}
 use Rattle.tool_ranges.specs.declared.dialect.Dialect.TheVariants.{Cargo, Npm, CrateCargo}
@@ -20,37 +20,36 @@ terms_of empty = []
 terms_of (hyphen left right) = left_side left ∷ right_side right ∷ []
 terms_of (simples first others) = first ∷ others
 
+-- the operator that the dialect reads, and a term with it
+abbrev pub operator_in : Dialect → Simple → Form
+operator_in Cargo s = (as_read s).form
+operator_in dialect s = s.form
+
+abbrev pub read_in : Dialect → Simple → Simple
+read_in dialect s = record { form = operator_in dialect s; partial = s.partial }
+
 -- the terms of a text, with the operators that the dialect reads
+abbrev pub all_terms : (dialect : Dialect) → TreeOf dialect → List Simple
+all_terms Cargo tree = tree
+all_terms Npm tree = flat_map terms_of tree
+all_terms CrateCargo tree = flat_map terms_of tree
+all_terms CrateNpm tree = flat_map terms_of tree
+
 abbrev pub terms_as : (dialect : Dialect) → TreeOf dialect → List Simple
-terms_as Cargo tree = map as_read tree
-terms_as Npm tree = flat_map terms_of tree
-terms_as CrateCargo tree = flat_map terms_of tree
-terms_as CrateNpm tree = flat_map terms_of tree
+terms_as dialect tree = map (read_in dialect) (all_terms dialect tree)
 
--- the terms that state a number
-abbrev pub stating : List Simple → List Simple
-stating terms = filter (λ s. not (states_nothing s.partial)) terms
+-- ---- the number that is too large
 
--- how many terms come before the first that doesn't fit
-abbrev pub fitting : Dialect → List Simple → ℕ
-fitting dialect terms = prefix_len (term_fits dialect) terms
+-- the index of the first number above the limit, if there is one
+abbrev pub first_above : ℕ → List ℕ → Option ℕ
+first_above most ns = if list_all (λ n. nat_le n most) ns then None
+    else Some (prefix_len (λ n. nat_le n most) ns)
 
--- ---- the number that can't be raised
-
--- whether a number is within the limit of the dialect
-abbrev pub is_within_limit : Dialect → ℕ → Bool
-is_within_limit dialect n = nat_le n (limit dialect)
-
--- the index of the number of a term that is raised for one of its sides and can't be. It is 0 if the
--- term states a number above the limit itself
-abbrev pub unraised : Dialect → Simple → ℕ
-unraised dialect s = if list_all (is_within_limit dialect) (stated s.partial)
-    then raised_place (sides dialect s.form (stated s.partial)
-    (not (is_empty (zero_filled s.partial).pre)))
-    else 0
-
--- the same for the first term that doesn't fit, if there is one
-abbrev pub first_unraised : Dialect → List Simple → ℕ
-first_unraised dialect [] = 0
-first_unraised dialect (s ∷ terms) =
-    if term_fits dialect s then first_unraised dialect terms else unraised dialect s
+-- the index of the number of a term that is too large, if the term doesn't fit: that of its first
+-- number above the limit, or if there is none, that of the number that is raised for one of its
+-- sides and can't be
+abbrev pub too_large : Dialect → Simple → Option ℕ
+too_large dialect s = if term_fits dialect s then None
+    else Some (unwrap_or (first_above (limit dialect) (stated s.partial))
+    (raised_place (sides dialect s.form (stated s.partial)
+    (not (is_empty (zero_filled s.partial).pre)))))

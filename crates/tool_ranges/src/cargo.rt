@@ -26,7 +26,7 @@ mod grammar;
 use crate::dialect::Dialect;
 use crate::printing;
 use crate::table::fits;
-pub(crate) use grammar::read_comparator;
+pub(crate) use grammar::{has_wildcard, named, read_comparator};
 use semver_ranges::grammar::Simple;
 use semver_ranges::partial::LowerBounds;
 use semver_ranges::{Compat, Range, RangeError, RangeSet};

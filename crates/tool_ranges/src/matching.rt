@@ -12,7 +12,6 @@ ghost use Rattle.version_sets.specs.PreReleaseRules.{numbers_fit};
 ghost use Rattle.version_sets.specs.Steps.Cuts.{is_in_interval};
 ghost use Rattle.tool_ranges.specs.Dialects.{RefusesAs, SpellsAs, TreeOf, grammar_of};
 ghost use Rattle.tool_ranges.specs.Meanings.{meant_by};
-ghost use Rattle.tool_ranges.specs.FittingTerms.{first_unraised, fitting, stating, terms_as};
 ghost use Rattle.tool_ranges.specs.Sides.{term_fits, sides_fit};
 ghost use Rattle.tool_ranges.specs.Steps.Matching.{Says, begun, counts, ended, lower_of, plain_of};
 ghost use Rattle.tool_ranges.specs.Steps.Matching.{is_met, states_at, taken, takes_all, term_met};
@@ -22,7 +21,7 @@ ghost use Rattle.tool_ranges.specs.NpmMeaning.{asks_nothing_by, is_zero};
 
 use crate::cursor::Cursor;
 use crate::dialect::Dialect;
-use crate::table::{bounds, counted, fits, is_zero, unraised};
+use crate::table::{bounds, counted, fits, is_zero};
 use semver_ranges::RangeError;
 use semver_ranges::events::Event;
 use semver_ranges::grammar::{Form, Simple};
@@ -288,39 +287,4 @@ pub(crate) fn check(range: &str, dialect: Dialect) -> Result<(), RangeError>
         return Err(RangeError::NumberTooLarge);
     }
     Ok(())
-}
-
-// Determined by: equation.
-/// Returns how many terms with a number come before the first term that doesn't fit, and the index
-/// of that term's number that is raised and can't be. The index is 0 if one of the numbers of that
-/// term is itself above the limit, or if all terms fit.
-#[must_use]
-pub fn first_unfit(range: &str, dialect: Dialect) -> (u128, usize)
-    ensures fitting { (tree : TreeOf dialect) → SpellsAs dialect tree range.now
-        → result.0 ≡ fitting dialect (stating (terms_as dialect tree)) }
-    ensures unraised { (tree : TreeOf dialect) → SpellsAs dialect tree range.now
-        → result.1 ≡ first_unraised dialect (stating (terms_as dialect tree)) }
-{
-    let grammar = dialect.grammar();
-    let Ok(mut cursor) = Cursor::new(range, dialect, LowerBounds::Stated) else {
-        return (0, 0);
-    };
-    let mut fitting = 0;
-    while let Some(event) = cursor.next(grammar) {
-        let Ok(event) = event else {
-            return (fitting, 0);
-        };
-        match event {
-            Event::Simple(simple) => {
-                if !simple.partial.states_nothing() {
-                    if !fits(&simple, dialect) {
-                        return (fitting, unraised(&simple, dialect));
-                    }
-                    fitting += 1;
-                }
-            }
-            Event::NextRange => {}
-        }
-    }
-    (fitting, 0)
 }

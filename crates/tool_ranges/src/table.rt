@@ -6,14 +6,18 @@
 //! the versions from the beginning of the block to the end of a larger block, that of fewer
 //! numbers.
 
-ghost use Rattle.std.specs.Prelude.{◌≡◌, ◌&&◌, ◌-◌, ◌^◌, true, false, not, option_map, Some};
+ghost use Rattle.std.specs.Prelude.{◌≡◌, ◌<◌, ◌&&◌, ◌-◌, ◌^◌, ℕ, true, false, not, option_map};
+ghost use Rattle.std.specs.Prelude.{IfSome, Some, nat_le};
+ghost use Rattle.std.specs.List.{list_all};
 ghost use Rattle.semver_texts.specs.Digits.{plain_by};
-ghost use Rattle.semver_texts.specs.Texts.{is_empty};
+ghost use Rattle.semver_texts.specs.Texts.{cut_at_dots, is_empty, is_part};
 ghost use Rattle.semver_texts.specs.Versions.{numbers, PlainVersion};
 ghost use Rattle.semver_texts.specs.declared.grammar.Digits.{Digits as SomeDigits};
 ghost use Rattle.semver_ranges.specs.RewritingTable.{up};
-ghost use Rattle.semver_ranges.specs.RangeTree.{Simple as SimpleTree};
-ghost use Rattle.semver_ranges.specs.Steps.CursorViews.{IsSimpleOf, form_of};
+ghost use Rattle.semver_ranges.specs.Partials.{stated};
+ghost use Rattle.semver_ranges.specs.RangeTree.{PartialTree, Simple as SimpleTree};
+ghost use Rattle.semver_ranges.specs.Steps.CursorViews.{form_of};
+ghost use Rattle.semver_ranges.specs.Steps.PartialViews.{AreWritten, IsValue};
 ghost use Rattle.semver_ranges.specs.Steps.PartialViews.{PartsPass, place_number, stated_of};
 ghost use Rattle.semver_ranges.specs.Steps.PartialViews.{version_of};
 ghost use Rattle.version_sets.specs.Steps.Cuts.{beside_kept, is_in_interval, side_value};
@@ -28,11 +32,12 @@ ghost use Rattle.tool_ranges.specs.Sides.{ends_past, may_rise, raised_for, raise
 ghost use Rattle.tool_ranges.specs.Steps.Table.{is_within, cargo_sides, is_counted_within};
 ghost use Rattle.tool_ranges.specs.Steps.Table.{is_past_release, sides_beside};
 ghost use Rattle.tool_ranges.specs.DialectTable.{limit};
-ghost use Rattle.tool_ranges.specs.FittingTerms.{unraised};
+ghost use Rattle.tool_ranges.specs.FittingTerms.{first_above, read_in, too_large};
 
+use crate::cargo::{has_wildcard, named};
 use crate::dialect::Dialect;
 use semver_ranges::grammar::{Form, Simple};
-use semver_ranges::partial::{Partial, PartialKind, Place};
+use semver_ranges::partial::{Component, Components, Partial, PartialKind, Place};
 use semver_texts::npm_limits::MAX_SAFE_INTEGER;
 use version_sets::{Cut, Interval, Release, Side};
 
@@ -248,22 +253,85 @@ pub(crate) fn fits(simple: &Simple<'_>, dialect: Dialect) -> bool
     partial.states_at_most(most) & may_rise(partial, lower, most) & may_rise(partial, upper, most)
 }
 
-/// Returns the index of the number of a term that is raised for one of its sides. If one of its own
-/// numbers is above the limit, it returns 0.
-pub(crate) fn unraised(simple: &Simple<'_>, dialect: Dialect) -> usize
-    ensures { (s : SimpleTree) → IsSimpleOf s simple.now → result ≡ unraised dialect s }
+// Determined by: equation.
+/// Returns the index of the number of a term that is too large, or `None` if the term fits: of the
+/// first number above the limit of the dialect, or if there is none, of the number that is raised
+/// for one of the sides and can't be. It is below 3.
+#[must_use]
+pub fn too_large(form: Form, written: &Components<'_>, dialect: Dialect) -> Option<usize>
+    requires { list_all is_part (cut_at_dots written.now.pre.now) ≡ true }
+    ensures value { (s : SimpleTree) → form_of form ≡ s.form → AreWritten s.partial written.now
+        → result ≡ too_large dialect (read_in dialect s) }
+    ensures small { IfSome result (λ index. index < 3) }
 {
-    if !simple.partial.states_at_most(limit(dialect)) {
-        return 0;
+    let simple = Simple {
+        form: operator_in(form, written, dialect),
+        partial: Partial::new(written.major, written.minor, written.patch, written.pre),
+    };
+    if fits(&simple, dialect) {
+        return None;
     }
-    let (lower, upper) = sides(simple, dialect);
-    raised_place(lower, upper)
+    let (lower, upper) = sides(&simple, dialect);
+    match first_above(written, limit(dialect)) {
+        Some(index) => Some(index),
+        None => Some(raised_place(lower, upper)),
+    }
+}
+
+/// Returns the operator of a term as a dialect reads it.
+fn operator_in(form: Form, written: &Components<'_>, dialect: Dialect) -> Form
+    ensures { (s : SimpleTree) → form_of form ≡ s.form → AreWritten s.partial written.now
+        → form_of result ≡ (read_in dialect s).form }
+{
+    match dialect {
+        Dialect::Cargo => named(form, has_wildcard(written)),
+        Dialect::Npm | Dialect::CrateCargo | Dialect::CrateNpm => form,
+    }
+}
+
+/// Returns the index of the first number above a limit, if there is one.
+fn first_above(written: &Components<'_>, most: u64) -> Option<usize>
+    ensures value { (p : PartialTree) → AreWritten p written.now
+        → result ≡ first_above most (stated p) }
+    ensures small { IfSome result (λ index. index < 3) }
+{
+    let Component::Number(major) = written.major else {
+        return None;
+    };
+    if is_above(major, most) {
+        return Some(0);
+    }
+    let Component::Number(minor) = written.minor else {
+        return None;
+    };
+    if is_above(minor, most) {
+        return Some(1);
+    }
+    let Component::Number(patch) = written.patch else {
+        return None;
+    };
+    if is_above(patch, most) {
+        return Some(2);
+    }
+    None
+}
+
+/// Returns whether a number is above a limit.
+fn is_above(number: Option<u64>, most: u64) -> bool
+    ensures { (n : ℕ) → IsValue n number → nat_le n most ≡ not result }
+{
+    match number {
+        Some(number) => number > most,
+        None => true,
+    }
 }
 
 /// Returns the index of the number that is raised for the lower side, or else for the upper one. It
 /// is 0 if none is.
 fn raised_place(lower: Option<Side>, upper: Option<Side>) -> usize
-    ensures { result ≡ raised_place (option_map side_value lower, option_map side_value upper) }
+    ensures value { result
+        ≡ raised_place (option_map side_value lower, option_map side_value upper) }
+    ensures small { result < 3 }
 {
     match (lower, upper) {
         (Some(Side::Above(place)), _) => index(place),
@@ -274,7 +342,8 @@ fn raised_place(lower: Option<Side>, upper: Option<Side>) -> usize
 
 /// Returns the index of the number at a place, counted from 0.
 fn index(place: Place) -> usize
-    ensures { result ≡ raised_for (Some (above (place_number place))) }
+    ensures value { result ≡ raised_for (Some (above (place_number place))) }
+    ensures small { result < 3 }
 {
     match place {
         Place::Major => 0,

@@ -53,7 +53,7 @@ fn begins_with_tilde_greater(text: &[u8]) -> bool
 
 /// Returns the operator, where none means `^`, or `=` with a wildcard.
 #[inline(always)]
-fn named(form: Form, has_wildcard: bool) -> Form
+pub(crate) fn named(form: Form, has_wildcard: bool) -> Form
     ensures { form_of result ≡ named has_wildcard (form_of form) }
 {
     match form {
@@ -65,7 +65,7 @@ fn named(form: Form, has_wildcard: bool) -> Form
 
 /// Returns whether some component is a wildcard.
 #[inline(always)]
-fn has_wildcard(written: &Components<'_>) -> bool
+pub(crate) fn has_wildcard(written: &Components<'_>) -> bool
     ensures { (p : PartialTree) → AreWritten p written.now → result ≡ has_wildcard p }
 {
     match (written.major, written.minor, written.patch) {

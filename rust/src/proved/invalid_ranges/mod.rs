@@ -3,7 +3,7 @@
 //! the reason of the error, and the number that is too large.
 
 use crate::rattle_std::prelude::*;
+mod limit;
 mod offset;
-mod overflow_offset;
 mod reasons;
 pub mod refusals;

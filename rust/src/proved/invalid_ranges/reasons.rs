@@ -6,7 +6,6 @@
 
 use crate::rattle_std::prelude::*;
 use crate::proved::invalid_ranges::offset::is_range;
-use crate::proved::invalid_ranges::overflow_offset::is_separator;
 use crate::proved::invalid_strings::buffers::join;
 use crate::proved::invalid_strings::prefix_bytes::{self, byte_at, ends_in_zero, from_end, has_no_digit};
 use crate::proved::invalid_strings::reasons::Reason;
@@ -186,6 +185,11 @@ fn is_long(prefix: &[u8]) -> bool {
 /// Returns whether no byte separates words.
 fn is_word(bytes: &[u8]) -> bool {
     bytes.iter().all(|byte| !is_separator(*byte))
+}
+
+/// Returns whether a byte separates words.
+fn is_separator(byte: u8) -> bool {
+    !(byte.is_ascii_alphanumeric() || matches!(byte, b'-' | b'.' | b'+' | b'*'))
 }
 
 /// Returns whether an operator begins with the byte.

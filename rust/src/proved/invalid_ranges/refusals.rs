@@ -2,8 +2,8 @@
 //! Where and why a string is not a valid range.
 
 use crate::rattle_std::prelude::*;
+use crate::proved::invalid_ranges::limit::{limit_offset, limit_reason};
 use crate::proved::invalid_ranges::offset::{check, prefix_end};
-use crate::proved::invalid_ranges::overflow_offset::{limit_offset, limit_reason};
 use crate::proved::invalid_ranges::reasons::reason_at;
 use crate::proved::invalid_strings::reasons::Reason;
 use crate::proved::semver_ranges::RangeError;

@@ -73,12 +73,7 @@ impl<'text> Terms<'text> {
             pre_releases: PreReleases::Default,
         };
         check(meaning, range)?;
-        Ok(Terms {
-            len: range.len(),
-            grammar: dialect.grammar(),
-            range: 0,
-            rest: range.as_bytes(),
-        })
+        Ok(of_range(range, dialect))
     }
 }
 
@@ -93,6 +88,17 @@ impl<'text> Iterator for Terms<'text> {
         self.range += bars;
         self.rest = rest;
         Some(term(self.range, form, self.len - text.len(), version, upper))
+    }
+}
+
+/// Returns the terms of a range string that was checked, even if one of its numbers is too large.
+#[must_use]
+pub fn of_range(range: &str, dialect: Dialect) -> Terms<'_> {
+    Terms {
+        len: range.len(),
+        grammar: dialect.grammar(),
+        range: 0,
+        rest: range.as_bytes(),
     }
 }
 
@@ -139,6 +145,22 @@ fn operator_of(form: Form) -> Operator {
         Form::AtLeast => Operator::GreaterOrEqual,
         Form::Tilde => Operator::Tilde,
         Form::Caret => Operator::Caret,
+    }
+}
+
+/// Returns the operator of the first version of a term. The left side of a hyphen range is a term
+/// with `>=`.
+#[must_use]
+pub fn form_of(operator: Operator) -> Form {
+    match operator {
+        Operator::Bare => Form::Bare,
+        Operator::Equal => Form::Equal,
+        Operator::Less => Form::Less,
+        Operator::LessOrEqual => Form::AtMost,
+        Operator::Greater => Form::Greater,
+        Operator::GreaterOrEqual | Operator::Hyphen => Form::AtLeast,
+        Operator::Tilde => Form::Tilde,
+        Operator::Caret => Form::Caret,
     }
 }
 

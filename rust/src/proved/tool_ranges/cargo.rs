@@ -7,7 +7,7 @@ mod grammar;
 use crate::proved::tool_ranges::dialect::Dialect;
 use crate::proved::tool_ranges::printing;
 use crate::proved::tool_ranges::table::fits;
-pub(crate) use grammar::read_comparator;
+pub(crate) use grammar::{has_wildcard, named, read_comparator};
 use crate::proved::semver_ranges::grammar::Simple;
 use crate::proved::semver_ranges::partial::LowerBounds;
 use crate::proved::semver_ranges::{Compat, Range, RangeError, RangeSet};

@@ -4,7 +4,7 @@
 use crate::rattle_std::prelude::*;
 use crate::proved::tool_ranges::cursor::Cursor;
 use crate::proved::tool_ranges::dialect::Dialect;
-use crate::proved::tool_ranges::table::{bounds, counted, fits, is_zero, unraised};
+use crate::proved::tool_ranges::table::{bounds, counted, fits, is_zero};
 use crate::proved::semver_ranges::RangeError;
 use crate::proved::semver_ranges::events::Event;
 use crate::proved::semver_ranges::grammar::{Form, Simple};
@@ -215,33 +215,4 @@ pub(crate) fn check(range: &str, dialect: Dialect) -> Result<(), RangeError> {
         return Err(RangeError::NumberTooLarge);
     }
     Ok(())
-}
-
-/// Returns how many terms with a number come before the first term that doesn't fit, and the index
-/// of that term's number that is raised and can't be. The index is 0 if one of the numbers of that
-/// term is itself above the limit, or if all terms fit.
-#[must_use]
-pub fn first_unfit(range: &str, dialect: Dialect) -> (u128, usize) {
-    let grammar = dialect.grammar();
-    let Ok(mut cursor) = Cursor::new(range, dialect, LowerBounds::Stated) else {
-        return (0, 0);
-    };
-    let mut fitting = 0;
-    while let Some(event) = cursor.next(grammar) {
-        let Ok(event) = event else {
-            return (fitting, 0);
-        };
-        match event {
-            Event::Simple(simple) => {
-                if !simple.partial.states_nothing() {
-                    if !fits(&simple, dialect) {
-                        return (fitting, unraised(&simple, dialect));
-                    }
-                    fitting += 1;
-                }
-            }
-            Event::NextRange => {}
-        }
-    }
-    (fitting, 0)
 }

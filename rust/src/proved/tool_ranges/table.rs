@@ -8,9 +8,10 @@
 //! numbers.
 
 use crate::rattle_std::prelude::*;
+use crate::proved::tool_ranges::cargo::{has_wildcard, named};
 use crate::proved::tool_ranges::dialect::Dialect;
 use crate::proved::semver_ranges::grammar::{Form, Simple};
-use crate::proved::semver_ranges::partial::{Partial, PartialKind, Place};
+use crate::proved::semver_ranges::partial::{Component, Components, Partial, PartialKind, Place};
 use crate::proved::semver_texts::npm_limits::MAX_SAFE_INTEGER;
 use crate::proved::version_sets::{Cut, Interval, Release, Side};
 
@@ -158,14 +159,62 @@ pub(crate) fn fits(simple: &Simple<'_>, dialect: Dialect) -> bool {
     partial.states_at_most(most) & may_rise(partial, lower, most) & may_rise(partial, upper, most)
 }
 
-/// Returns the index of the number of a term that is raised for one of its sides. If one of its own
-/// numbers is above the limit, it returns 0.
-pub(crate) fn unraised(simple: &Simple<'_>, dialect: Dialect) -> usize {
-    if !simple.partial.states_at_most(limit(dialect)) {
-        return 0;
+/// Returns the index of the number of a term that is too large, or `None` if the term fits: of the
+/// first number above the limit of the dialect, or if there is none, of the number that is raised
+/// for one of the sides and can't be. It is below 3.
+#[must_use]
+pub(crate) fn too_large(form: Form, written: &Components<'_>, dialect: Dialect) -> Option<usize> {
+    let simple = Simple {
+        form: operator_in(form, written, dialect),
+        partial: Partial::new(written.major, written.minor, written.patch, written.pre),
+    };
+    if fits(&simple, dialect) {
+        return None;
     }
-    let (lower, upper) = sides(simple, dialect);
-    raised_place(lower, upper)
+    let (lower, upper) = sides(&simple, dialect);
+    match first_above(written, limit(dialect)) {
+        Some(index) => Some(index),
+        None => Some(raised_place(lower, upper)),
+    }
+}
+
+/// Returns the operator of a term as a dialect reads it.
+fn operator_in(form: Form, written: &Components<'_>, dialect: Dialect) -> Form {
+    match dialect {
+        Dialect::Cargo => named(form, has_wildcard(written)),
+        Dialect::Npm | Dialect::CrateCargo | Dialect::CrateNpm => form,
+    }
+}
+
+/// Returns the index of the first number above a limit, if there is one.
+fn first_above(written: &Components<'_>, most: u64) -> Option<usize> {
+    let Component::Number(major) = written.major else {
+        return None;
+    };
+    if is_above(major, most) {
+        return Some(0);
+    }
+    let Component::Number(minor) = written.minor else {
+        return None;
+    };
+    if is_above(minor, most) {
+        return Some(1);
+    }
+    let Component::Number(patch) = written.patch else {
+        return None;
+    };
+    if is_above(patch, most) {
+        return Some(2);
+    }
+    None
+}
+
+/// Returns whether a number is above a limit.
+fn is_above(number: Option<u64>, most: u64) -> bool {
+    match number {
+        Some(number) => number > most,
+        None => true,
+    }
 }
 
 /// Returns the index of the number that is raised for the lower side, or else for the upper one. It

@@ -42,7 +42,7 @@ fn begins_with_tilde_greater(text: &[u8]) -> bool {
 
 /// Returns the operator, where none means `^`, or `=` with a wildcard.
 #[inline(always)]
-fn named(form: Form, has_wildcard: bool) -> Form {
+pub(crate) fn named(form: Form, has_wildcard: bool) -> Form {
     match form {
         Form::Bare if has_wildcard => Form::Equal,
         Form::Bare => Form::Caret,
@@ -52,7 +52,7 @@ fn named(form: Form, has_wildcard: bool) -> Form {
 
 /// Returns whether some component is a wildcard.
 #[inline(always)]
-fn has_wildcard(written: &Components<'_>) -> bool {
+pub(crate) fn has_wildcard(written: &Components<'_>) -> bool {
     match (written.major, written.minor, written.patch) {
         (Component::Wildcard, _, _) => true,
         (_, Component::Wildcard, _) => written.count > 1,

@@ -2,8 +2,8 @@ use Rattle.std.proofs.Common.{◌≡◌, ℕ, suc, ◌+◌, ◌-◌, ◌∷◌, 
 use Rattle.std.specs.List.{slice_split}
 use Rattle.semver_texts.specs.Texts.{is_dot}
 use Rattle.invalid_ranges.specs.TooLarge.{component_begin}
-use Rattle.invalid_ranges.proofs.TooLargeWords.{next_component, some_components}
-use Rattle.invalid_ranges.proofs.overflow_offset.+component_begin.Goals as goal
+use Rattle.invalid_ranges.proofs.FirstOffsets.{next_component, some_components}
+use Rattle.invalid_ranges.proofs.limit.+component_begin.Goals as goal
 
 pub returns-clause-value : goal.returns-clause-value
 returns-clause-value t c =
