@@ -1,16 +1,14 @@
 -- The components and parts that are read from a word are those of its partial version.
-use Rattle.std.proofs.Common.{◌≡◌, true, List, ◌∷◌, ◌++◌, append_assoc, refl, sym, ap, ◌∙◌}
-use Rattle.std.proofs.lemmas.Bool.{and_parts}
+use Rattle.std.proofs.Common.{◌≡◌, true, List, refl, sym, ap, ◌∙◌}
 use Rattle.std.proofs.Common.{Option, Some, None}
-use Rattle.std.specs.Prelude.{nat_lt}
-use Rattle.std.specs.Bool.{then_some}
 use Rattle.std.specs.List.{join_with_byte, list_all}
 use Rattle.semver_texts.specs.Texts.{Text, cut_at_dots, is_part}
 use Rattle.semver_texts.specs.declared.grammar.Grammar.{Grammar}
 use Rattle.semver_texts.proofs.PartRuns.{joined_cut}
 use Rattle.semver_ranges.specs.declared.partial.Components.{Components}
-use Rattle.semver_ranges.specs.RangeTree.{PartialTree, SpellsPartial, build_parts, is_component, one, qualifier, three, two}
-use Rattle.semver_ranges.specs.Steps.PartialViews.{AreWritten, IsComponentOf}
+use Rattle.semver_ranges.specs.RangeTree.{PartialTree, SpellsPartial, build_parts, one, three, two}
+use Rattle.semver_ranges.specs.declared.partial.Component as read
+use Rattle.semver_ranges.specs.Steps.PartialViews.{AreWritten, IsComponentOf, IsWrittenAs}
 use Rattle.semver_ranges.specs.Steps.Reading.{after_v, component, with_first}
 use Rattle.semver_ranges.proofs.ReadingPieces.{PartialAt, component_sound, first_sound}
 use Rattle.range_terms.specs.declared.term.Component.{Component}
@@ -43,39 +41,16 @@ pub record Made (p : PartialTree) (first : Component) (second third : Option Com
   pub minor : second ≡ minor_of p
   pub patch : third ≡ patch_of p
 
--- if a text begins with a partial version, the components read at its beginning, after its first
--- dot and after its second one are those of the partial version
-pub components_made : (p : PartialTree) (c : Components) → AreWritten p c → (word rest text second third : Text)
-    → SpellsPartial p word → text ≡ word ++ rest
-    → ((x r : Text) → nat_lt 1 c.count ≡ true → is_component x ≡ true → text ≡ x ++ (46 ∷ r) → second ≡ r)
-    → ((x r : Text) → nat_lt 2 c.count ≡ true → is_component x ≡ true → second ≡ x ++ (46 ∷ r) → third ≡ r)
-    → (a b c' : Component)
-    → ((x r : Text) → IsComponentOf x c.major → text ≡ x ++ r → a ≡ component_of x)
-    → ((x r : Text) → IsComponentOf x c.minor → second ≡ x ++ r → b ≡ component_of x)
-    → ((x r : Text) → IsComponentOf x c.patch → third ≡ x ++ r → c' ≡ component_of x)
-    → (minor patch : Option Component) → minor ≡ then_some (nat_lt 1 c.count) b → patch ≡ then_some (nat_lt 2 c.count) c'
-    → Made p a minor patch
-components_made (one x) c w word rest text second third spelled whole next last a b c' f g h minor patch m n = record {
-  major = f x rest w.stand.0 (rw (whole, spelled.2) (simp append_assoc));
-  minor = m ∙ rw w.count refl;
-  patch = n ∙ rw w.count refl;
-}
-components_made (two x y) c w word rest text second third spelled whole next last a b c' f g h minor patch m n =
-    let each = and_parts (is_component x) _ spelled.0 in
-    let all : text ≡ x ++ (46 ∷ (y ++ rest)) = rw (whole, spelled.2) (simp append_assoc) in
-    record {
-      major = f x (46 ∷ (y ++ rest)) w.stand.0 all;
-      minor = m ∙ rw w.count (ap Some (g y rest w.stand.1 (next x (y ++ rest) (rw w.count refl) each.0 all)));
-      patch = n ∙ rw w.count refl;
-    }
-components_made (three x y z pre build) c w word rest text second third spelled whole next last a b c' f g h minor patch m n =
-    let first = and_parts (is_component x) _ spelled.0 in
-    let other = and_parts (is_component y) _ first.1 in
-    let back = qualifier (three x y z pre build) ++ rest in
-    let all : text ≡ x ++ (46 ∷ (y ++ (46 ∷ (z ++ back)))) = rw (whole, spelled.2) (simp append_assoc) in
-    let after = next x (y ++ (46 ∷ (z ++ back))) (rw w.count refl) first.0 all in
-    record {
-      major = f x (46 ∷ (y ++ (46 ∷ (z ++ back)))) w.stand.0 all;
-      minor = m ∙ rw w.count (ap Some (g y (46 ∷ (z ++ back)) w.stand.1 after));
-      patch = n ∙ rw w.count (ap Some (h z back w.stand.2 (last y (z ++ back) (rw w.count refl) other.0 after)));
-    }
+-- what is made of components that were read: of a missing one nothing
+abbrev Makes : Option read.Component → Option Component → Type 0
+Makes o made = (o ≡ None → made ≡ None) × ((w : Text) → IsWrittenAs w o → made ≡ Some (component_of w))
+
+module _ (c : Components) (a : Component) (b b' : Option Component) (first : (w : Text) → IsComponentOf w c.major → a ≡ component_of w)
+    (second : Makes c.minor b) (third : Makes c.patch b') where
+  pub components_made : (p : PartialTree) → AreWritten p c → Made p a b b'
+  components_made (one x) w =
+      record { major = first x w.components.0; minor = second.0 w.components.1; patch = third.0 w.components.2 }
+  components_made (two x y) w =
+      record { major = first x w.components.0; minor = second.1 y w.components.1; patch = third.0 w.components.2 }
+  components_made (three x y z pre build) w =
+      record { major = first x w.components.0; minor = second.1 y w.components.1; patch = third.1 z w.components.2 }

@@ -1,13 +1,12 @@
 //! Iterates over the terms of a range string. Nothing here allocates.
 
-ghost use Rattle.std.specs.Prelude.{◌≡◌, ◌≢◌, ◌≤◌, ◌<◌, ◌+◌, ◌++◌, true, Err, IfOk, IfSome};
-ghost use Rattle.std.specs.Prelude.{[], ◌∷◌, length, option_map, slice_index};
+ghost use Rattle.std.specs.Prelude.{◌≡◌, ◌≢◌, ◌≤◌, ◌<◌, ◌+◌, true, Err, IfOk, IfSome};
+ghost use Rattle.std.specs.Prelude.{Some, None, length, option_map};
 ghost use Rattle.std.specs.List.{AllByRecursion, list_all};
 ghost use Rattle.semver_texts.specs.Texts.{Text, begins_with, cut_at_dots, is_part};
-ghost use Rattle.semver_ranges.specs.RangeTree.{PartialTree, SpellsPartial, is_component};
-ghost use Rattle.semver_ranges.specs.RangeTree.{is_wildcard};
+ghost use Rattle.semver_ranges.specs.RangeTree.{PartialTree};
 ghost use Rattle.semver_ranges.specs.Steps.CursorViews.{form_of};
-ghost use Rattle.semver_ranges.specs.Steps.PartialViews.{AreWritten, IsComponentOf};
+ghost use Rattle.semver_ranges.specs.Steps.PartialViews.{AreWritten, IsComponentOf, IsWrittenAs};
 ghost use Rattle.tool_ranges.specs.Dialects.{RefusesAs, SpellsAs, TreeOf};
 ghost use Rattle.range_terms.specs.WrittenTerms.{component_of, major_of, minor_of, operator_of};
 ghost use Rattle.range_terms.specs.WrittenTerms.{patch_of, term_value, terms_in, version_value};
@@ -23,7 +22,7 @@ use semver_ranges::grammar::{
     Form, after_bars, after_blanks, after_v, read_components, read_operator,
 };
 use semver_ranges::partial::{self, Components};
-use semver_texts::dotted::{split_at_dot, strip_mark, text_of_parts};
+use semver_texts::dotted::{strip_mark, text_of_parts};
 use semver_texts::grammar::Grammar;
 use std::marker::Model;
 use tool_ranges::dialect::Dialect;
@@ -263,7 +262,7 @@ fn read_version(text: &[u8], grammar: Grammar, len: usize) -> Option<(PartialVer
         start: len - text.len(),
         end: len - rest.len(),
     };
-    Some((version(span, begins_with_v(text), word, &written), rest))
+    Some((version(span, begins_with_v(text), &written), rest))
 }
 
 /// Returns whether a string begins with `v`.
@@ -273,66 +272,41 @@ fn begins_with_v(text: &[u8]) -> bool
     matches!(text, [b'v', ..])
 }
 
-/// Returns the version with the components that are at the beginning of a string.
-fn version<'text>(
-    span: Span,
-    has_v: bool,
-    text: &[u8],
-    written: &Components<'text>,
-) -> PartialVersion<'text>
+/// Returns the version with these components.
+fn version<'text>(span: Span, has_v: bool, written: &Components<'text>) -> PartialVersion<'text>
     requires { (p : PartialTree) × AreWritten p written.now
         × (list_all is_part (cut_at_dots written.now.build.now) ≡ true) }
-    ensures { (p : PartialTree) (word rest : Text) → SpellsPartial p word → text.now ≡ word ++ rest
-        → AreWritten p written.now → IsVersionOf span has_v p result }
+    ensures { (p : PartialTree) → AreWritten p written.now → IsVersionOf span has_v p result }
 {
-    let second = after_dot(text, written.count > 1);
-    let third = after_dot(second, written.count > 2);
     PartialVersion {
         span,
         has_v,
-        major: component(written.major, text),
-        minor: (written.count > 1).then_some(component(written.minor, second)),
-        patch: (written.count > 2).then_some(component(written.patch, third)),
+        major: component(written.major),
+        minor: component_if_written(written.minor),
+        patch: component_if_written(written.patch),
         pre: text_of_parts(written.pre),
         build: text_of_parts(written.build),
     }
 }
 
-/// Returns what follows the first dot of a string, if a component is there. Otherwise it doesn't
-/// look for a dot, which could be far away, or in another version.
-fn after_dot(text: &[u8], has_component: bool) -> &[u8]
-    ensures { (word rest : Text) → has_component ≡ true → is_component word ≡ true
-        → text.now ≡ word ++ (46 ∷ rest) → result.now ≡ rest }
+/// Returns a component that was read, if it is written.
+fn component_if_written(read: Option<partial::Component>) -> Option<Component>
+    ensures none { read ≡ None → result ≡ None }
+    ensures some { (word : Text) → IsWrittenAs word read → result ≡ Some (component_of word) }
 {
-    if !has_component {
-        return &[];
-    }
-    match split_at_dot(text) {
-        (_, Some(after)) => after,
-        (_, None) => &[],
+    match read {
+        Some(read) => Some(component(read)),
+        None => None,
     }
 }
 
-/// Returns the component that was read at the beginning of a string.
-fn component(read: partial::Component, text: &[u8]) -> Component
-    ensures { (word rest : Text) → IsComponentOf word read → text.now ≡ word ++ rest
-        → result ≡ component_of word }
+/// Returns a component that was read.
+fn component(read: partial::Component) -> Component
+    ensures { (word : Text) → IsComponentOf word read → result ≡ component_of word }
 {
     match read {
         partial::Component::Number(number) => Component::Number(number.unwrap_or(u64::MAX)),
-        partial::Component::Wildcard => Component::Wildcard(wildcard(text)),
-    }
-}
-
-/// Returns the wildcard at the beginning of a string.
-fn wildcard(text: &[u8]) -> char
-    ensures { (word rest : Text) → is_wildcard word ≡ true → text.now ≡ word ++ rest
-        → result ≡ slice_index word 0 }
-{
-    match text {
-        [b'X', ..] => 'X',
-        [b'*', ..] => '*',
-        _ => 'x',
+        partial::Component::Wildcard(byte) => Component::Wildcard(char::from(byte)),
     }
 }
 

@@ -21,8 +21,8 @@ first_apart (x ∷ xs) some = grind (arith, take-length xs)
 
 -- a text that begins with a wildcard, and one that begins with `0`
 pub wildcard_front : (t : Text) → 1 ≤ length t → is_wildcard (get_or t 0 0 ∷ []) ≡ true → (x : Text)
-    × (component t ≡ Some (x, take (length t - 1) (drop 1 t))) × (is_wildcard x ≡ true)
-wildcard_front t some e = (get_or t 0 0 ∷ [], ap component (first_apart t some) ∙ grind arith, e)
+    × (component t ≡ Some (x, take (length t - 1) (drop 1 t))) × ((is_wildcard x ≡ true) × (x ≡ get_or t 0 0 ∷ []))
+wildcard_front t some e = (get_or t 0 0 ∷ [], ap component (first_apart t some) ∙ grind arith, (e, refl))
 
 pub zero_front : (t : Text) → 1 ≤ length t → get_or t 0 0 ≡ 48
     → (x : Text) × (component t ≡ Some (x, take (length t - 1) (drop 1 t))) × (is_wildcard x ≡ false)

@@ -14,7 +14,6 @@ pub mod Meanings
 pub mod OnlySimples
 pub mod PartRuns
 pub mod PrintedLaws
-pub mod Qualifiers
 pub mod ReadingComplete
 pub mod ReadingPieces
 pub mod ReadingSound

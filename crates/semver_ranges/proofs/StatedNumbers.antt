@@ -1,6 +1,6 @@
 -- The numbers and the pre-release that a partial version states, from its components.
 use Rattle.std.proofs.Common.{arith}
-use Rattle.std.proofs.Common.{◌≡◌, ℕ, Bool, true, false, ◌&&◌, ◌==◌, List, [], ◌∷◌, length, map, refl, sym, ap, ◌∙◌, Option}
+use Rattle.std.proofs.Common.{◌≡◌, ℕ, Bool, true, false, ◌&&◌, ◌==◌, List, [], ◌∷◌, length, map, refl, sym, ap, ◌∙◌, Option, Some, None}
 use Rattle.std.specs.Option.{is_some, unwrap_or}
 use Rattle.std.specs.List.{list_all}
 use Rattle.std.proofs.lemmas.Bool.{eqb-true}
@@ -31,26 +31,38 @@ States fit numbers v stated filled = (list_all fits_u64 stated ≡ fit) × (fit 
 abbrev version : ℕ → ℕ → ℕ → List IdentifierValue → PlainVersion
 version x y z pre = record { major = x; minor = y; patch = z; pre = pre }
 
--- a partial version that states one, two or three numbers
-pub states_one : (t : PartialTree) (x : Option ℕ) (patch : Component) (pre : Text) → AreComponentsOf t (Number x) Wildcard patch pre
-    → States (is_some x) (unwrap_or x 0 ∷ []) (version (unwrap_or x 0) 0 0 []) (stated t) (zero_filled t)
-states_one (one a) x patch pre is = grind arith
-states_one (two a b) x patch pre is = rw (is.0.0, is.1) (grind arith)
-states_one (three a b c parts build) x patch pre is = rw (is.0.0, is.1) (grind arith)
+-- a component is missing, or it is a wildcard
+abbrev pub NoNumber : Option Component → Type 0
+NoNumber None = Unit {0}
+NoNumber (Some (Wildcard b)) = Unit {0}
+NoNumber (Some (Number n)) = ⊥
 
-pub states_two : (t : PartialTree) (x y : Option ℕ) (pre : Text) → AreComponentsOf t (Number x) (Number y) Wildcard pre
+-- a partial version that states one, two or three numbers
+pub states_one : (t : PartialTree) (x : Option ℕ) (minor patch : Option Component) → AreComponentsOf t (Number x) minor patch → NoNumber minor
+    → States (is_some x) (unwrap_or x 0 ∷ []) (version (unwrap_or x 0) 0 0 []) (stated t) (zero_filled t)
+states_one (one a) x minor patch is none = grind arith
+states_one (two a b) x None patch is none = absurd is.1
+states_one (two a b) x (Some (Wildcard y)) patch is none = rw (is.0.0, is.1.0) (grind arith)
+states_one (two a b) x (Some (Number n)) patch is none = absurd none
+states_one (three a b c parts build) x None patch is none = absurd is.1
+states_one (three a b c parts build) x (Some (Wildcard y)) patch is none = rw (is.0.0, is.1.0) (grind arith)
+states_one (three a b c parts build) x (Some (Number n)) patch is none = absurd none
+
+pub states_two : (t : PartialTree) (x y : Option ℕ) (patch : Option Component) → AreComponentsOf t (Number x) (Some (Number y)) patch → NoNumber patch
     → States (is_some x && is_some y) (unwrap_or x 0 ∷ unwrap_or y 0 ∷ []) (version (unwrap_or x 0) (unwrap_or y 0) 0 [])
     (stated t) (zero_filled t)
-states_two (one a) x y pre is = cc is.1
-states_two (two a b) x y pre is = rw (is.0.0, is.1.0) (grind arith)
-states_two (three a b c parts build) x y pre is = rw (is.0.0, is.1.0, is.2) (grind arith)
+states_two (one a) x y patch is none = cc is.1
+states_two (two a b) x y patch is none = rw (is.0.0, is.1.0) (grind arith)
+states_two (three a b c parts build) x y None is none = absurd is.2
+states_two (three a b c parts build) x y (Some (Wildcard z)) is none = rw (is.0.0, is.1.0, is.2.0) (grind arith)
+states_two (three a b c parts build) x y (Some (Number n)) is none = absurd none
 
-pub states_three : (t : PartialTree) (x y z : Option ℕ) (pre : Text) → AreComponentsOf t (Number x) (Number y) (Number z) pre
-    → States ((is_some x && is_some y) && is_some z) (unwrap_or x 0 ∷ unwrap_or y 0 ∷ unwrap_or z 0 ∷ [])
+pub states_three : (t : PartialTree) (x y z : Option ℕ) (pre : Text) → AreComponentsOf t (Number x) (Some (Number y)) (Some (Number z))
+    → pre_parts t ≡ cut_at_dots pre → States ((is_some x && is_some y) && is_some z) (unwrap_or x 0 ∷ unwrap_or y 0 ∷ unwrap_or z 0 ∷ [])
     (version (unwrap_or x 0) (unwrap_or y 0) (unwrap_or z 0) (map kept (cut_at_dots pre))) (stated t) (zero_filled t)
-states_three (one a) x y z pre is = cc is.1
-states_three (two a b) x y z pre is = cc is.2
-states_three (three a b c parts build) x y z pre is = rw (is.0.0, is.1.0, is.2.0, is.3) (grind arith)
+states_three (one a) x y z pre is e = cc is.1
+states_three (two a b) x y z pre is e = cc is.2
+states_three (three a b c parts build) x y z pre is e = rw (is.0.0, is.1.0, is.2.0, e) (grind arith)
 
 -- an empty pre-release has no identifiers
 pub none_kept : (pre : Text) → (length pre == 0) ≡ true → map kept (cut_at_dots pre) ≡ []

@@ -17,7 +17,7 @@ ghost use Rattle.semver_ranges.specs.Steps.Reading.{back, ends_range, ends_word}
 ghost use Rattle.semver_ranges.specs.Steps.Reading.{component, partial, operator, simple};
 ghost use Rattle.semver_ranges.specs.Steps.Reading.{right_side};
 ghost use Rattle.semver_ranges.specs.Steps.Reading.{with_first, after_bars};
-ghost use Rattle.semver_ranges.specs.Steps.Reading.{front, after_blanks, begins_qualifier};
+ghost use Rattle.semver_ranges.specs.Steps.Reading.{front, after_blanks};
 ghost use Rattle.semver_ranges.specs.Steps.RangeEvents.{wildcard};
 ghost use Rattle.semver_ranges.specs.Steps.PartialViews.{IsValue, IsComponentOf};
 ghost use Rattle.semver_ranges.specs.Steps.PartialViews.{AreWritten, IsPartialOf};
@@ -78,10 +78,16 @@ impl<'input> Simple<'input> {
     pub(crate) fn wildcard() -> Simple<'input>
         ensures { IsSimpleOf wildcard result }
     {
-        let none = Component::Wildcard;
+        let written = Components {
+            major: Component::Wildcard(b'*'),
+            minor: None,
+            patch: None,
+            pre: &[],
+            build: &[],
+        };
         Simple {
             form: Form::Bare,
-            partial: Partial::new(none, none, none, &[]),
+            partial: Partial::of(&written),
         }
     }
 }
@@ -141,10 +147,7 @@ fn read_partial(text: &[u8], grammar: Grammar, role: Role) -> Option<(Partial<'_
 {
     let (written, rest) = read_components(after_v(text, grammar))?;
     if ends_word(rest, grammar) && takes(text, rest, &written, grammar, role) {
-        Some((
-            Partial::new(written.major, written.minor, written.patch, written.pre),
-            rest,
-        ))
+        Some((Partial::of(&written), rest))
     } else {
         None
     }
@@ -180,7 +183,7 @@ fn takes(text: &[u8], rest: &[u8], written: &Components<'_>, grammar: Grammar, r
 fn has_no_leading_zeros(written: &Components<'_>) -> bool
     ensures { (p : PartialTree) → AreWritten p written.now → result ≡ has_no_leading_zeros p }
 {
-    written.count < 3 || have_no_leading_zeros(written.pre)
+    have_no_leading_zeros(written.pre)
 }
 
 /// Returns whether the word before `rest` isn't too long for npm. Its length is compared with the
@@ -207,44 +210,31 @@ pub fn read_components(text: &[u8]) -> Option<(Components<'_>, &[u8])>
     let (major, rest) = read_component(text)?;
     let one = Components {
         major,
-        minor: Component::Wildcard,
-        patch: Component::Wildcard,
-        count: 1,
+        minor: None,
+        patch: None,
         pre: &[],
         build: &[],
-        is_qualified: false,
     };
     let Some(after) = strip_mark(rest, b'.') else {
         return Some((one, rest));
     };
     let (minor, rest) = read_component(after)?;
     let two = Components {
-        minor,
-        count: 2,
+        minor: Some(minor),
         ..one
     };
     let Some(after) = strip_mark(rest, b'.') else {
         return Some((two, rest));
     };
-    let (patch, qualifier) = read_component(after)?;
-    let (pre, build, rest) = read_qualifier(qualifier)?;
+    let (patch, rest) = read_component(after)?;
+    let (pre, build, rest) = read_qualifier(rest)?;
     let three = Components {
-        patch,
-        count: 3,
+        patch: Some(patch),
         pre,
         build,
-        is_qualified: begins_qualifier(qualifier),
         ..two
     };
     Some((three, rest))
-}
-
-/// Returns whether a pre-release or build metadata begins here.
-#[inline(always)]
-fn begins_qualifier(text: &[u8]) -> bool
-    ensures { result ≡ begins_qualifier text.now }
-{
-    matches!(text, [b'-' | b'+', ..])
 }
 
 /// Returns the pre-release at the beginning of a string and the build metadata after it, each of
@@ -281,7 +271,9 @@ fn read_component(text: &[u8]) -> Option<(Component, &[u8])>
             let (number, rest) = read_digits(u64::from(*first - b'0'), rest);
             Some((Component::Number(number), rest))
         }
-        [b'x' | b'X' | b'*', rest @ ..] => Some((Component::Wildcard, rest)),
+        [wildcard @ (b'x' | b'X' | b'*'), rest @ ..] => {
+            Some((Component::Wildcard(*wildcard), rest))
+        }
         _ => None,
     }
 }

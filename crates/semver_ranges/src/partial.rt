@@ -14,7 +14,7 @@ ghost use Rattle.semver_ranges.specs.Steps.PartialViews.{states_none, stated_of}
 ghost use Rattle.semver_texts.specs.Texts.{cut_at_dots};
 ghost use Rattle.semver_ranges.specs.Steps.PartialViews.{number_at, place_number, pre_of};
 ghost use Rattle.semver_ranges.specs.Steps.PartialViews.{version_of};
-ghost use Rattle.semver_ranges.specs.Steps.PartialViews.{AreComponentsOf, IsPartialOf};
+ghost use Rattle.semver_ranges.specs.Steps.PartialViews.{AreWritten, IsPartialOf};
 ghost use Rattle.semver_ranges.specs.Steps.PartialViews.{PartsPass, begun_as};
 
 use crate::range::{Comparator, Identifier, Op};
@@ -22,30 +22,27 @@ use semver_texts::decimals::number_of_digits;
 use semver_texts::dotted::{of_parts, text_of_parts};
 use std::alloc::{AllocError, Global};
 
-/// A component: a wildcard, or a number. The value of a number above 2^64 - 1 is `None`.
+/// A component: a wildcard as it is written, or a number. The value of a number above 2^64 - 1 is
+/// `None`.
 #[derive(Clone, Copy)]
 pub enum Component {
-    Wildcard,
+    Wildcard(u8),
     Number(Option<u64>),
 }
 
-/// The components of a partial as they are written. Missing ones are wildcards.
+/// The components of a partial as they are written.
 #[derive(Clone, Copy)]
 pub struct Components<'input> {
     /// The first.
     pub major: Component,
-    /// The second.
-    pub minor: Component,
-    /// The third.
-    pub patch: Component,
-    /// The number of components that are written.
-    pub count: usize,
+    /// The second, if it is written.
+    pub minor: Option<Component>,
+    /// The third, if it is written.
+    pub patch: Option<Component>,
     /// The parts of the pre-release after three components, joined by dots.
     pub pre: &'input [u8],
     /// The parts of the build metadata after three components, joined by dots.
     pub build: &'input [u8],
-    /// Whether a pre-release or build metadata is written after three components.
-    pub is_qualified: bool,
 }
 
 /// The number of numbers in a partial.
@@ -101,18 +98,12 @@ pub struct Partial<'input> {
 
 impl<'input> Partial<'input> {
     // Determined by: free, what is kept beside a number above 2^64 - 1: ../replayed_cases/stdin.
-    /// Returns the partial of three components, where missing ones are wildcards, and of the parts
-    /// of a pre-release, which count only after three numbers.
+    /// Returns the partial of some components. The numbers are those before the first wildcard, and
+    /// the pre-release counts only after three numbers.
     #[inline(always)]
-    pub fn new(
-        major: Component,
-        minor: Component,
-        patch: Component,
-        pre: &'input [u8],
-    ) -> Partial<'input>
-        requires { list_all is_part (cut_at_dots pre.now) ≡ true }
-        ensures { (t : PartialTree) → AreComponentsOf t major minor patch pre.now
-            → IsPartialOf t result }
+    pub fn of(written: &Components<'input>) -> Partial<'input>
+        requires { list_all is_part (cut_at_dots written.now.pre.now) ≡ true }
+        ensures { (t : PartialTree) → AreWritten t written.now → IsPartialOf t result }
     {
         let nothing = Partial {
             major: 0,
@@ -122,7 +113,7 @@ impl<'input> Partial<'input> {
             kind: PartialKind::XRangeOnly,
             fits: true,
         };
-        let Component::Number(major) = major else {
+        let Component::Number(major) = written.major else {
             return nothing;
         };
         let one = Partial {
@@ -130,6 +121,9 @@ impl<'input> Partial<'input> {
             kind: PartialKind::MajorOnly,
             fits: major.is_some(),
             ..nothing
+        };
+        let Some(minor) = written.minor else {
+            return one;
         };
         let Component::Number(minor) = minor else {
             return one;
@@ -140,12 +134,15 @@ impl<'input> Partial<'input> {
             fits: one.fits & minor.is_some(),
             ..one
         };
+        let Some(patch) = written.patch else {
+            return two;
+        };
         let Component::Number(patch) = patch else {
             return two;
         };
         Partial {
             patch: patch.unwrap_or(0),
-            pre,
+            pre: written.pre,
             kind: PartialKind::MajorMinorPatch,
             fits: two.fits & patch.is_some(),
             ..two

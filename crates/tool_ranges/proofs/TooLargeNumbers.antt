@@ -3,7 +3,7 @@ use Rattle.std.proofs.Common.{◌≡◌, ℕ, Bool, true, false, not, nat_le, Op
 use Rattle.std.specs.List.{list_all}
 use Rattle.std.specs.Str.Parse.{digits_value}
 use Rattle.semver_texts.proofs.Lists.{by_test}
-use Rattle.semver_texts.specs.Texts.{Text, is_empty}
+use Rattle.semver_texts.specs.Texts.{is_empty}
 use Rattle.semver_ranges.specs.declared.partial.Component.{Component}
 use Rattle.semver_ranges.specs.declared.partial.Component.TheVariants.{Number}
 use Rattle.semver_ranges.specs.RangeTree.{PartialTree, Simple, is_wildcard, one, two, three}
@@ -27,11 +27,11 @@ module _ (d : Dialect) (s : Simple) (none : None ≡ first_above (limit d) (stat
 abbrev Is : ℕ → Bool → Option ℕ → Type 0
 Is most b x = (n : ℕ) → IsValue n x → nat_le n most ≡ b
 
-module _ (most : ℕ) (pre : Text) (patch : Component) (x : Option ℕ) where
+module _ (most : ℕ) (patch : Option Component) (x : Option ℕ) where
   abbrev Above : PartialTree → ℕ → Type 0
   Above t k = Some k ≡ first_above most (stated t)
 
-  pub first : (t : PartialTree) (minor : Component) → AreComponentsOf t (Number x) minor patch pre → Is most false x → Above t 0
+  pub first : (t : PartialTree) (minor : Option Component) → AreComponentsOf t (Number x) minor patch → Is most false x → Above t 0
   first (one a) minor is above = rw (is.0.0, above (digits_value 10 a) is.0.1) refl
   first (two a b) minor is above = by_test (is_wildcard b)
       (λ y. rw (is.0.0, y, above (digits_value 10 a) is.0.1) refl)
@@ -42,7 +42,7 @@ module _ (most : ℕ) (pre : Text) (patch : Component) (x : Option ℕ) where
       (λ y. rw (is.0.0, n, y, above (digits_value 10 a) is.0.1) refl)
       (λ m. rw (is.0.0, n, m, above (digits_value 10 a) is.0.1) refl))
 
-  pub second : (t : PartialTree) (y : Option ℕ) → AreComponentsOf t (Number x) (Number y) patch pre → Is most true x → Is most false y → Above t 1
+  pub second : (t : PartialTree) (y : Option ℕ) → AreComponentsOf t (Number x) (Some (Number y)) patch → Is most true x → Is most false y → Above t 1
   second (one a) y is small above = cc is.1
   second (two a b) y is small above = rw (is.0.0, is.1.0, small (digits_value 10 a) is.0.1, above (digits_value 10 b) is.1.1) refl
   second (three a b c parts build) y is small above = by_test (is_wildcard c)

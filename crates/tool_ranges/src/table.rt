@@ -266,7 +266,7 @@ pub fn too_large(form: Form, written: &Components<'_>, dialect: Dialect) -> Opti
 {
     let simple = Simple {
         form: operator_in(form, written, dialect),
-        partial: Partial::new(written.major, written.minor, written.patch, written.pre),
+        partial: Partial::of(written),
     };
     if fits(&simple, dialect) {
         return None;
@@ -301,13 +301,19 @@ fn first_above(written: &Components<'_>, most: u64) -> Option<usize>
     if is_above(major, most) {
         return Some(0);
     }
-    let Component::Number(minor) = written.minor else {
+    let Some(minor) = written.minor else {
+        return None;
+    };
+    let Component::Number(minor) = minor else {
         return None;
     };
     if is_above(minor, most) {
         return Some(1);
     }
-    let Component::Number(patch) = written.patch else {
+    let Some(patch) = written.patch else {
+        return None;
+    };
+    let Component::Number(patch) = patch else {
         return None;
     };
     if is_above(patch, most) {

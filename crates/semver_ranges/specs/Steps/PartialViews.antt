@@ -1,7 +1,7 @@
 -- A means of proof, cited only in clauses of calls between these crates: how contracts see
 -- components and partial versions.
 use Rattle.std.specs.Prelude.{◌≡◌, ℕ, Bool, true, false, Option, Some, None, List, [], ◌∷◌, map}
-use Rattle.std.specs.Prelude.{length, not, codes}
+use Rattle.std.specs.Prelude.{codes}
 use Rattle.std.specs.List.{list_all}
 use Rattle.std.specs.Str.Parse.{digits_value}
 use Rattle.semver_ranges.specs.declared.partial.Component.{Component}
@@ -19,9 +19,9 @@ use Rattle.semver_ranges.specs.declared.partial.LowerBounds.TheVariants.{Stated,
 use Rattle.semver_ranges.specs.declared.partial.Place.{Place}
 use Rattle.semver_ranges.specs.declared.partial.Place.TheVariants.{Major, Minor, Patch}
 use Rattle.semver_ranges.specs.RangeTree.{PartialTree, one, two, three, is_wildcard}
-use Rattle.semver_ranges.specs.RangeTree.{build_parts, components, pre_parts, qualifier}
+use Rattle.semver_ranges.specs.RangeTree.{build_parts, pre_parts}
 use Rattle.semver_texts.specs.Texts.{is_part}
-use Rattle.semver_texts.specs.Texts.{Text, is_empty, cut_at_dots}
+use Rattle.semver_texts.specs.Texts.{Text, cut_at_dots}
 use Rattle.semver_texts.specs.Versions.{IdentifierValue, PlainVersion}
 use Rattle.semver_ranges.specs.Partials.{fits_u64, kept, stated, zero_filled}
 use Rattle.semver_ranges.specs.ExactBounds.{lowest_pre_release}
@@ -74,9 +74,9 @@ abbrev pub IsValue : ℕ → Option ℕ → Type 0
 IsValue n None = fits_u64 n ≡ false
 IsValue n (Some v) = (fits_u64 n ≡ true) × (v ≡ n)
 
--- the component of this text: a wildcard, or a number with this value
+-- the component of this text: a wildcard, which is one byte, or a number with this value
 abbrev pub IsComponentOf : Text → Component → Type 0
-IsComponentOf t Wildcard = is_wildcard t ≡ true
+IsComponentOf t (Wildcard b) = (is_wildcard t ≡ true) × (t ≡ b ∷ [])
 IsComponentOf t (Number value) = (is_wildcard t ≡ false) × IsValue (digits_value 10 t) value
 
 -- whether a kind states no number
@@ -97,23 +97,24 @@ IsPartialOf t p =
     × (p.fits ≡ true → (stated_of p ≡ stated t) × (version_of p ≡ zero_filled t))
     × (p.fits ≡ false → states_none p.kind ≡ false) × PartsPass p
 
--- the components of a partial version, with wildcards for the missing ones, and the bytes of its
--- pre-release
-abbrev pub AreComponentsOf : PartialTree → Component → Component → Component → Text → Type 0
-AreComponentsOf (one a) major minor patch pre =
-    IsComponentOf a major × (minor ≡ Wildcard) × (patch ≡ Wildcard)
-AreComponentsOf (two a b) major minor patch pre =
-    IsComponentOf a major × IsComponentOf b minor × (patch ≡ Wildcard)
-AreComponentsOf (three a b c parts build) major minor patch pre =
-    IsComponentOf a major × IsComponentOf b minor × IsComponentOf c patch
-    × (parts ≡ cut_at_dots pre)
+-- a component that may be missing is there, and is that of this text
+abbrev pub IsWrittenAs : Text → Option Component → Type 0
+IsWrittenAs t None = ⊥
+IsWrittenAs t (Some c) = IsComponentOf t c
 
--- the components as they are written: the above, the bytes of the build metadata, the number of
--- components, and whether a pre-release or build metadata follows them
+-- the components of a partial version
+abbrev pub AreComponentsOf : PartialTree → Component → Option Component → Option Component
+    → Type 0
+AreComponentsOf (one a) major minor patch =
+    IsComponentOf a major × (minor ≡ None) × (patch ≡ None)
+AreComponentsOf (two a b) major minor patch =
+    IsComponentOf a major × IsWrittenAs b minor × (patch ≡ None)
+AreComponentsOf (three a b c pre build) major minor patch =
+    IsComponentOf a major × IsWrittenAs b minor × IsWrittenAs c patch
+
+-- the components as they are written, and the bytes of the pre-release and of the build metadata
 pub record AreWritten (t : PartialTree) (c : Components) : Type 0 where
-  pub stand : AreComponentsOf t c.major c.minor c.patch c.pre.now
+  pub components : AreComponentsOf t c.major c.minor c.patch
   pub pre : pre_parts t ≡ cut_at_dots c.pre.now
   pub build : build_parts t ≡ cut_at_dots c.build.now
   pub parts : list_all is_part (cut_at_dots c.pre.now) ≡ true
-  pub count : c.count ≡ length (components t)
-  pub is_qualified : c.is_qualified ≡ not (is_empty (qualifier t))

@@ -3,7 +3,7 @@
 -- of a text, and the rest of the text after it. The last one, `read`, returns the tree that a text
 -- spells, or `None`.
 use Prim.Native.Char.{code}
-use Rattle.std.specs.Prelude.{ℕ, zero, suc, ◌-◌, Bool, true, false, ◌&&◌, ◌||◌, ◌==◌, if◌then◌else◌}
+use Rattle.std.specs.Prelude.{ℕ, zero, suc, ◌-◌, Bool, true, ◌&&◌, ◌||◌, ◌==◌, if◌then◌else◌}
 use Rattle.std.specs.Prelude.{Option, Some, None, List, [], ◌∷◌, length}
 use Rattle.std.specs.Char.{is_ascii_digit}
 use Rattle.std.specs.List.{list_all, slice_split}
@@ -73,11 +73,6 @@ after_pre a b c pre (mark ∷ t) =
 abbrev pub with_pre : Text → Text → Text → Option (List Text × Text) → Option (PartialTree × Text)
 with_pre a b c None = None
 with_pre a b c (Some found) = after_pre a b c found.0 found.1
-
--- whether a pre-release or build metadata begins here
-abbrev pub begins_qualifier : Text → Bool
-begins_qualifier [] = false
-begins_qualifier (mark ∷ t) = (mark == code "-") || (mark == code "+")
 
 abbrev pub after_three : Text → Text → Text → Text → Option (PartialTree × Text)
 after_three a b c [] = Some (three a b c [] [], [])

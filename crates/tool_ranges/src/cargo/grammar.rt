@@ -3,8 +3,9 @@
 //! Nothing here allocates, and a call looks at each byte a fixed number of times. What can't be
 //! read is `None`.
 
-ghost use Rattle.std.specs.Prelude.{◌≡◌};
-ghost use Rattle.semver_ranges.specs.RangeTree.{Simple as SimpleTree, PartialTree};
+ghost use Rattle.std.specs.Prelude.{◌≡◌, not};
+ghost use Rattle.semver_texts.specs.Texts.{is_empty};
+ghost use Rattle.semver_ranges.specs.RangeTree.{Simple as SimpleTree, PartialTree, qualifier};
 ghost use Rattle.semver_ranges.specs.Steps.PartialViews.{AreWritten};
 ghost use Rattle.semver_ranges.specs.Steps.CursorViews.{form_of};
 ghost use Rattle.tool_ranges.specs.CargoGrammar.{is_of_cargo};
@@ -34,7 +35,7 @@ pub(crate) fn read_comparator(text: &[u8]) -> Option<(Simple<'_>, Option<&[u8]>)
     }
     let simple = Simple {
         form: named(form, has_wildcard(&written)),
-        partial: Partial::new(written.major, written.minor, written.patch, written.pre),
+        partial: Partial::of(&written),
     };
     match after_blanks(rest, Grammar::Cargo) {
         [] => Some((simple, None)),
@@ -69,9 +70,8 @@ pub(crate) fn has_wildcard(written: &Components<'_>) -> bool
     ensures { (p : PartialTree) → AreWritten p written.now → result ≡ has_wildcard p }
 {
     match (written.major, written.minor, written.patch) {
-        (Component::Wildcard, _, _) => true,
-        (_, Component::Wildcard, _) => written.count > 1,
-        (_, _, Component::Wildcard) => written.count > 2,
+        (Component::Wildcard(_), _, _) => true,
+        (_, Some(Component::Wildcard(_)), _) | (_, _, Some(Component::Wildcard(_))) => true,
         _ => false,
     }
 }
@@ -88,9 +88,19 @@ fn is_read(form: Form, written: &Components<'_>) -> bool
         → result ≡ is_of_cargo s }
 {
     match (written.major, written.minor, written.patch) {
-        (Component::Wildcard, _, _) => written.count == 1 && matches!(form, Form::Bare),
-        (_, Component::Wildcard, Component::Number(_)) => false,
-        (_, _, Component::Wildcard) => !written.is_qualified,
+        (Component::Wildcard(_), None, _) => matches!(form, Form::Bare),
+        (Component::Wildcard(_), Some(_), _) => false,
+        (_, Some(Component::Wildcard(_)), Some(Component::Number(_))) => false,
+        (_, _, Some(Component::Wildcard(_))) => !is_qualified(written),
         _ => have_no_leading_zeros(written.pre),
     }
+}
+
+/// Returns whether a pre-release or build metadata is written.
+#[inline(always)]
+fn is_qualified(written: &Components<'_>) -> bool
+    ensures { (p : PartialTree) → AreWritten p written.now
+        → result ≡ not (is_empty (qualifier p)) }
+{
+    !written.pre.is_empty() || !written.build.is_empty()
 }

@@ -8,7 +8,7 @@ use crate::proved::semver_ranges::grammar::{
     Form, after_bars, after_blanks, after_v, read_components, read_operator,
 };
 use crate::proved::semver_ranges::partial::{self, Components};
-use crate::proved::semver_texts::dotted::{split_at_dot, strip_mark, text_of_parts};
+use crate::proved::semver_texts::dotted::{strip_mark, text_of_parts};
 use crate::proved::semver_texts::grammar::Grammar;
 use crate::proved::tool_ranges::dialect::Dialect;
 use crate::proved::tool_ranges::meaning::{Meaning, check};
@@ -187,7 +187,7 @@ fn read_version(text: &[u8], grammar: Grammar, len: usize) -> Option<(PartialVer
         start: len - text.len(),
         end: len - rest.len(),
     };
-    Some((version(span, begins_with_v(text), word, &written), rest))
+    Some((version(span, begins_with_v(text), &written), rest))
 }
 
 /// Returns whether a string begins with `v`.
@@ -195,52 +195,32 @@ fn begins_with_v(text: &[u8]) -> bool {
     matches!(text, [b'v', ..])
 }
 
-/// Returns the version with the components that are at the beginning of a string.
-fn version<'text>(
-    span: Span,
-    has_v: bool,
-    text: &[u8],
-    written: &Components<'text>,
-) -> PartialVersion<'text> {
-    let second = after_dot(text, written.count > 1);
-    let third = after_dot(second, written.count > 2);
+/// Returns the version with these components.
+fn version<'text>(span: Span, has_v: bool, written: &Components<'text>) -> PartialVersion<'text> {
     PartialVersion {
         span,
         has_v,
-        major: component(written.major, text),
-        minor: (written.count > 1).then_some(component(written.minor, second)),
-        patch: (written.count > 2).then_some(component(written.patch, third)),
+        major: component(written.major),
+        minor: component_if_written(written.minor),
+        patch: component_if_written(written.patch),
         pre: text_of_parts(written.pre),
         build: text_of_parts(written.build),
     }
 }
 
-/// Returns what follows the first dot of a string, if a component is there. Otherwise it doesn't
-/// look for a dot, which could be far away, or in another version.
-fn after_dot(text: &[u8], has_component: bool) -> &[u8] {
-    if !has_component {
-        return &[];
-    }
-    match split_at_dot(text) {
-        (_, Some(after)) => after,
-        (_, None) => &[],
+/// Returns a component that was read, if it is written.
+fn component_if_written(read: Option<partial::Component>) -> Option<Component> {
+    match read {
+        Some(read) => Some(component(read)),
+        None => None,
     }
 }
 
-/// Returns the component that was read at the beginning of a string.
-fn component(read: partial::Component, text: &[u8]) -> Component {
+/// Returns a component that was read.
+fn component(read: partial::Component) -> Component {
     match read {
         partial::Component::Number(number) => Component::Number(number.unwrap_or(u64::MAX)),
-        partial::Component::Wildcard => Component::Wildcard(wildcard(text)),
-    }
-}
-
-/// Returns the wildcard at the beginning of a string.
-fn wildcard(text: &[u8]) -> char {
-    match text {
-        [b'X', ..] => 'X',
-        [b'*', ..] => '*',
-        _ => 'x',
+        partial::Component::Wildcard(byte) => Component::Wildcard(char::from(byte)),
     }
 }
 

@@ -56,10 +56,16 @@ impl<'input> Simple<'input> {
     /// Returns a bare wildcard.
     #[inline(always)]
     pub(crate) fn wildcard() -> Simple<'input> {
-        let none = Component::Wildcard;
+        let written = Components {
+            major: Component::Wildcard(b'*'),
+            minor: None,
+            patch: None,
+            pre: &[],
+            build: &[],
+        };
         Simple {
             form: Form::Bare,
-            partial: Partial::new(none, none, none, &[]),
+            partial: Partial::of(&written),
         }
     }
 }
@@ -110,10 +116,7 @@ pub fn read_operator(text: &[u8], grammar: Grammar) -> (Form, &[u8]) {
 fn read_partial(text: &[u8], grammar: Grammar, role: Role) -> Option<(Partial<'_>, &[u8])> {
     let (written, rest) = read_components(after_v(text, grammar))?;
     if ends_word(rest, grammar) && takes(text, rest, &written, grammar, role) {
-        Some((
-            Partial::new(written.major, written.minor, written.patch, written.pre),
-            rest,
-        ))
+        Some((Partial::of(&written), rest))
     } else {
         None
     }
@@ -140,7 +143,7 @@ fn takes(text: &[u8], rest: &[u8], written: &Components<'_>, grammar: Grammar, r
 /// Returns whether no numeric part of the pre-release has a leading zero.
 #[inline(always)]
 fn has_no_leading_zeros(written: &Components<'_>) -> bool {
-    written.count < 3 || have_no_leading_zeros(written.pre)
+    have_no_leading_zeros(written.pre)
 }
 
 /// Returns whether the word before `rest` isn't too long for npm. Its length is compared with the
@@ -160,42 +163,31 @@ pub fn read_components(text: &[u8]) -> Option<(Components<'_>, &[u8])> {
     let (major, rest) = read_component(text)?;
     let one = Components {
         major,
-        minor: Component::Wildcard,
-        patch: Component::Wildcard,
-        count: 1,
+        minor: None,
+        patch: None,
         pre: &[],
         build: &[],
-        is_qualified: false,
     };
     let Some(after) = strip_mark(rest, b'.') else {
         return Some((one, rest));
     };
     let (minor, rest) = read_component(after)?;
     let two = Components {
-        minor,
-        count: 2,
+        minor: Some(minor),
         ..one
     };
     let Some(after) = strip_mark(rest, b'.') else {
         return Some((two, rest));
     };
-    let (patch, qualifier) = read_component(after)?;
-    let (pre, build, rest) = read_qualifier(qualifier)?;
+    let (patch, rest) = read_component(after)?;
+    let (pre, build, rest) = read_qualifier(rest)?;
     let three = Components {
-        patch,
-        count: 3,
+        patch: Some(patch),
         pre,
         build,
-        is_qualified: begins_qualifier(qualifier),
         ..two
     };
     Some((three, rest))
-}
-
-/// Returns whether a pre-release or build metadata begins here.
-#[inline(always)]
-fn begins_qualifier(text: &[u8]) -> bool {
-    matches!(text, [b'-' | b'+', ..])
 }
 
 /// Returns the pre-release at the beginning of a string and the build metadata after it, each of
@@ -226,7 +218,9 @@ fn read_component(text: &[u8]) -> Option<(Component, &[u8])> {
             let (number, rest) = read_digits(u64::from(*first - b'0'), rest);
             Some((Component::Number(number), rest))
         }
-        [b'x' | b'X' | b'*', rest @ ..] => Some((Component::Wildcard, rest)),
+        [wildcard @ (b'x' | b'X' | b'*'), rest @ ..] => {
+            Some((Component::Wildcard(*wildcard), rest))
+        }
         _ => None,
     }
 }

@@ -76,8 +76,8 @@ fn states_three(written: &Components<'_>) -> bool {
         (written.major, written.minor, written.patch),
         (
             Component::Number(_),
-            Component::Number(_),
-            Component::Number(_)
+            Some(Component::Number(_)),
+            Some(Component::Number(_))
         )
     )
 }

@@ -7,30 +7,27 @@ use crate::proved::semver_texts::decimals::number_of_digits;
 use crate::proved::semver_texts::dotted::{of_parts, text_of_parts};
 use crate::rattle_std::AllocError;
 
-/// A component: a wildcard, or a number. The value of a number above 2^64 - 1 is `None`.
+/// A component: a wildcard as it is written, or a number. The value of a number above 2^64 - 1 is
+/// `None`.
 #[derive(Clone, Copy)]
 pub enum Component {
-    Wildcard,
+    Wildcard(u8),
     Number(Option<u64>),
 }
 
-/// The components of a partial as they are written. Missing ones are wildcards.
+/// The components of a partial as they are written.
 #[derive(Clone, Copy)]
 pub struct Components<'input> {
     /// The first.
     pub major: Component,
-    /// The second.
-    pub minor: Component,
-    /// The third.
-    pub patch: Component,
-    /// The number of components that are written.
-    pub count: usize,
+    /// The second, if it is written.
+    pub minor: Option<Component>,
+    /// The third, if it is written.
+    pub patch: Option<Component>,
     /// The parts of the pre-release after three components, joined by dots.
     pub pre: &'input [u8],
     /// The parts of the build metadata after three components, joined by dots.
     pub build: &'input [u8],
-    /// Whether a pre-release or build metadata is written after three components.
-    pub is_qualified: bool,
 }
 
 /// The number of numbers in a partial.
@@ -85,15 +82,10 @@ pub struct Partial<'input> {
 }
 
 impl<'input> Partial<'input> {
-    /// Returns the partial of three components, where missing ones are wildcards, and of the parts
-    /// of a pre-release, which count only after three numbers.
+    /// Returns the partial of some components. The numbers are those before the first wildcard, and
+    /// the pre-release counts only after three numbers.
     #[inline(always)]
-    pub(crate) fn new(
-        major: Component,
-        minor: Component,
-        patch: Component,
-        pre: &'input [u8],
-    ) -> Partial<'input> {
+    pub(crate) fn of(written: &Components<'input>) -> Partial<'input> {
         let nothing = Partial {
             major: 0,
             minor: 0,
@@ -102,7 +94,7 @@ impl<'input> Partial<'input> {
             kind: PartialKind::XRangeOnly,
             fits: true,
         };
-        let Component::Number(major) = major else {
+        let Component::Number(major) = written.major else {
             return nothing;
         };
         let one = Partial {
@@ -110,6 +102,9 @@ impl<'input> Partial<'input> {
             kind: PartialKind::MajorOnly,
             fits: major.is_some(),
             ..nothing
+        };
+        let Some(minor) = written.minor else {
+            return one;
         };
         let Component::Number(minor) = minor else {
             return one;
@@ -120,12 +115,15 @@ impl<'input> Partial<'input> {
             fits: one.fits & minor.is_some(),
             ..one
         };
+        let Some(patch) = written.patch else {
+            return two;
+        };
         let Component::Number(patch) = patch else {
             return two;
         };
         Partial {
             patch: patch.unwrap_or(0),
-            pre,
+            pre: written.pre,
             kind: PartialKind::MajorMinorPatch,
             fits: two.fits & patch.is_some(),
             ..two

@@ -31,5 +31,5 @@ returns-clause-found c =
     let word = c.after_v-word.result.now in
     let at = rw found.1 at (first_sound word (component word) (component_sound word)) in
     let read = ap (λ x. with_first (component x)) (sym c.after_v-word.ensures) ∙ found.1 in
-    let made = c.version.ensures found.0 at.0 c.in_ok-written.rest.now at.1 at.2 found.2 in
+    let made = c.version.ensures found.0 found.2 in
     rw (read, ← c.begins_with_v.ensures) (ap (λ v. Some (v, c.in_ok-written.rest.now)) (sym made))

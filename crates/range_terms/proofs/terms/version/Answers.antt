@@ -11,11 +11,10 @@ pub text_of_parts-requires-2 : goal.text_of_parts-requires-2
 text_of_parts-requires-2 c = parts_pass c.args.written.now.build.now c.requires.2
 
 pub returns : goal.returns
-returns c = λ p word rest spelled text w.
-    let made = components_made p c.args.written.now w word rest c.args.text.now c.after_dot-second.result.now c.after_dot-third.result.now
-    spelled text c.after_dot-second.ensures c.after_dot-third.ensures
-    c.component.result c.component-2.result c.component-3.result c.component.ensures c.component-2.ensures c.component-3.ensures
-    c.then_some.result c.then_some-2.result c.then_some.ensures c.then_some-2.ensures in
+returns c = λ p w.
+    let made = components_made c.args.written.now c.component.result c.component_if_written.result c.component_if_written-2.result c.component.ensures
+    (c.component_if_written.ensures.none, c.component_if_written.ensures.some)
+    (c.component_if_written-2.ensures.none, c.component_if_written-2.ensures.some) p w in
     let pre = joined (pre_parts p) c.args.written.now.pre.now w.pre in
     let build = joined (build_parts p) c.args.written.now.build.now w.build in
     rw (c.text_of_parts.ensures, c.text_of_parts-2.ensures, made.major, made.minor, made.patch, pre, build) refl

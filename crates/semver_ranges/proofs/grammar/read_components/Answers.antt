@@ -1,8 +1,7 @@
-use Rattle.std.proofs.Common.{refl, ◌∙◌}
+use Rattle.std.proofs.Common.{refl}
 use Rattle.semver_ranges.specs.RangeTree.{one, two, three}
 use Rattle.semver_texts.specs.Texts.{cut_at_dots}
 use Rattle.semver_ranges.proofs.CursorSteps.{major_end, minor_end}
-use Rattle.semver_ranges.proofs.Qualifiers.{qualified}
 use Rattle.semver_ranges.proofs.grammar.read_components.Goals as goal
 
 pub returns-in_default : goal.returns-in_default
@@ -10,7 +9,7 @@ returns-in_default c =
     let major = c.in_ok-major.ensures in (
       one major.0,
       rw major.1 (major_end major.0 c.in_ok-major.rest.now c.in_default.ensures),
-      record { stand = (major.2, refl, refl); pre = refl; build = refl; parts = refl; count = refl; is_qualified = refl },
+      record { components = (major.2, refl, refl); pre = refl; build = refl; parts = refl },
     )
 
 pub returns-in_default-strip_mark : goal.returns-in_default-strip_mark
@@ -19,7 +18,7 @@ returns-in_default-strip_mark c =
     let minor = c.in_ok-minor.ensures in (
       two major.0 minor.0,
       rw (major.1, c.in-Some.ensures, minor.1) (minor_end major.0 minor.0 c.in_ok-minor.rest.now c.in_default-strip_mark.ensures),
-      record { stand = (major.2, minor.2, refl); pre = refl; build = refl; parts = refl; count = refl; is_qualified = refl },
+      record { components = (major.2, minor.2, refl); pre = refl; build = refl; parts = refl },
     )
 
 pub returns : goal.returns
@@ -33,12 +32,9 @@ returns c =
       three major.0 minor.0 patch.0 pre build,
       rw (major.1, c.in-Some.ensures, minor.1, c.in-Some-strip_mark.ensures, patch.1) after,
       record {
-        stand = (major.2, minor.2, patch.2, refl);
+        components = (major.2, minor.2, patch.2);
         pre = refl;
         build = refl;
         parts = c.in_ok-pre.ensures.1;
-        count = refl;
-        is_qualified = c.begins_qualifier.ensures
-            ∙ qualified major.0 minor.0 patch.0 pre build c.in_ok-patch.qualifier.now c.in_ok-pre.rest.now after;
       },
     )

@@ -19,7 +19,7 @@ returns-then-takes c =
       word_is_read d (role_of c.args.role) c.args.text.now c.after_v.result.now c.in_ok-written.rest.now found.0
           c.after_v.ensures found.1 (sym (c.takes.ensures found.0 before found.2) ∙ c.if-takes.true)
           (sym c.ends_word.ensures ∙ c.if-ends_word.true),
-      c.new.ensures found.0 found.2.stand,
+      c.of.ensures found.0 found.2,
     )
 
 pub returns-else-ends_word : goal.returns-else-ends_word

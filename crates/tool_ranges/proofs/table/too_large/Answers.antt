@@ -14,8 +14,8 @@ pub returns-in-None-clause-value : goal.returns-in-None-clause-value
 returns-in-None-clause-value c = λ s form are.
     let d = c.args.dialect in
     let r : Simple = read_in d s in
-    let simple : read.Simple = record { form = c.operator_in.result; partial = c.new.result } in
-    let is : IsSimpleOf r simple = (c.operator_in.ensures s form are, c.new.ensures s.partial are.stand) in
+    let simple : read.Simple = record { form = c.operator_in.result; partial = c.of.result } in
+    let is : IsSimpleOf r simple = (c.operator_in.ensures s form are, c.of.ensures s.partial are) in
     let none : Path (Option _) None (first_above (limit d) (stated s.partial)) =
     sym c.in-None.is ∙ c.first_above.ensures.value s.partial are ∙ ap (λ most. first_above most (stated s.partial)) c.limit.ensures in
     raised_large d r none (sym (c.fits.ensures ∙ read_fits r simple is d) ∙ c.if-fits.false) c.raised_place.result

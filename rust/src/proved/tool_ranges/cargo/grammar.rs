@@ -25,7 +25,7 @@ pub(crate) fn read_comparator(text: &[u8]) -> Option<(Simple<'_>, Option<&[u8]>)
     }
     let simple = Simple {
         form: named(form, has_wildcard(&written)),
-        partial: Partial::new(written.major, written.minor, written.patch, written.pre),
+        partial: Partial::of(&written),
     };
     match after_blanks(rest, Grammar::Cargo) {
         [] => Some((simple, None)),
@@ -54,9 +54,8 @@ pub(crate) fn named(form: Form, has_wildcard: bool) -> Form {
 #[inline(always)]
 pub(crate) fn has_wildcard(written: &Components<'_>) -> bool {
     match (written.major, written.minor, written.patch) {
-        (Component::Wildcard, _, _) => true,
-        (_, Component::Wildcard, _) => written.count > 1,
-        (_, _, Component::Wildcard) => written.count > 2,
+        (Component::Wildcard(_), _, _) => true,
+        (_, Some(Component::Wildcard(_)), _) | (_, _, Some(Component::Wildcard(_))) => true,
         _ => false,
     }
 }
@@ -70,9 +69,16 @@ pub(crate) fn has_wildcard(written: &Components<'_>) -> bool {
 #[inline(always)]
 fn is_read(form: Form, written: &Components<'_>) -> bool {
     match (written.major, written.minor, written.patch) {
-        (Component::Wildcard, _, _) => written.count == 1 && matches!(form, Form::Bare),
-        (_, Component::Wildcard, Component::Number(_)) => false,
-        (_, _, Component::Wildcard) => !written.is_qualified,
+        (Component::Wildcard(_), None, _) => matches!(form, Form::Bare),
+        (Component::Wildcard(_), Some(_), _) => false,
+        (_, Some(Component::Wildcard(_)), Some(Component::Number(_))) => false,
+        (_, _, Some(Component::Wildcard(_))) => !is_qualified(written),
         _ => have_no_leading_zeros(written.pre),
     }
+}
+
+/// Returns whether a pre-release or build metadata is written.
+#[inline(always)]
+fn is_qualified(written: &Components<'_>) -> bool {
+    !written.pre.is_empty() || !written.build.is_empty()
 }

@@ -3,4 +3,7 @@ use Rattle.semver_ranges.specs.RangeTree.{one}
 use Rattle.semver_ranges.proofs.grammar.Simple.wildcard.Goals as goal
 
 pub returns : goal.returns
-returns c = (refl, c.new.ensures (one (codes "*")) (refl, refl, refl))
+returns c = (
+  refl,
+  c.of.ensures (one (codes "*")) (record { components = ((refl, refl), refl, refl); pre = refl; build = refl; parts = refl }),
+)

@@ -27,7 +27,7 @@ returns-in-empty c =
           c.after_blanks.ensures (omega arith),
       (
         c.named.ensures ∙ ap (λ b. named b s.form) (c.has_wildcard.ensures found.0 found.2),
-        c.new.ensures found.0 found.2.stand,
+        c.of.ensures found.0 found.2,
       ),
     )
 
@@ -43,7 +43,7 @@ returns-in-44 c =
           c.after_blanks.ensures c.in-44.len_at_least (omega arith),
       (
         c.named.ensures ∙ ap (λ b. named b s.form) (c.has_wildcard.ensures found.0 found.2),
-        c.new.ensures found.0 found.2.stand,
+        c.of.ensures found.0 found.2,
       ),
     )
 
