@@ -1,18 +1,31 @@
 -- Whether the numbers of all terms fit, found from the events of a text.
-use Rattle.std.proofs.Common.{◌≡◌, Bool, true, false, ◌&&◌, Option, Some, None, List, refl, ap, sym, ◌∙◌}
+use Rattle.std.proofs.Common.{◌≡◌, Bool, true, false, ◌&&◌, Option, Some, None, List, [], ◌∷◌, map, refl, ap, sym, ◌∙◌}
+use Rattle.std.proofs.Math.Bool.{and-true}
 use Rattle.std.specs.List.{list_all}
-use Rattle.std.specs.Option.{option_map}
+use Rattle.std.specs.Prelude.{Err, Ok, option_map}
+use Rattle.semver_texts.proofs.Lists.{by_test}
 use Rattle.semver_texts.specs.Texts.{Text}
-use Rattle.semver_ranges.specs.declared.partial.LowerBounds.TheVariants.{Stated}
-use Rattle.semver_ranges.specs.declared.range_set.RangeError.TheVariants.{NumberTooLarge}
-use Rattle.semver_ranges.specs.RangeTree.{Simple}
-use Rattle.semver_ranges.specs.Steps.RangeEvents.{Event, event_fits, one_simple, put}
+use Rattle.semver_texts.specs.declared.grammar.Grammar.{Grammar}
+use Rattle.semver_texts.specs.declared.grammar.Grammar.TheVariants as grammar
+use Rattle.semver_ranges.specs.declared.partial.LowerBounds.{LowerBounds}
+use Rattle.semver_ranges.specs.declared.range_set.RangeError.{RangeError}
+use Rattle.semver_ranges.specs.declared.range_set.RangeError.TheVariants.{NotARange, NumberTooLarge, OutOfMemory}
+use Rattle.semver_ranges.specs.Partials.{states_nothing}
+use Rattle.semver_ranges.specs.RangeTree.{RangeTree, SetTree, Simple, SpellsRangeIn, empty, hyphen, simples}
+use Rattle.semver_ranges.specs.Steps.PartialViews.{begun_as}
+use Rattle.semver_ranges.specs.Terms.{left_side, right_side}
+use Rattle.semver_ranges.specs.Steps.RangeEvents.{Event, event_fits, in_front, next_range, one_simple, put, yielded}
+use Rattle.tool_ranges.specs.CargoMeaning.{as_read}
 use Rattle.tool_ranges.specs.declared.dialect.Dialect.{Dialect}
-use Rattle.tool_ranges.specs.Dialects.{TreeOf}
-use Rattle.tool_ranges.specs.Steps.Cursors.{events_in, ranges_of, read_as, text_events}
-use Rattle.tool_ranges.specs.Sides.{term_fits}
+use Rattle.tool_ranges.specs.declared.dialect.Dialect.TheVariants.{Cargo, Npm, CrateCargo, CrateNpm}
+use Rattle.tool_ranges.specs.declared.cursor.Cursor.{Cursor}
+use Rattle.tool_ranges.specs.Dialects.{SpellsAs, TreeOf, fits_as, grammar_of}
+use Rattle.tool_ranges.specs.Steps.Checked.{IsSurveyed}
+use Rattle.tool_ranges.specs.Steps.Cursors.{HasLeftIn, events_in, ranges_of, read_as, text_events}
 use Rattle.tool_ranges.specs.Steps.Reading.{IsRead, IsRefusedAs}
+use Rattle.tool_ranges.specs.Sides.{term_fits}
 use Rattle.tool_ranges.proofs.MatchedEvents.{ranges_fit}
+use Rattle.tool_ranges.proofs.ReadTrees.{sound_as}
 
 module _ (d : Dialect) where
   -- whether `fit` is true and the numbers of the remaining terms fit; `None` if the text is not a
@@ -32,23 +45,117 @@ module _ (d : Dialect) where
       ap Some (and_assoc fit (term_fits d s) (list_all (event_fits (term_fits d)) es))
       ∙ ap (λ b. Some ((fit && b) && list_all (event_fits (term_fits d)) es)) (sym is)
 
-  -- the result for a whole text
-  module _ (t : Text) where
-    abbrev Told : Option Bool → Type 0
-    Told o = all_fit true (text_events Stated d t) ≡ o
+  range_fits : (fit : Bool) (left : Option (List Event)) → all_fit fit (put next_range left) ≡ all_fit fit left
+  range_fits fit None = refl
+  range_fits fit (Some es) = refl
 
-    pub too_large : Told (Some false) → IsRefusedAs d t NumberTooLarge
-    too_large e = at (read_as d t) refl e where
-      at : (o : Option (TreeOf d)) → read_as d t ≡ o
-          → all_fit true (option_map (λ tree. events_in (ranges_of Stated d tree)) o) ≡ Some false → IsRefusedAs d t NumberTooLarge
-      at None is e = cc
-      at (Some tree) is e = let f : list_all (event_fits (term_fits d)) (events_in (ranges_of Stated d tree)) ≡ false = cc in
-          (tree, is, sym (ranges_fit Stated d tree) ∙ f)
+  -- the events `o` are surveyed, with `fit0` before them and `fit` before those that are left
+  module _ (fit0 : Bool) (o : Option (List Event)) where
+    abbrev pub SoFar : Bool → Bool → Option (List Event) → Type 0
+    SoFar fit is_end left = (all_fit fit0 o ≡ all_fit fit left) × (is_end ≡ true → left ≡ o)
 
-    pub all_read : Told (Some true) → IsRead d t (λ _. Unit {0})
-    all_read e = at (read_as d t) refl e where
-      at : (o : Option (TreeOf d)) → read_as d t ≡ o
-          → all_fit true (option_map (λ tree. events_in (ranges_of Stated d tree)) o) ≡ Some true → IsRead d t (λ _. Unit {0})
-      at None is e = cc
-      at (Some tree) is e = let f : list_all (event_fits (term_fits d)) (events_in (ranges_of Stated d tree)) ≡ true = cc in
-          (tree, is, sym (ranges_fit Stated d tree) ∙ f, tt)
+    goes_on : {A : Type 0} → false ≡ true → A
+    goes_on e = cc
+
+    module _ (fit is_end : Bool) (before left : Option (List Event)) (so_far : SoFar fit is_end before) where
+      pub after_term : (f : Bool) (s : Simple) → before ≡ put (one_simple s) left → f ≡ term_fits d s → SoFar (fit && f) false left
+      after_term f s e is = (so_far.0 ∙ ap (all_fit fit) e ∙ one_fits fit f s left is, λ wrong. goes_on wrong)
+
+      pub after_separator : before ≡ put next_range left → SoFar fit false left
+      after_separator e = (so_far.0 ∙ ap (all_fit fit) e ∙ range_fits fit left, λ wrong. goes_on wrong)
+
+      pub stopped : before ≡ None → o ≡ None
+      stopped e = none o (so_far.0 ∙ ap (all_fit fit) e) where
+        none : (o : Option (List Event)) → all_fit fit0 o ≡ None → o ≡ None
+        none None e = refl
+        none (Some es) e = cc
+
+      pub ended : before ≡ Some [] → (es : List Event) × (o ≡ Some es) × ((fit0 && list_all (event_fits (term_fits d)) es) ≡ fit)
+          × (is_end ≡ true → es ≡ [])
+      ended e = known o (so_far.0 ∙ ap (all_fit fit) e) (λ is. sym e ∙ so_far.1 is) where
+        known : (o : Option (List Event)) → all_fit fit0 o ≡ Some (fit && true) → (is_end ≡ true → Some [] ≡ o)
+            → (es : List Event) × (o ≡ Some es) × ((fit0 && list_all (event_fits (term_fits d)) es) ≡ fit) × (is_end ≡ true → es ≡ [])
+        known None e last = cc
+        known (Some es) e last =
+            (es, refl, (let same : (fit0 && list_all (event_fits (term_fits d)) es) ≡ (fit && true) = cc in same ∙ and-true fit), λ is. (let same = last is in cc))
+
+-- ---- the events of a text that was read
+
+first_yielded : (lower : LowerBounds) (r : RangeTree) (es : List Event)
+    → (s : Simple) × (others : List Event) × (in_front (yielded lower r) es ≡ one_simple s ∷ others)
+first_yielded lower empty es = (_, _, refl)
+first_yielded lower (simples first others) es = (_, _, refl)
+first_yielded lower (hyphen l r) es = by_test (states_nothing r)
+    (λ y. (left_side (begun_as lower l), es, rw y refl))
+    (λ n. by_test (states_nothing l)
+    (λ y. (right_side r, es, rw (n, y) refl))
+    (λ m. (left_side (begun_as lower l), one_simple (right_side r) ∷ es, rw (n, m) refl)))
+
+-- the first event is a term
+first_of_ranges : (lower : LowerBounds) (g : Grammar) (tree : SetTree) (t : Text) → SpellsRangeIn g tree t
+    → (s : Simple) × (es : List Event) × (events_in (map (yielded lower) tree) ≡ one_simple s ∷ es)
+first_of_ranges lower g [] t spelled = absurd spelled
+first_of_ranges lower g (r ∷ []) t spelled = first_yielded lower r []
+first_of_ranges lower g (r ∷ next ∷ others) t spelled = first_yielded lower r (next_range ∷ events_in (map (yielded lower) (next ∷ others)))
+
+first_event : (lower : LowerBounds) (d : Dialect) (tree : TreeOf d) (t : Text) → SpellsAs d tree t
+    → (s : Simple) × (es : List Event) × (events_in (ranges_of lower d tree) ≡ one_simple s ∷ es)
+first_event lower Cargo [] t spelled = absurd spelled.comparators
+first_event lower Cargo (s ∷ tree) t spelled = (as_read s, in_front (map as_read tree) [], refl)
+first_event lower Npm tree t spelled = first_of_ranges lower grammar.Npm tree t spelled.spelled
+first_event lower CrateCargo tree t spelled = first_of_ranges lower grammar.Crate tree t spelled
+first_event lower CrateNpm tree t spelled = first_of_ranges lower grammar.Crate tree t spelled
+
+-- what is known of a text from its events
+module _ (d : Dialect) (lower : LowerBounds) (t : Text) where
+  read_none : text_events lower d t ≡ None → read_as d t ≡ None
+  read_none e = at (read_as d t) e where
+    at : (o : Option (TreeOf d)) → option_map (λ tree. events_in (ranges_of lower d tree)) o ≡ None → o ≡ None
+    at None e = refl
+    at (Some tree) e = cc
+
+  read_some : (es : List Event) → text_events lower d t ≡ Some es
+      → (tree : TreeOf d) × (read_as d t ≡ Some tree) × (es ≡ events_in (ranges_of lower d tree))
+  read_some es e = at (read_as d t) refl e where
+    at : (o : Option (TreeOf d)) → read_as d t ≡ o → option_map (λ tree. events_in (ranges_of lower d tree)) o ≡ Some es
+        → (tree : TreeOf d) × (read_as d t ≡ Some tree) × (es ≡ events_in (ranges_of lower d tree))
+    at None is e = cc
+    at (Some tree) is e = (tree, is, (let same : events_in (ranges_of lower d tree) ≡ es = cc in sym same))
+
+  begins_simple : (es : List Event) → text_events lower d t ≡ Some es → (s : Simple) × (others : List Event) × (es ≡ one_simple s ∷ others)
+  begins_simple es e =
+      let read = read_some es e in
+      let first = first_event lower d read.0 t (sound_as d t read.0 read.1) in
+      (first.0, first.1, read.2 ∙ first.2)
+
+  -- what is known after the first term and the survey of the others
+  module _ (s : Simple) (f : Bool) (left : Option (List Event)) (after : Cursor) (first : text_events lower d t ≡ put (one_simple s) left)
+      (fits : f ≡ term_fits d s) where
+    all_events : (es : List Event) (b : Bool) → left ≡ Some es → (f && list_all (event_fits (term_fits d)) es) ≡ b
+        → (tree : TreeOf d) × (read_as d t ≡ Some tree) × (fits_as d tree ≡ b) × (one_simple s ∷ es ≡ events_in (ranges_of lower d tree))
+    all_events es b is same =
+        let read = read_some (one_simple s ∷ es) (first ∙ ap (put (one_simple s)) is) in (
+          read.0,
+          read.1,
+          sym (ranges_fit lower d read.0) ∙ ap (list_all (event_fits (term_fits d))) (sym read.2)
+              ∙ ap (λ b. b && list_all (event_fits (term_fits d)) es) (sym fits) ∙ same,
+          read.2,
+        )
+
+    pub refused : (e : RangeError) → IsSurveyed d f left (Err e) after → IsRefusedAs d t e
+    refused NotARange none = read_none (first ∙ ap (put (one_simple s)) none)
+    refused NumberTooLarge (es, is, large) = let read = all_events es false is large in (read.0, read.1, read.2)
+    refused OutOfMemory no_error = absurd no_error
+
+    pub checked_as : (is_end : Bool) → IsSurveyed d f left (Ok is_end) after
+        → (es : List Event) × IsRead d t (λ tree. one_simple s ∷ es ≡ events_in (ranges_of lower d tree))
+        × (is_end ≡ true → es ≡ []) × HasLeftIn (grammar_of d) after (Some [])
+    checked_as is_end (es, is, fit, end, has) = let read = all_events es true is fit in
+        (es, (read.0, read.1, read.2, read.3), end, has)
+
+  pub no_separator : (left : Option (List Event)) → text_events lower d t ≡ put next_range left → read_as d t ≡ None
+  no_separator None e = read_none e
+  no_separator (Some es) e = let first = begins_simple (next_range ∷ es) e in absurd (let wrong = first.2 in cc)
+
+  pub no_end : text_events lower d t ≡ Some [] → read_as d t ≡ None
+  no_end e = let first = begins_simple [] e in absurd (let wrong = first.2 in cc)

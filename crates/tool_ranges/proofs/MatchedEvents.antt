@@ -50,6 +50,12 @@ pub first_term : (g : Grammar) (o : Option (List Event)) (simple : read.Simple) 
 first_term g o simple cursor (one_simple s, left, is, has, e) = record { s = s; left = left; is = is; has = has; whole = e }
 first_term g o simple cursor (next_range, left, is, has, e) = absurd is
 
+-- the next event is the separator between two ranges
+pub first_separator : (g : Grammar) (o : Option (List Event)) (cursor : Cursor) → ComesFirst g o event.NextRange cursor
+    → (left : Option (List Event)) × HasLeftIn g cursor left × (o ≡ put next_range left)
+first_separator g o cursor (next_range, left, is, has, e) = (left, has, e)
+first_separator g o cursor (one_simple s, left, is, has, e) = absurd is
+
 -- ---- whether the numbers of the events fit
 
 front_fits : (fit : Simple → Bool) (ss : List Simple) → list_all (event_fits fit) (in_front ss []) ≡ list_all fit ss

@@ -1,5 +1,6 @@
 pub mod Cursors
 pub mod Reading
+pub mod Checked
 pub mod Table
 pub mod Matching
 pub mod Building

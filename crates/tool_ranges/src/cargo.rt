@@ -4,7 +4,6 @@ ghost use Rattle.std.specs.Prelude.{◌≡◌, [], List, true, IfOk, IsTrue};
 ghost use Rattle.semver_ranges.specs.RangeTree.{Simple as SimpleTree, SetTree, Spells};
 ghost use Rattle.semver_texts.specs.Versions.{PlainVersion};
 ghost use Rattle.semver_ranges.specs.RangeViews.{set_of};
-ghost use Rattle.semver_ranges.specs.declared.partial.LowerBounds.TheVariants.{Stated};
 ghost use Rattle.semver_ranges.specs.declared.range.Compat.TheVariants.{Cargo};
 ghost use Rattle.semver_ranges.specs.SatisfiedComparators.{meets_set};
 ghost use Rattle.semver_ranges.specs.PrintedRanges.{IsPrintableSet, set_text};
@@ -14,23 +13,16 @@ ghost use Rattle.tool_ranges.specs.CargoGrammar.{SpellsRequirement};
 ghost use Rattle.tool_ranges.specs.CargoMeaning.{meets_requirement};
 ghost use Rattle.tool_ranges.specs.Rewritten.{rewritten_requirement};
 ghost use Rattle.tool_ranges.specs.Dialects.{RefusesAs};
-ghost use Rattle.tool_ranges.specs.Sides.{term_fits};
 ghost use Rattle.tool_ranges.specs.declared.dialect.Dialect.TheVariants as dialect;
-ghost use Rattle.tool_ranges.specs.Steps.CargoReading.{in_one_range};
-ghost use Rattle.tool_ranges.specs.Steps.Printed.{IsPrintedAs};
-ghost use Rattle.tool_ranges.specs.TermComparators.{printed_term};
-ghost use Rattle.semver_ranges.specs.Steps.CursorViews.{IsSimpleOf};
 
 mod grammar;
 
 use crate::dialect::Dialect;
 use crate::printing;
-use crate::table::fits;
 pub(crate) use grammar::{has_wildcard, named, read_comparator};
-use semver_ranges::grammar::Simple;
 use semver_ranges::partial::LowerBounds;
-use semver_ranges::{Compat, Range, RangeError, RangeSet};
-use std::alloc::{AllocError, Global};
+use semver_ranges::{Compat, RangeError, RangeSet};
+use std::alloc::Global;
 
 /// The maximum number of comparators in a requirement.
 pub(crate) const MOST_COMPARATORS: usize = 32;
@@ -73,55 +65,11 @@ pub fn rewrite(alloc: Global, requirement: &str) -> Result<RangeSet, RangeError>
         × Spells tree (set_text (set_of set)) × IsTrue (fits Cargo tree)
         × (rewritten Cargo tree ≡ set_of set)) }
 {
-    rewritten(alloc, requirement)
-}
-
-/// Returns the set of a requirement. For speed, a single comparator is rewritten while it is read.
-fn rewritten(alloc: Global, requirement: &str) -> Result<RangeSet, RangeError>
-    ensures refusals { RefusesAs dialect.Cargo requirement.now result }
-    ensures printed { IfOk result (λ set.
-        IsPrintedAs Stated dialect.Cargo Cargo requirement.now (set_of set)) }
-{
-    let Some((simple, None)) = read_comparator(requirement.as_bytes()) else {
-        return printing::rewrite(
-            alloc,
-            requirement,
-            Dialect::Cargo,
-            Compat::Cargo,
-            LowerBounds::Stated,
-        );
-    };
-    if !fits(&simple, Dialect::Cargo) {
-        return Err(RangeError::NumberTooLarge);
-    }
-    match set_of_one(alloc, &simple) {
-        Ok(set) => Ok(set),
-        Err(_) => Err(RangeError::OutOfMemory),
-    }
-}
-
-/// Returns the set of one comparator whose numbers are within the limit. `Err` means out of memory.
-fn set_of_one(alloc: Global, simple: &Simple<'_>) -> Result<RangeSet, AllocError>
-    requires { (s : SimpleTree) × IsSimpleOf s simple.now }
-    ensures { IfOk result (λ set. (s : SimpleTree) → IsSimpleOf s simple.now
-        → term_fits dialect.Cargo s ≡ true
-        → set_of set ≡ in_one_range (printed_term Stated dialect.Cargo s)) }
-{
-    let mut comparator_set = Vec::with_capacity(alloc, 2)?;
-    printing::push(
+    printing::rewrite(
         alloc,
-        simple,
+        requirement,
         Dialect::Cargo,
+        Compat::Cargo,
         LowerBounds::Stated,
-        &mut comparator_set,
-    )?;
-    let mut ranges = Vec::with_capacity(alloc, 1)?;
-    ranges.push_reserved(Range {
-        comparator_set,
-        compat: Compat::Cargo,
-    });
-    Ok(RangeSet {
-        ranges,
-        compat: Compat::Cargo,
-    })
+    )
 }

@@ -3,11 +3,12 @@
 #![tactic(auto)]
 
 pub mod cargo;
+mod checked;
 mod cursor;
 pub mod dialect;
 pub mod highest;
 pub mod laws;
-pub mod matching;
+mod matching;
 pub mod meaning;
 pub mod npm;
 mod printing;

@@ -16,10 +16,12 @@ ghost use Rattle.version_sets.specs.PreReleaseRules.{meant_with, numbers_fit};
 ghost use Rattle.tool_ranges.specs.Dialects.{RefusesAs, SpellsAs, TreeOf, grammar_of};
 ghost use Rattle.tool_ranges.specs.Meanings.{MeansAs, meant_as};
 
+use crate::checked::Checked;
 use crate::dialect::Dialect;
-use crate::matching::{self, answer};
+use crate::matching::answer;
 use crate::sets;
 use semver_ranges::RangeError;
+use semver_ranges::partial::LowerBounds;
 use semver_versions::version::VersionRef;
 use std::alloc::Global;
 use version_sets::{PreReleases, VersionSet};
@@ -124,5 +126,8 @@ pub fn check(meaning: Meaning, range: &str) -> Result<(), RangeError>
     ensures refusals { RefusesAs meaning.dialect range.now result }
     ensures no_memory { result ≢ Err RangeError.OutOfMemory }
 {
-    matching::check(range, meaning.dialect)
+    match Checked::new(range, meaning.dialect, LowerBounds::Stated) {
+        Ok(_) => Ok(()),
+        Err(refusal) => Err(refusal),
+    }
 }

@@ -1,6 +1,7 @@
 //! A range text as plain comparators with exact bounds: those of the intervals of its terms.
 
 ghost use Rattle.std.specs.Prelude.{◌≡◌, ◌++◌, ◌^◌, ◌-◌, Some, IfOk, map, true};
+ghost use Rattle.semver_texts.specs.Texts.{Text};
 ghost use Rattle.semver_texts.specs.Versions.{numbers};
 ghost use Rattle.semver_ranges.specs.ExactBounds.{exact_bound};
 ghost use Rattle.semver_ranges.specs.RangeTree.{Simple as SimpleTree};
@@ -10,25 +11,26 @@ ghost use Rattle.semver_ranges.specs.Steps.CursorViews.{IsSimpleOf};
 ghost use Rattle.semver_ranges.specs.Steps.PartialViews.{PartsPass, version_of};
 ghost use Rattle.version_sets.specs.Releases.{release_value};
 ghost use Rattle.version_sets.specs.Steps.Cuts.{side_value};
-ghost use Rattle.tool_ranges.specs.Dialects.{HasSetAs, RefusesAs, SpellsAs, TreeOf};
+ghost use Rattle.tool_ranges.specs.Dialects.{RefusesAs, SpellsAs, TreeOf};
 ghost use Rattle.tool_ranges.specs.Sides.{term_fits, may_rise};
+ghost use Rattle.tool_ranges.specs.Steps.Checked.{IsCheckedAs};
 ghost use Rattle.tool_ranges.specs.Steps.Printed.{IsPrintedAs, printed_ranges};
 ghost use Rattle.tool_ranges.specs.TermComparators.{lower_comparator, printed_term};
 ghost use Rattle.tool_ranges.specs.TermComparators.{upper_comparator};
 
-use crate::cursor::Cursor;
+use crate::checked::Checked;
 use crate::dialect::Dialect;
-use crate::meaning::{Meaning, check};
 use crate::table::{is_past, numbers, raised, sides};
 use semver_ranges::events::Event;
 use semver_ranges::grammar::Simple;
 use semver_ranges::partial::{LowerBounds, Partial, lowest_pre_release};
 use semver_ranges::{Comparator, Compat, Op, Range, RangeError, RangeSet};
 use std::alloc::{AllocError, Global};
-use version_sets::{PreReleases, Release, Side};
+use version_sets::{Release, Side};
 
 /// Rewrites a range into plain comparators. The text is checked first, so that an invalid one
 /// doesn't allocate.
+#[inline(always)]
 pub(crate) fn rewrite(
     alloc: Global,
     range: &str,
@@ -39,38 +41,31 @@ pub(crate) fn rewrite(
     ensures refusals { RefusesAs dialect range.now result }
     ensures printed { IfOk result (λ set. IsPrintedAs lower dialect compat range.now (set_of set)) }
 {
-    let meaning = Meaning {
-        dialect,
-        pre_releases: PreReleases::Default,
-    };
-    if let Err(refusal) = check(meaning, range) {
-        return Err(refusal);
-    }
-    match ranges(alloc, range, dialect, compat, lower) {
+    let checked = Checked::new(range, dialect, lower)?;
+    match ranges(alloc, checked, dialect, compat, lower) {
         Ok(ranges) => Ok(RangeSet { ranges, compat }),
         Err(_) => Err(RangeError::OutOfMemory),
     }
 }
 
-/// Returns the ranges of a text that has a set. `Err` is out of memory.
+/// Returns the ranges of a text that was checked. `Err` is out of memory.
+#[inline(always)]
 fn ranges(
     alloc: Global,
-    range: &str,
+    mut checked: Checked<'_>,
     dialect: Dialect,
     compat: Compat,
     lower: LowerBounds,
 ) -> Result<Vec<Range>, AllocError>
-    requires { HasSetAs dialect range.now }
-    ensures { IfOk result (λ ranges. (tree : TreeOf dialect) → SpellsAs dialect tree range.now
+    requires { (t : Text) × IsCheckedAs lower dialect t checked }
+    ensures { IfOk result (λ ranges. (t : Text) → IsCheckedAs lower dialect t checked.entry
+        → (tree : TreeOf dialect) → SpellsAs dialect tree t
         → map range_of ranges.items ≡ printed_ranges lower dialect compat tree) }
 {
     let grammar = dialect.grammar();
     let mut ranges = Vec::with_capacity(alloc, 1)?;
     let mut comparator_set = Vec::with_capacity(alloc, 4)?;
-    let Ok(mut cursor) = Cursor::new(range, dialect, lower) else {
-        return Ok(ranges);
-    };
-    while let Some(Ok(event)) = cursor.next(grammar) {
+    while let Some(event) = checked.next(grammar) {
         match event {
             Event::Simple(simple) => push(alloc, &simple, dialect, lower, &mut comparator_set)?,
             Event::NextRange => {
@@ -91,7 +86,7 @@ fn ranges(
 
 /// Adds the comparators of a term. `Err` is out of memory.
 #[inline(always)]
-pub(crate) fn push(
+fn push(
     alloc: Global,
     simple: &Simple<'_>,
     dialect: Dialect,

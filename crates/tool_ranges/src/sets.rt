@@ -3,27 +3,27 @@
 ghost use Rattle.std.specs.Prelude.{◌≡◌, ◌≢◌, true, Err, IfOk, Bool, if◌then◌else◌, not, ◌&&◌};
 ghost use Rattle.std.specs.Prelude.{◌||◌};
 ghost use Rattle.semver_texts.specs.Digits.{digits_in};
-ghost use Rattle.semver_texts.specs.Texts.{is_empty};
+ghost use Rattle.semver_texts.specs.Texts.{Text, is_empty};
 ghost use Rattle.semver_texts.specs.Versions.{PlainVersion, VersionValue, without_build};
 ghost use Rattle.semver_texts.specs.declared.grammar.Digits.{Digits as SomeDigits};
 ghost use Rattle.semver_ranges.specs.RangeTree.{Simple as SimpleTree};
 ghost use Rattle.semver_ranges.specs.Steps.CursorViews.{IsSimpleOf};
 ghost use Rattle.version_sets.specs.Printable.{IsPrintable};
 ghost use Rattle.version_sets.specs.VersionSets.{contains, Fits};
-ghost use Rattle.tool_ranges.specs.Dialects.{HasSetAs, RefusesAs, SpellsAs, TreeOf, grammar_of};
+ghost use Rattle.tool_ranges.specs.Dialects.{RefusesAs, SpellsAs, TreeOf, grammar_of};
 ghost use Rattle.tool_ranges.specs.Meanings.{MeansBy, meant_by};
 ghost use Rattle.tool_ranges.specs.Steps.Building.{is_one_of, known, Prints};
+ghost use Rattle.tool_ranges.specs.Steps.Checked.{IsCheckedAs};
 ghost use Rattle.tool_ranges.specs.Steps.Matching.{begun, counts, ended, is_met, taken, takes_all};
-ghost use Rattle.tool_ranges.specs.Steps.Matching.{states_at, takes_releases};
+ghost use Rattle.tool_ranges.specs.Steps.Matching.{lower_of, states_at, takes_releases};
 ghost use Rattle.tool_ranges.specs.Sides.{term_fits};
 ghost use Rattle.std.specs.List.{list_any};
 ghost use Rattle.version_sets.specs.Steps.Ends.{each_prints, has_numbers, in_each, in_ranges};
 ghost use Rattle.version_sets.specs.Steps.Ends.{ranges_print};
 
-use crate::cursor::Cursor;
+use crate::checked::Checked;
 use crate::dialect::Dialect;
 use crate::matching::{interval_of, lower, matches_everything, takes_all};
-use crate::meaning::{Meaning, check};
 use crate::table::{bounds, numbers};
 use semver_ranges::RangeError;
 use semver_ranges::events::Event;
@@ -45,38 +45,32 @@ pub(crate) fn read(
     ensures printable { IfOk result IsPrintable }
     ensures digits { IfOk result (λ set. set.digits ≡ digits_in (grammar_of dialect)) }
 {
-    let meaning = Meaning {
-        dialect,
-        pre_releases: rule,
-    };
-    if let Err(refusal) = check(meaning, range) {
-        return Err(refusal);
-    }
-    match set_of(alloc, range, dialect, rule) {
+    let checked = Checked::new(range, dialect, lower(dialect, takes_all(rule)))?;
+    match set_of(alloc, checked, dialect, rule) {
         Ok(set) => Ok(set),
         Err(_) => Err(RangeError::OutOfMemory),
     }
 }
 
-/// Returns the set of a string that has one. `Err` means out of memory.
+/// Returns the set of a range that was checked. `Err` means out of memory.
 fn set_of(
     alloc: Global,
-    range: &str,
+    mut checked: Checked<'_>,
     dialect: Dialect,
     rule: PreReleases,
 ) -> Result<VersionSet, AllocError>
-    requires { HasSetAs dialect range.now }
-    ensures meaning { IfOk result (λ set. MeansBy dialect rule range.now set) }
+    requires { (t : Text)
+        × IsCheckedAs (lower_of dialect (takes_all rule)) dialect t checked }
+    ensures meaning { IfOk result (λ set. (t : Text)
+        → IsCheckedAs (lower_of dialect (takes_all rule)) dialect t checked.entry
+        → MeansBy dialect rule t set) }
     ensures printable { IfOk result IsPrintable }
     ensures digits { IfOk result (λ set. set.digits ≡ digits_in (grammar_of dialect)) }
 {
     let all = takes_all(rule);
     let grammar = dialect.grammar();
     let mut building = Building::new(alloc);
-    let Ok(mut cursor) = Cursor::new(range, dialect, lower(dialect, all)) else {
-        return Ok(VersionSet::empty(alloc, grammar.digits()));
-    };
-    while let Some(Ok(event)) = cursor.next(grammar) {
+    while let Some(event) = checked.next(grammar) {
         match event {
             Event::Simple(simple) => building.push_term(&simple, dialect, all)?,
             Event::NextRange => building.end_range(all)?,

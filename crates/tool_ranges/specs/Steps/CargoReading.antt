@@ -2,15 +2,13 @@
 -- requirements are read, and what private contracts say of the results.
 use Prim.Native.Char.{code}
 use Rattle.std.specs.Prelude.{◌≡◌, Bool, false, ◌&&◌, ◌==◌, if◌then◌else◌, Option, Some}
-use Rattle.std.specs.Prelude.{None, List, [], ◌∷◌}
+use Rattle.std.specs.Prelude.{None, [], ◌∷◌}
 use Rattle.std.specs.Borrow.{Bor}
 use Rattle.semver_texts.specs.declared.grammar.Grammar.TheVariants as grammar
 use Rattle.semver_ranges.specs.declared.grammar.Simple as read
 use Rattle.semver_texts.specs.Texts.{Text}
 use Rattle.semver_ranges.specs.RangeTree.{Form, PartialTree, Simple}
 use Rattle.semver_ranges.specs.Steps.Reading.{after_blanks, operator, with_first, component}
-use Rattle.semver_ranges.specs.declared.range.Compat.TheVariants.{Cargo}
-use Rattle.semver_ranges.specs.RewritingTable.{PlainComparator, PlainSet}
 use Rattle.semver_ranges.specs.Steps.CursorViews.{IsSimpleOf}
 use Rattle.tool_ranges.specs.CargoGrammar.{is_of_cargo}
 use Rattle.tool_ranges.specs.CargoMeaning.{as_read}
@@ -53,8 +51,3 @@ abbrev pub FindsComparator : Option (Simple × Option Text)
 FindsComparator o None = o ≡ None
 FindsComparator o (Some found) =
     (s : Simple) × (o ≡ Some (s, after_comma found.1)) × IsSimpleOf (as_read s) found.0
-
--- a set of one range, in Cargo mode
-abbrev pub in_one_range : List PlainComparator → PlainSet
-in_one_range cs =
-    record { ranges = record { comparators = cs; compat = Cargo } ∷ []; compat = Cargo }

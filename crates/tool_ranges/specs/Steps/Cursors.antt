@@ -98,7 +98,7 @@ ComesFirst d o e after =
 
 abbrev pub GivesNext : Grammar → Option (List Event) → Option (Result read.Event RangeError)
     → Cursor → Type 0
-GivesNext d o None after = o ≡ Some []
+GivesNext d o None after = (o ≡ Some []) × HasLeftIn d after o
 GivesNext d o (Some (Ok e)) after = ComesFirst d o e after
 GivesNext d o (Some (Err e)) after = (o ≡ None) × (e ≡ NotARange)
 

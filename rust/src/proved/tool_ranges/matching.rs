@@ -198,21 +198,3 @@ pub(crate) fn matches_everything(simple: &Simple<'_>) -> bool {
         _ => simple.partial.states_nothing(),
     }
 }
-
-/// Returns an error if a string isn't a range, or if one of its numbers is above the limit of its
-/// dialect.
-pub(crate) fn check(range: &str, dialect: Dialect) -> Result<(), RangeError> {
-    let grammar = dialect.grammar();
-    let mut cursor = Cursor::new(range, dialect, LowerBounds::Stated)?;
-    let mut fit = true;
-    while let Some(event) = cursor.next(grammar) {
-        match event? {
-            Event::Simple(simple) => fit &= fits(&simple, dialect),
-            Event::NextRange => {}
-        }
-    }
-    if !fit {
-        return Err(RangeError::NumberTooLarge);
-    }
-    Ok(())
-}

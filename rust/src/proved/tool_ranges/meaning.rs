@@ -2,10 +2,12 @@
 //! The meaning of a range string: its dialect, and which pre-releases satisfy it.
 
 use crate::rattle_std::prelude::*;
+use crate::proved::tool_ranges::checked::Checked;
 use crate::proved::tool_ranges::dialect::Dialect;
-use crate::proved::tool_ranges::matching::{self, answer};
+use crate::proved::tool_ranges::matching::answer;
 use crate::proved::tool_ranges::sets;
 use crate::proved::semver_ranges::RangeError;
+use crate::proved::semver_ranges::partial::LowerBounds;
 use crate::proved::semver_versions::version::VersionRef;
 use crate::proved::version_sets::{PreReleases, VersionSet};
 
@@ -80,5 +82,8 @@ pub fn satisfies(
 /// isn't in Cargo's dialect. It does not allocate.
 #[inline(never)]
 pub fn check(meaning: Meaning, range: &str) -> Result<(), RangeError> {
-    matching::check(range, meaning.dialect)
+    match Checked::new(range, meaning.dialect, LowerBounds::Stated) {
+        Ok(_) => Ok(()),
+        Err(refusal) => Err(refusal),
+    }
 }

@@ -4,10 +4,11 @@
 
 use crate::rattle_std::prelude::*;
 pub mod cargo;
+mod checked;
 mod cursor;
 pub mod dialect;
 pub mod highest;
-pub mod matching;
+mod matching;
 pub mod meaning;
 pub mod npm;
 mod printing;

@@ -2,41 +2,36 @@
 //! A range text as plain comparators with exact bounds: those of the intervals of its terms.
 
 use crate::rattle_std::prelude::*;
-use crate::proved::tool_ranges::cursor::Cursor;
+use crate::proved::tool_ranges::checked::Checked;
 use crate::proved::tool_ranges::dialect::Dialect;
-use crate::proved::tool_ranges::meaning::{Meaning, check};
 use crate::proved::tool_ranges::table::{is_past, numbers, raised, sides};
 use crate::proved::semver_ranges::events::Event;
 use crate::proved::semver_ranges::grammar::Simple;
 use crate::proved::semver_ranges::partial::{LowerBounds, Partial, lowest_pre_release};
 use crate::proved::semver_ranges::{Comparator, Compat, Op, Range, RangeError, RangeSet};
 use crate::rattle_std::AllocError;
-use crate::proved::version_sets::{PreReleases, Release, Side};
+use crate::proved::version_sets::{Release, Side};
 
 /// Rewrites a range into plain comparators. The text is checked first, so that an invalid one
 /// doesn't allocate.
+#[inline(always)]
 pub(crate) fn rewrite(
     range: &str,
     dialect: Dialect,
     compat: Compat,
     lower: LowerBounds,
 ) -> Result<RangeSet, RangeError> {
-    let meaning = Meaning {
-        dialect,
-        pre_releases: PreReleases::Default,
-    };
-    if let Err(refusal) = check(meaning, range) {
-        return Err(refusal);
-    }
-    match ranges(range, dialect, compat, lower) {
+    let checked = Checked::new(range, dialect, lower)?;
+    match ranges(checked, dialect, compat, lower) {
         Ok(ranges) => Ok(RangeSet { ranges, compat }),
         Err(_) => Err(RangeError::OutOfMemory),
     }
 }
 
-/// Returns the ranges of a text that has a set. `Err` is out of memory.
+/// Returns the ranges of a text that was checked. `Err` is out of memory.
+#[inline(always)]
 fn ranges(
-    range: &str,
+    mut checked: Checked<'_>,
     dialect: Dialect,
     compat: Compat,
     lower: LowerBounds,
@@ -44,10 +39,7 @@ fn ranges(
     let grammar = dialect.grammar();
     let mut ranges = Vec::fallible_with_capacity(1)?;
     let mut comparator_set = Vec::fallible_with_capacity(4)?;
-    let Ok(mut cursor) = Cursor::new(range, dialect, lower) else {
-        return Ok(ranges);
-    };
-    while let Some(Ok(event)) = cursor.next(grammar) {
+    while let Some(event) = checked.next(grammar) {
         match event {
             Event::Simple(simple) => push(&simple, dialect, lower, &mut comparator_set)?,
             Event::NextRange => {
@@ -68,7 +60,7 @@ fn ranges(
 
 /// Adds the comparators of a term. `Err` is out of memory.
 #[inline(always)]
-pub(crate) fn push(
+fn push(
     simple: &Simple<'_>,
     dialect: Dialect,
     lower: LowerBounds,

@@ -2,10 +2,9 @@
 //! A range string as the set of the versions that satisfy it.
 
 use crate::rattle_std::prelude::*;
-use crate::proved::tool_ranges::cursor::Cursor;
+use crate::proved::tool_ranges::checked::Checked;
 use crate::proved::tool_ranges::dialect::Dialect;
 use crate::proved::tool_ranges::matching::{interval_of, lower, matches_everything, takes_all};
-use crate::proved::tool_ranges::meaning::{Meaning, check};
 use crate::proved::tool_ranges::table::{bounds, numbers};
 use crate::proved::semver_ranges::RangeError;
 use crate::proved::semver_ranges::events::Event;
@@ -21,32 +20,23 @@ pub(crate) fn read(
     dialect: Dialect,
     rule: PreReleases,
 ) -> Result<VersionSet, RangeError> {
-    let meaning = Meaning {
-        dialect,
-        pre_releases: rule,
-    };
-    if let Err(refusal) = check(meaning, range) {
-        return Err(refusal);
-    }
-    match set_of(range, dialect, rule) {
+    let checked = Checked::new(range, dialect, lower(dialect, takes_all(rule)))?;
+    match set_of(checked, dialect, rule) {
         Ok(set) => Ok(set),
         Err(_) => Err(RangeError::OutOfMemory),
     }
 }
 
-/// Returns the set of a string that has one. `Err` means out of memory.
+/// Returns the set of a range that was checked. `Err` means out of memory.
 fn set_of(
-    range: &str,
+    mut checked: Checked<'_>,
     dialect: Dialect,
     rule: PreReleases,
 ) -> Result<VersionSet, AllocError> {
     let all = takes_all(rule);
     let grammar = dialect.grammar();
     let mut building = Building::new();
-    let Ok(mut cursor) = Cursor::new(range, dialect, lower(dialect, all)) else {
-        return Ok(VersionSet::empty(grammar.digits()));
-    };
-    while let Some(Ok(event)) = cursor.next(grammar) {
+    while let Some(event) = checked.next(grammar) {
         match event {
             Event::Simple(simple) => building.push_term(&simple, dialect, all)?,
             Event::NextRange => building.end_range(all)?,

@@ -1,23 +1,26 @@
-use Rattle.std.proofs.Common.{◌≡◌, true, List, Some}
+use Rattle.std.proofs.Common.{◌≡◌, true, List}
 use Rattle.std.specs.List.{list_all}
 use Rattle.semver_texts.specs.Digits.{digits_in}
+use Rattle.semver_texts.specs.Texts.{Text}
 use Rattle.semver_texts.specs.Versions.{PlainVersion}
 use Rattle.semver_ranges.specs.Steps.RangeEvents.{Event, event_fits}
 use Rattle.version_sets.specs.VersionSets.{Fits}
 use Rattle.tool_ranges.specs.Dialects.{SpellsAs, TreeOf, grammar_of}
 use Rattle.tool_ranges.specs.Steps.Building.{known, Prints}
-use Rattle.tool_ranges.specs.Steps.Cursors.{HasLeftIn, events_in, ranges_of, size_of}
-use Rattle.tool_ranges.specs.Steps.Matching.{after, begun, counts, lower_of}
+use Rattle.tool_ranges.specs.Steps.Checked.{HasEvents, IsCheckedAs, size_after}
+use Rattle.tool_ranges.specs.Steps.Cursors.{events_in, ranges_of}
+use Rattle.tool_ranges.specs.Steps.Matching.{after, begun, counts, lower_of, takes_all}
 use Rattle.tool_ranges.specs.Sides.{term_fits}
 use Rattle.tool_ranges.proofs.sets.set_of.Given as goal
 
 abbrev pub invariant-loop-event : goal.invariant-loop-event
-invariant-loop-event l = (tree : TreeOf l.dialect) × (left : List Event) × SpellsAs l.dialect tree l.range
-    × HasLeftIn (grammar_of l.dialect) l.cursor (Some left) × (list_all (event_fits (term_fits l.dialect)) left ≡ true)
+invariant-loop-event l = ((t : Text) → IsCheckedAs (lower_of l.dialect (takes_all l.rule)) l.dialect t l.fn.checked
+    → (tree : TreeOf l.dialect) × (left : List Event) × SpellsAs l.dialect tree t
+    × HasEvents (grammar_of l.dialect) l.checked left × (list_all (event_fits (term_fits l.dialect)) left ≡ true)
     × ((v : PlainVersion) → Fits v
     → after l.dialect l.all v (begun (counts l.all v)) (events_in (ranges_of (lower_of l.dialect l.all) l.dialect tree))
-    ≡ after l.dialect l.all v (known l.all v l.building) left)
+    ≡ after l.dialect l.all v (known l.all v l.building) left))
     × Prints (digits_in (grammar_of l.dialect)) l.building
 
 abbrev pub decreases-loop-event : goal.decreases-loop-event
-decreases-loop-event l = size_of l.cursor
+decreases-loop-event l = size_after l.checked
