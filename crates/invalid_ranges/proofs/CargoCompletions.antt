@@ -11,7 +11,7 @@ use Rattle.semver_texts.specs.declared.grammar.Grammar.TheVariants.{Cargo}
 use Rattle.semver_texts.proofs.Lists.{by_test}
 use Rattle.semver_ranges.specs.Partials.{stated, states_nothing}
 use Rattle.semver_ranges.specs.RangeTree.{Form, bare, equal, less, at_most, greater, at_least, tilde, caret, is_bare, AreBlanks}
-use Rattle.semver_ranges.specs.RangeTree.{PartialTree, one, two, three, Simple, SpellsPartial, is_component, is_wildcard}
+use Rattle.semver_ranges.specs.RangeTree.{PartialTree, one, two, three, SetTree, Simple, SpellsPartial, simples, is_component, is_wildcard}
 use Rattle.invalid_strings.proofs.Completions.{CompletesBy, AtMost, Seq, among, both, byte_by, choice, in_bytes, optional, same, seq}
 use Rattle.invalid_strings.proofs.Completions as prefixes
 use Rattle.invalid_strings.proofs.Cores.{Marked, marked_from, marked_to}
@@ -380,7 +380,7 @@ every = let spaces = blanks Cargo in among (same (seq spaces (seq wild spaces)) 
 -- ---- requirements
 
 abbrev pub IsRequirement : Text → Type 0
-IsRequirement t = (tree : List Simple) × SpellsRequirement tree t
+IsRequirement t = (tree : SetTree) × SpellsRequirement tree t
 
 abbrev IsComma : Text → Type 0
 IsComma t = t ≡ codes ","
@@ -431,11 +431,11 @@ alone_too s [] e = refl
 alone_too s (r ∷ rs) e = rw e refl
 
 requirement_from : (t : Text) → Requirement t → IsRequirement t
-requirement_from t (inl (s, w, n)) = (s ∷ [], record { comparators = w; alone = refl; few = omega arith })
+requirement_from t (inl (s, w, n)) = (simples s [] ∷ [], record { comparators = w; alone = refl; few = omega arith })
 requirement_from t (inr w) =
     let all = all_from w.first w.in_first w.in_second.many.texts w.in_second.many.each t
     (w.whole ∙ ap (λ x. w.first ++ x) w.in_second.many.whole) in (
-      all.first ∷ all.others,
+      simples all.first all.others ∷ [],
       record {
         comparators = all.spelled;
         alone = alone_too all.first all.others all.stated;
@@ -478,8 +478,7 @@ no_more : (n k : ℕ) (P : Text → Type 0) (t : Text) → n ≤ k → AtMost n 
 no_more n k P t fewer w = record { many = w.many; few = omega (arith, fewer, w.few) }
 
 requirement_to : (t : Text) → IsRequirement t → Requirement t
-requirement_to t ([], w) = absurd (w.comparators)
-requirement_to t (s ∷ [], w) =
+requirement_to t (simples s [] ∷ [], w) =
     by_test (states_nothing s.partial)
     (λ y. inl (s, w.comparators, y))
     (λ n. inr (let all = all_to s [] t w.comparators (rw n refl) in
@@ -490,7 +489,7 @@ requirement_to t (s ∷ [], w) =
       in_second = no_more 0 31 Next all.second (omega arith) all.in_second;
       whole = all.whole;
     }))
-requirement_to t (s ∷ r ∷ rs, w) =
+requirement_to t (simples s (r ∷ rs) ∷ [], w) =
     inr (let all = all_to s (r ∷ rs) t w.comparators (not_true (some_states_nothing (s ∷ r ∷ rs)) w.alone) in record {
       first = all.first;
       second = all.second;
@@ -502,6 +501,7 @@ requirement_to t (s ∷ r ∷ rs, w) =
     not_true : (x : Bool) → not x ≡ true → x ≡ false
     not_true false e = refl
     not_true true e = absurd (cc)
+requirement_to t (_, w) = absurd (w.comparators)
 
 pub requirements : CompletesBy in_bytes IsRequirement (codes "*") stated_completions
 requirements =

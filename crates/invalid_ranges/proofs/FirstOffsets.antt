@@ -8,13 +8,13 @@ use Rattle.std.proofs.lemmas.List.Splits.{length-slice_split, slice_split_none}
 use Rattle.std.specs.Prelude.{if◌then◌else◌, option_to_list, unwrap_or}
 use Rattle.std.specs.List.{flat_map, slice_split}
 use Rattle.semver_texts.specs.Texts.{Text, is_dot}
-use Rattle.semver_ranges.specs.RangeTree.{PartialTree, Simple, SpellsPartial, components, is_component, one, two, three, qualifier}
+use Rattle.semver_ranges.specs.RangeTree.{PartialTree, Simple, SpellsPartial, components, is_component, one, two, three, qualifier, SetTree}
 use Rattle.semver_ranges.specs.Steps.Reading.{component, with_first}
 use Rattle.semver_ranges.specs.Terms.{right_side}
 use Rattle.semver_ranges.proofs.LongWords.{no_dot}
 use Rattle.semver_ranges.proofs.WrittenPieces.{first_read}
 use Rattle.tool_ranges.specs.declared.dialect.Dialect.{Dialect}
-use Rattle.tool_ranges.specs.Dialects.{IsTextAs, SpellsAs, TreeOf, grammar_of}
+use Rattle.tool_ranges.specs.Dialects.{IsTextAs, SpellsAs, grammar_of}
 use Rattle.tool_ranges.specs.FittingTerms.{read_in, terms_as}
 use Rattle.tool_ranges.proofs.ReadingLaws.{one_tree}
 use Rattle.range_terms.specs.SpelledTerms.{AreTermsOf, IsSpelled, IsTermOf, IsUpperOf, first_form}
@@ -26,7 +26,7 @@ use Rattle.range_terms.proofs.Whole.{terms_found}
 use Rattle.invalid_ranges.specs.TooLarge.{component_begin, first_of, first_offset, limit_offset, offset_in, versions_of}
 
 -- the offset is the same for each tree of the text, and for each way in which it spells the text
-pub same_limit : (d : Dialect) (t : Text) (tree : TreeOf d) (spelled : SpellsAs d tree t) (tree' : TreeOf d) (spelled' : SpellsAs d tree' t)
+pub same_limit : (d : Dialect) (t : Text) (tree : SetTree) (spelled : SpellsAs d tree t) (tree' : SetTree) (spelled' : SpellsAs d tree' t)
     → limit_offset d tree t spelled ≡ limit_offset d tree' t spelled'
 same_limit d t tree spelled tree' spelled' =
     (λ i. unwrap_or (first_offset d (terms_as d tree) (flat_map versions_of (sym (terms_found d tree t spelled) i))) 0)
@@ -72,9 +72,9 @@ module _ (d : Dialect) (t : Text) where
   -- the terms that are left, of which the first that doesn't fit has the number
   abbrev pub Left : List WrittenTerm → Type 0
   Left xs = (ss : List Simple) × AreTermsOf d t xs ss
-      × ((tree : TreeOf d) (spelled : SpellsAs d tree t) → limit_offset d tree t spelled ≡ unwrap_or (first_offset d ss (flat_map versions_of xs)) 0)
+      × ((tree : SetTree) (spelled : SpellsAs d tree t) → limit_offset d tree t spelled ≡ unwrap_or (first_offset d ss (flat_map versions_of xs)) 0)
 
-  pub all_left : IsTextAs d t → (xs : List WrittenTerm) → ((tree : TreeOf d) (spelled : SpellsAs d tree t) → xs ≡ terms_in d tree t spelled) → Left xs
+  pub all_left : IsTextAs d t → (xs : List WrittenTerm) → ((tree : SetTree) (spelled : SpellsAs d tree t) → xs ≡ terms_in d tree t spelled) → Left xs
   all_left (tree, spelled) xs are = (
     terms_as d tree,
     subst (λ ys. AreTermsOf d t ys (terms_as d tree)) (sym (are tree spelled)) (terms_spelled d tree t spelled),
@@ -86,20 +86,20 @@ module _ (d : Dialect) (t : Text) where
     abbrev pub here : List Simple
     here = left.1.0
 
-    whole : (tree : TreeOf d) (spelled : SpellsAs d tree t) → limit_offset d tree t spelled
+    whole : (tree : SetTree) (spelled : SpellsAs d tree t) → limit_offset d tree t spelled
         ≡ unwrap_or (first_of (first_offset d here (versions_of x)) (first_offset d left.1.1 (flat_map versions_of xs))) 0
     whole tree spelled = left.2 tree spelled
         ∙ ap (λ o. unwrap_or o 0) (ap (λ ss. first_offset d ss (versions_of x ++ flat_map versions_of xs)) left.1.4
         ∙ next x (flat_map versions_of xs) here left.1.1 left.1.2)
 
-    pub found : (k : ℕ) → Some k ≡ first_offset d here (versions_of x) → (tree : TreeOf d) (spelled : SpellsAs d tree t)
+    pub found : (k : ℕ) → Some k ≡ first_offset d here (versions_of x) → (tree : SetTree) (spelled : SpellsAs d tree t)
         → k ≡ limit_offset d tree t spelled
     found k is tree spelled = sym (whole tree spelled ∙ rw (sym is) refl)
 
     pub passed : None ≡ first_offset d here (versions_of x) → Left xs
     passed is = (left.1.1, left.1.3, λ tree spelled. whole tree spelled ∙ rw (sym is) refl)
 
-  pub none_left : Left [] → (tree : TreeOf d) (spelled : SpellsAs d tree t) → 0 ≡ limit_offset d tree t spelled
+  pub none_left : Left [] → (tree : SetTree) (spelled : SpellsAs d tree t) → 0 ≡ limit_offset d tree t spelled
   none_left left tree spelled = sym (left.2 tree spelled ∙ rw left.1 refl)
 
 -- ---- the versions of a term

@@ -9,11 +9,11 @@ use Rattle.std.proofs.lemmas.Str.{IsUtf8-take}
 use Rattle.semver_texts.specs.Texts.{Text}
 use Rattle.semver_texts.specs.declared.grammar.Grammar.{Grammar}
 use Rattle.semver_texts.specs.declared.grammar.Grammar.TheVariants as grammar
-use Rattle.semver_ranges.specs.RangeTree.{SpellsRangeIn, bare, empty, one}
+use Rattle.semver_ranges.specs.RangeTree.{SpellsRangeIn, bare, empty, one, simples}
 use Rattle.invalid_strings.specs.Prefixes.{AreCompletions, Begins, IsLongestPrefix}
 use Rattle.invalid_strings.proofs.LongestPrefixes.{ascii_utf8}
 use Rattle.tool_ranges.specs.declared.dialect.Dialect.{Dialect}
-use Rattle.tool_ranges.specs.declared.dialect.Dialect.TheVariants.{Cargo, Npm, CrateCargo, CrateNpm}
+use Rattle.tool_ranges.specs.declared.dialect.Dialect.TheVariants.{Cargo, Npm}
 use Rattle.invalid_ranges.specs.Prefixes.{BeginsAs}
 use Rattle.tool_ranges.specs.CargoGrammar.{SpellsRequirement}
 use Rattle.tool_ranges.specs.Dialects.{IsTextAs}
@@ -38,7 +38,7 @@ short = search rules
 empty_range : (d : Grammar) → SpellsRangeIn d (empty ∷ []) []
 empty_range d = search rules
 
-one_comparator : SpellsRequirement (record { form = bare; partial = one (codes "1") } ∷ []) (codes "1")
+one_comparator : SpellsRequirement (simples (record { form = bare; partial = one (codes "1") }) [] ∷ []) (codes "1")
 one_comparator = record {
   comparators = record {
     before = [];
@@ -60,8 +60,7 @@ pub nothing_begins : (dialect : Dialect) → BeginsAs dialect []
 unfolding chars
 nothing_begins Cargo = grind (arith, common_steps, one_comparator)
 nothing_begins Npm = ([], (empty ∷ [], record { spelled = empty_range grammar.Npm; characters = refl }))
-nothing_begins CrateCargo = ([], (empty ∷ [], empty_range grammar.Crate))
-nothing_begins CrateNpm = ([], (empty ∷ [], empty_range grammar.Crate))
+nothing_begins d = ([], (empty ∷ [], empty_range grammar.Crate))
 
 nothing_utf8 : IsUtf8 []
 nothing_utf8 = ascii_utf8 [] tt

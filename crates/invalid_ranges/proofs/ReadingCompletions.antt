@@ -11,7 +11,7 @@ use Rattle.semver_texts.specs.declared.grammar.Grammar.TheVariants as grammar
 use Rattle.invalid_strings.specs.Prefixes.{GoesOn}
 use Rattle.invalid_strings.proofs.Completions.{bytes_go_on}
 use Rattle.tool_ranges.specs.declared.dialect.Dialect.{Dialect}
-use Rattle.tool_ranges.specs.declared.dialect.Dialect.TheVariants.{Cargo, Npm, CrateCargo, CrateNpm}
+use Rattle.tool_ranges.specs.declared.dialect.Dialect.TheVariants.{Cargo, Npm}
 use Rattle.tool_ranges.specs.NpmGrammar.{may_stand}
 use Rattle.tool_ranges.specs.Dialects.{IsTextAs}
 use Rattle.invalid_ranges.specs.Steps.Places.{range_completions}
@@ -43,5 +43,4 @@ goes_on Npm t rest utf8 (tree, spelled) =
     let w = bytes_go_on (range_texts grammar.Npm npm_words) range_completions refl t rest (tree, spelled.spelled) in
     let stands = still_stand t rest w.1 utf8 spelled.characters (w.0, w.2, w.3) in
     (w.0, w.1, w.2, w.3, (w.4.0, record { spelled = w.4.1; characters = stands }))
-goes_on CrateCargo t rest utf8 is = bytes_go_on (range_texts grammar.Crate crate_words) range_completions refl t rest is
-goes_on CrateNpm t rest utf8 is = bytes_go_on (range_texts grammar.Crate crate_words) range_completions refl t rest is
+goes_on d t rest utf8 is = bytes_go_on (range_texts grammar.Crate crate_words) range_completions refl t rest is

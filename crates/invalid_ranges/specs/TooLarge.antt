@@ -9,10 +9,10 @@ use Rattle.std.specs.List.{flat_map, prefix_len}
 use Rattle.std.specs.Str.{all_ascii_digits}
 use Rattle.std.specs.Str.Parse.{digits_value}
 use Rattle.semver_texts.specs.Texts.{Text}
-use Rattle.semver_ranges.specs.RangeTree.{PartialTree, Simple, components}
+use Rattle.semver_ranges.specs.RangeTree.{PartialTree, Simple, components, SetTree}
 use Rattle.tool_ranges.specs.declared.dialect.Dialect.{Dialect}
 use Rattle.tool_ranges.specs.DialectTable.{limit}
-use Rattle.tool_ranges.specs.Dialects.{SpellsAs, TreeOf, grammar_of}
+use Rattle.tool_ranges.specs.Dialects.{SpellsAs, grammar_of}
 use Rattle.tool_ranges.specs.FittingTerms.{terms_as, too_large}
 use Rattle.range_terms.specs.WrittenTerms.{WrittenTerm, WrittenVersion, terms_in}
 use Rattle.invalid_strings.specs.Reasons.{bound_too_large_in, too_large_in}
@@ -48,7 +48,7 @@ abbrev pub versions_of : WrittenTerm → List WrittenVersion
 versions_of x = x.version ∷ option_to_list x.upper
 
 -- the offset of the number that is too large in a text, or 0 if all its terms fit
-abbrev pub limit_offset : (dialect : Dialect) (tree : TreeOf dialect) (t : Text)
+abbrev pub limit_offset : (dialect : Dialect) (tree : SetTree) (t : Text)
     → SpellsAs dialect tree t → ℕ
 limit_offset dialect tree t spelled = unwrap_or (first_offset dialect (terms_as dialect tree)
     (flat_map versions_of (terms_in dialect tree t spelled))) 0
@@ -70,6 +70,6 @@ limit_reason dialect t =
 
 -- the offset is `limit_offset` of a tree of the text
 pub record IsLimitOffset (dialect : Dialect) (t : Text) (offset : ℕ) : Type 0 where
-  pub tree : TreeOf dialect
+  pub tree : SetTree
   pub spelled : SpellsAs dialect tree t
   pub is : offset ≡ limit_offset dialect tree t spelled

@@ -3,9 +3,9 @@
 ghost use Rattle.std.specs.Prelude.{◌≡◌, ◌≤◌, ◌<◌, length, List, IfSome};
 ghost use Rattle.std.specs.List.{slice_split};
 ghost use Rattle.semver_texts.specs.Texts.{is_dot};
-ghost use Rattle.semver_ranges.specs.RangeTree.{PartialTree, Simple as SimpleTree};
+ghost use Rattle.semver_ranges.specs.RangeTree.{PartialTree, Simple as SimpleTree, SetTree};
 ghost use Rattle.semver_ranges.specs.Steps.CursorViews.{form_of};
-ghost use Rattle.tool_ranges.specs.Dialects.{IsTextAs, SpellsAs, TreeOf};
+ghost use Rattle.tool_ranges.specs.Dialects.{IsTextAs, SpellsAs};
 ghost use Rattle.tool_ranges.specs.FittingTerms.{read_in};
 ghost use Rattle.range_terms.specs.SpelledTerms.{IsSpelled, IsTermOf};
 ghost use Rattle.range_terms.specs.WrittenTerms.{term_value, version_value};
@@ -27,7 +27,7 @@ use tool_ranges::table::{limit, too_large};
 /// that is raised and can't be. It is 1 in `=18446744073709551616 || 1`. It does not allocate.
 pub(crate) fn limit_offset(dialect: Dialect, text: &str) -> usize
     requires { IsTextAs dialect text.now }
-    ensures value { (tree : TreeOf dialect) (spelled : SpellsAs dialect tree text.now)
+    ensures value { (tree : SetTree) (spelled : SpellsAs dialect tree text.now)
         → result ≡ limit_offset dialect tree text.now spelled }
     ensures within { result ≤ length text.now }
 {

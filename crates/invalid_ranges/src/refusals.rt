@@ -6,7 +6,8 @@ ghost use Rattle.semver_ranges.specs.declared.range_set.RangeError.TheVariants.{
 ghost use Rattle.invalid_strings.specs.Prefixes.{IsLongestPrefix};
 ghost use Rattle.invalid_ranges.specs.Prefixes.{BeginsAs};
 ghost use Rattle.invalid_strings.specs.Reasons.{byte_at};
-ghost use Rattle.tool_ranges.specs.Dialects.{IsTextAs, SpellsAs, TreeOf};
+ghost use Rattle.semver_ranges.specs.RangeTree.{SetTree};
+ghost use Rattle.tool_ranges.specs.Dialects.{IsTextAs, SpellsAs};
 ghost use Rattle.invalid_ranges.specs.RangeReasons.{IsReasonAs};
 ghost use Rattle.invalid_ranges.specs.Refusals.{IsRefusalAs};
 ghost use Rattle.invalid_ranges.specs.TooLarge.{limit_offset, limit_reason};
@@ -83,7 +84,7 @@ fn explained(
         error.now ≡ NotARange → IsLongestPrefix (BeginsAs dialect) text.now r.0) }
     ensures reason { IfOk result (λ r. error.now ≡ NotARange
         → IsReasonAs dialect (take r.0 text.now) (byte_at text.now r.0) r.1) }
-    ensures limit { IfOk result (λ r. error.now ≡ NumberTooLarge → (tree : TreeOf dialect)
+    ensures limit { IfOk result (λ r. error.now ≡ NumberTooLarge → (tree : SetTree)
         (spelled : SpellsAs dialect tree text.now)
         → r.0 ≡ limit_offset dialect tree text.now spelled) }
     ensures limit_reason { IfOk result (λ r. error.now ≡ NumberTooLarge

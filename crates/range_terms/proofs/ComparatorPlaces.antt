@@ -6,9 +6,9 @@ use Rattle.std.specs.Prelude.{IsTrue}
 use Rattle.std.specs.List.{list_any}
 use Rattle.semver_texts.specs.Texts.{Text}
 use Rattle.semver_ranges.specs.Partials.{states_nothing}
-use Rattle.semver_ranges.specs.RangeTree.{PartialTree, Role, Simple, SpellsPartial}
+use Rattle.semver_ranges.specs.RangeTree.{PartialTree, Role, SetTree, Simple, SpellsPartial, simples}
 use Rattle.semver_ranges.proofs.ReadingPieces.{component_word, partial_starts}
-use Rattle.tool_ranges.specs.CargoGrammar.{SpellsComparator, SpellsComparators, SpellsRequirement, is_every}
+use Rattle.tool_ranges.specs.CargoGrammar.{SpellsComparator, SpellsComparators, SpellsRequirement, comparators_of, is_every}
 use Rattle.tool_ranges.specs.CargoGrammar.{is_partial_of_cargo, sign, stands_alone}
 use Rattle.range_terms.specs.WrittenTerms.{WrittenTerm, comparator_at, comparators_at}
 use Rattle.range_terms.proofs.LowBytes.{partial_low}
@@ -112,13 +112,14 @@ stand_again [] (a ∷ b ∷ made) same none alone = absurd (omega (arith, same))
 stand_again (x ∷ []) (a ∷ b ∷ made) same none alone = absurd (omega (arith, same))
 stand_again (x ∷ y ∷ tree) (a ∷ b ∷ made) same none alone = not_from_false _ (none (not-true _ alone))
 
-pub requirement_again : (tree : List Simple) (t t' : Text) → SpellsRequirement tree t → AreComparators tree t'
-    → (made : List Simple) × SpellsRequirement made t'
-requirement_again tree t t' spelled (made, h, same, none) = (
-  made,
+pub requirement_again : (tree : SetTree) (t t' : Text) → SpellsRequirement tree t → AreComparators (comparators_of tree) t'
+    → (made : SetTree) × SpellsRequirement made t'
+requirement_again tree t t' spelled ([], h, same, none) = absurd h
+requirement_again tree t t' spelled (first ∷ rest, h, same, none) = (
+  simples first rest ∷ [],
   record {
     comparators = h;
-    alone = stand_again tree made same none spelled.alone;
+    alone = stand_again (comparators_of tree) (first ∷ rest) same none spelled.alone;
     few = omega (arith, spelled.few, same);
   },
 )

@@ -13,11 +13,12 @@ use Rattle.std.specs.Str.{IsAscii, IsUtf8, chars}
 use Rattle.semver_texts.specs.Texts.{Text}
 use Rattle.semver_texts.specs.declared.grammar.Grammar.TheVariants as grammar
 use Rattle.semver_texts.proofs.Lists.{all_more}
-use Rattle.semver_ranges.specs.RangeTree.{PartialTree, Role}
-use Rattle.tool_ranges.specs.Dialects.{IsTextAs, SpellsAs, TreeOf}
+use Rattle.semver_ranges.specs.RangeTree.{PartialTree, Role, SetTree}
+use Rattle.tool_ranges.specs.CargoGrammar.{comparators_of}
+use Rattle.tool_ranges.specs.Dialects.{IsTextAs, SpellsAs}
 use Rattle.tool_ranges.specs.NpmGrammar.{may_stand}
 use Rattle.tool_ranges.specs.declared.dialect.Dialect.{Dialect}
-use Rattle.tool_ranges.specs.declared.dialect.Dialect.TheVariants.{Cargo, CrateCargo, CrateNpm, Npm}
+use Rattle.tool_ranges.specs.declared.dialect.Dialect.TheVariants.{Cargo, Npm}
 use Rattle.range_terms.specs.declared.term.Span.{Span}
 use Rattle.range_terms.specs.Replacing.{IsReplaceable, MayReplace, replaced}
 use Rattle.range_terms.specs.WrittenTerms.{WrittenTerm, comparators_at, ranges_at, terms_in}
@@ -108,11 +109,12 @@ module _ (d : Dialect) (t : Text) where
       })
       xs all
 
-pub replaceable : (d : Dialect) (tree : TreeOf d) (t : Text) (spelled : SpellsAs d tree t) → IsUtf8 t
+pub replaceable : (d : Dialect) (tree : SetTree) (t : Text) (spelled : SpellsAs d tree t) → IsUtf8 t
     → AllByRecursion (IsReplaceable d t) (terms_in d tree t spelled)
-replaceable Cargo tree t spelled utf8 = all_replaceable Cargo t (AreComparators tree) _
+replaceable Cargo tree t spelled utf8 = all_replaceable Cargo t (AreComparators (comparators_of tree)) _
     (λ before word after w role p text some low may good. requirement_again tree t _ spelled good)
-    (λ role p w h. h) (comparators_at 0 tree t spelled.comparators) (comparators_places 0 tree t spelled.comparators)
+    (λ role p w h. h) (comparators_at 0 (comparators_of tree) t spelled.comparators)
+    (comparators_places 0 (comparators_of tree) t spelled.comparators)
 replaceable Npm tree t spelled utf8 = all_replaceable Npm t (AreRanges grammar.Npm) _
     (λ before word after w role p text some low may good. (
       good.0,
@@ -122,9 +124,6 @@ replaceable Npm tree t spelled utf8 = all_replaceable Npm t (AreRanges grammar.N
       },
     ))
     (λ role p w h. h) (ranges_at grammar.Npm 0 0 tree t spelled.spelled) (ranges_places grammar.Npm 0 0 tree t spelled.spelled)
-replaceable CrateCargo tree t spelled utf8 = all_replaceable CrateCargo t (AreRanges grammar.Crate) _
-    (λ before word after w role p text some low may good. good)
-    (λ role p w h. h) (ranges_at grammar.Crate 0 0 tree t spelled) (ranges_places grammar.Crate 0 0 tree t spelled)
-replaceable CrateNpm tree t spelled utf8 = all_replaceable CrateNpm t (AreRanges grammar.Crate) _
+replaceable d tree t spelled utf8 = all_replaceable d t (AreRanges grammar.Crate) _
     (λ before word after w role p text some low may good. good)
     (λ role p w h. h) (ranges_at grammar.Crate 0 0 tree t spelled) (ranges_places grammar.Crate 0 0 tree t spelled)

@@ -25,10 +25,10 @@ use Rattle.semver_ranges.specs.RangeTree.{one, pre_parts, qualifier, states_thre
 use Rattle.semver_ranges.proofs.LongWords.{some_component}
 use Rattle.semver_ranges.proofs.ReadingPieces.{is_component_byte, partial_starts, starts}
 use Rattle.semver_versions.specs.VersionRefs.{VersionRefValue, IsVersionRefIn}
-use Rattle.tool_ranges.specs.CargoGrammar.{SpellsComparator, SpellsComparators, is_partial_of_cargo, wildcards_are_last}
-use Rattle.tool_ranges.specs.Dialects.{SpellsAs, TreeOf, grammar_of}
+use Rattle.tool_ranges.specs.CargoGrammar.{SpellsComparator, SpellsComparators, comparators_of, is_partial_of_cargo, wildcards_are_last}
+use Rattle.tool_ranges.specs.Dialects.{SpellsAs, grammar_of}
 use Rattle.tool_ranges.specs.declared.dialect.Dialect.{Dialect}
-use Rattle.tool_ranges.specs.declared.dialect.Dialect.TheVariants.{Cargo, CrateCargo, CrateNpm, Npm}
+use Rattle.tool_ranges.specs.declared.dialect.Dialect.TheVariants.{Cargo, Npm}
 use Rattle.range_terms.specs.Replacing.{IsReplaceable, MayReplace, role_in}
 use Rattle.range_terms.specs.RewrittenVersions.{IsRewritable, MayBecome, text_with}
 use Rattle.range_terms.specs.Rewriting as rewriting
@@ -354,18 +354,15 @@ cargo_words role x v read of w number = cargo_word x v (of_grammar grammar.Cargo
 npm_words : MakesWords Npm (λ role p word. SpellsWord grammar.Npm role p word)
 npm_words role x v read of w long = npm_word role x v (of_grammar grammar.Npm v read of) w long
 
-pub rewritable : (d : Dialect) (tree : TreeOf d) (t : Text) (spelled : SpellsAs d tree t) → IsUtf8 t
+pub rewritable : (d : Dialect) (tree : SetTree) (t : Text) (spelled : SpellsAs d tree t) → IsUtf8 t
     → AllByRecursion (IsRewritable d t) (terms_in d tree t spelled)
-rewritable Cargo tree t spelled utf8 = zipped (one_rewritable Cargo Comparator cargo_words t) (comparators_at 0 tree t spelled.comparators)
-    (replaceable Cargo tree t spelled utf8) (comparators_written 0 tree t spelled.comparators)
+rewritable Cargo tree t spelled utf8 = zipped (one_rewritable Cargo Comparator cargo_words t)
+    (comparators_at 0 (comparators_of tree) t spelled.comparators) (replaceable Cargo tree t spelled utf8)
+    (comparators_written 0 (comparators_of tree) t spelled.comparators)
 rewritable Npm tree t spelled utf8 = zipped (one_rewritable Npm (λ role p word. SpellsWord grammar.Npm role p word) npm_words t)
     (ranges_at grammar.Npm 0 0 tree t spelled.spelled) (replaceable Npm tree t spelled utf8)
     (ranges_written grammar.Npm 0 0 tree t spelled.spelled)
-rewritable CrateCargo tree t spelled utf8 = zipped (one_rewritable CrateCargo (λ role p word. SpellsWord grammar.Crate role p word)
+rewritable d tree t spelled utf8 = zipped (one_rewritable d (λ role p word. SpellsWord grammar.Crate role p word)
     (λ role x v read of w fits. crate_word x v (of_grammar grammar.Crate v read of) w) t)
-    (ranges_at grammar.Crate 0 0 tree t spelled) (replaceable CrateCargo tree t spelled utf8)
-    (ranges_written grammar.Crate 0 0 tree t spelled)
-rewritable CrateNpm tree t spelled utf8 = zipped (one_rewritable CrateNpm (λ role p word. SpellsWord grammar.Crate role p word)
-    (λ role x v read of w fits. crate_word x v (of_grammar grammar.Crate v read of) w) t)
-    (ranges_at grammar.Crate 0 0 tree t spelled) (replaceable CrateNpm tree t spelled utf8)
+    (ranges_at grammar.Crate 0 0 tree t spelled) (replaceable d tree t spelled utf8)
     (ranges_written grammar.Crate 0 0 tree t spelled)

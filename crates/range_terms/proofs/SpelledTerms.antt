@@ -1,6 +1,6 @@
 -- The terms of a text, as they are written, are at their spans, in the order of the tree.
 use Rattle.std.proofs.Common.{◌≡◌, ℕ, suc, ◌+◌, true, false, List, [], ◌∷◌, ◌++◌, length, map, None, inl, inr, refl, sym, ap, ◌∙◌, codes}
-use Rattle.std.proofs.Common.{arith, length-append, append_assoc, append-nil}
+use Rattle.std.proofs.Common.{arith, length-append, append_assoc, append-nil, subst}
 use Rattle.std.proofs.lemmas.Bool.Decides.{nat_tests}
 use Rattle.std.proofs.lemmas.List.{map-append}
 use Rattle.std.specs.List.{flat_map}
@@ -12,10 +12,10 @@ use Rattle.semver_ranges.specs.RangeTree.{equal, less, at_most, greater, at_leas
 use Rattle.semver_ranges.specs.RangeTree.{SpellsPartial, SpellsWord, SpellsSimple, SpellsSimples, SpellsRange, SpellsPadded, SpellsRangeIn}
 use Rattle.semver_ranges.proofs.ReadingPieces.{is_component_byte, partial_starts, starts}
 use Rattle.tool_ranges.specs.CargoGrammar.{SpellsComparator, SpellsComparators, sign}
-use Rattle.tool_ranges.specs.Dialects.{SpellsAs, TreeOf}
+use Rattle.tool_ranges.specs.Dialects.{SpellsAs}
 use Rattle.tool_ranges.specs.FittingTerms.{read_in, terms_as, terms_of}
 use Rattle.tool_ranges.specs.declared.dialect.Dialect.{Dialect}
-use Rattle.tool_ranges.specs.declared.dialect.Dialect.TheVariants.{Cargo, CrateCargo, CrateNpm, Npm}
+use Rattle.tool_ranges.specs.declared.dialect.Dialect.TheVariants.{Cargo, Npm}
 use Rattle.range_terms.specs.SpelledTerms.{AreTermsOf, IsSpelled, IsTermOf, first_form}
 use Rattle.range_terms.specs.WrittenTerms.{WrittenTerm, comparator_at, comparators_at, operator_of, padded_at, range_at, ranges_at}
 use Rattle.range_terms.specs.WrittenTerms.{simple_at, simples_at, terms_in, word_at}
@@ -186,15 +186,17 @@ module _ (whole : Text) where
           refl,
         )
 
-pub terms_spelled : (d : Dialect) (tree : TreeOf d) (t : Text) (spelled : SpellsAs d tree t)
+pub terms_spelled : (d : Dialect) (tree : SetTree) (t : Text) (spelled : SpellsAs d tree t)
     → AreTermsOf d t (terms_in d tree t spelled) (terms_as d tree)
 terms_spelled d tree t spelled = all d tree spelled
   where
     begins : Begins t 0 t
     begins = record { before = []; after = []; text = sym (append-nil t); is = refl }
 
-    all : (d : Dialect) (tree : TreeOf d) (spelled : SpellsAs d tree t) → AreTermsOf d t (terms_in d tree t spelled) (terms_as d tree)
-    all Cargo tree spelled = comparators t Cargo 0 tree t spelled.comparators begins
+    all : (d : Dialect) (tree : SetTree) (spelled : SpellsAs d tree t) → AreTermsOf d t (terms_in d tree t spelled) (terms_as d tree)
+    all Cargo (simples first others ∷ []) spelled =
+        subst (λ ss. AreTermsOf Cargo t (comparators_at 0 (first ∷ others) t spelled.comparators) (map (read_in Cargo) ss))
+        (sym (append-nil (first ∷ others))) (comparators t Cargo 0 (first ∷ others) t spelled.comparators begins)
+    all Cargo _ spelled = absurd spelled.comparators
     all Npm tree spelled = ranges t Npm grammar.Npm 0 0 tree t spelled.spelled begins
-    all CrateCargo tree spelled = ranges t CrateCargo grammar.Crate 0 0 tree t spelled begins
-    all CrateNpm tree spelled = ranges t CrateNpm grammar.Crate 0 0 tree t spelled begins
+    all d tree spelled = ranges t d grammar.Crate 0 0 tree t spelled begins

@@ -15,8 +15,9 @@ use Rattle.semver_ranges.specs.RangeTree.{build_parts, is_wildcard, pre_parts}
 use Rattle.semver_ranges.specs.RangeTree.{SpellsSimple, SpellsSimples, SpellsRange, SpellsPadded}
 use Rattle.semver_ranges.specs.RangeTree.{SpellsRangeIn}
 use Rattle.semver_ranges.specs.Partials.{fits_u64}
-use Rattle.tool_ranges.specs.CargoGrammar.{sign, SpellsComparator, SpellsComparators}
-use Rattle.tool_ranges.specs.Dialects.{SpellsAs, TreeOf}
+use Rattle.tool_ranges.specs.CargoGrammar.{comparators_of, sign, SpellsComparator}
+use Rattle.tool_ranges.specs.CargoGrammar.{SpellsComparators}
+use Rattle.tool_ranges.specs.Dialects.{SpellsAs}
 use Rattle.tool_ranges.specs.declared.dialect.Dialect.{Dialect}
 use Rattle.tool_ranges.specs.declared.dialect.Dialect.TheVariants as dialect
 use Rattle.range_terms.specs.declared.term.Component.{Component}
@@ -195,8 +196,8 @@ comparator_at offset s t spelled =
       upper = None;
     }
 
-abbrev pub comparators_at : (offset : ℕ) (tree : List Simple) (t : Text)
-    → SpellsComparators tree t → List WrittenTerm
+abbrev pub comparators_at : (offset : ℕ) (ss : List Simple) (t : Text)
+    → SpellsComparators ss t → List WrittenTerm
 comparators_at offset [] t spelled = []
 comparators_at offset (s ∷ []) t spelled = comparator_at offset s t spelled ∷ []
 comparators_at offset (s ∷ next ∷ others) t (front, back, spelled, more, whole) =
@@ -204,9 +205,10 @@ comparators_at offset (s ∷ next ∷ others) t (front, back, spelled, more, who
     ∷ comparators_at (offset + length front + 1) (next ∷ others) back more
 
 -- the terms of a text that a tree spells
-abbrev pub terms_in : (d : Dialect) (tree : TreeOf d) (t : Text) → SpellsAs d tree t
+abbrev pub terms_in : (d : Dialect) (tree : SetTree) (t : Text) → SpellsAs d tree t
     → List WrittenTerm
-terms_in dialect.Cargo tree t spelled = comparators_at 0 tree t spelled.comparators
+terms_in dialect.Cargo tree t spelled =
+    comparators_at 0 (comparators_of tree) t spelled.comparators
 terms_in dialect.Npm tree t spelled = ranges_at grammar.Npm 0 0 tree t spelled.spelled
 terms_in dialect.CrateCargo tree t spelled = ranges_at grammar.Crate 0 0 tree t spelled
 terms_in dialect.CrateNpm tree t spelled = ranges_at grammar.Crate 0 0 tree t spelled

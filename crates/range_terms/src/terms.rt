@@ -4,10 +4,10 @@ ghost use Rattle.std.specs.Prelude.{◌≡◌, ◌≢◌, ◌≤◌, ◌<◌, �
 ghost use Rattle.std.specs.Prelude.{Some, None, length, option_map};
 ghost use Rattle.std.specs.List.{AllByRecursion, list_all};
 ghost use Rattle.semver_texts.specs.Texts.{Text, begins_with, cut_at_dots, is_part};
-ghost use Rattle.semver_ranges.specs.RangeTree.{PartialTree};
+ghost use Rattle.semver_ranges.specs.RangeTree.{PartialTree, SetTree};
 ghost use Rattle.semver_ranges.specs.Steps.CursorViews.{form_of};
 ghost use Rattle.semver_ranges.specs.Steps.PartialViews.{AreWritten, IsComponentOf, IsWrittenAs};
-ghost use Rattle.tool_ranges.specs.Dialects.{RefusesAs, SpellsAs, TreeOf};
+ghost use Rattle.tool_ranges.specs.Dialects.{RefusesAs, SpellsAs};
 ghost use Rattle.range_terms.specs.WrittenTerms.{component_of, major_of, minor_of, operator_of};
 ghost use Rattle.range_terms.specs.WrittenTerms.{patch_of, term_value, terms_in, version_value};
 ghost use Rattle.range_terms.specs.Replacing.{IsReplaceable};
@@ -101,7 +101,7 @@ impl<'text> Terms<'text> {
         ensures refusals { RefusesAs dialect range.now result }
         ensures no_memory { result ≢ Err RangeError.OutOfMemory }
         // The terms are those of the syntax tree of the string, whichever way it spells the string.
-        ensures terms { IfOk result (λ terms. (tree : TreeOf dialect)
+        ensures terms { IfOk result (λ terms. (tree : SetTree)
             (spelled : SpellsAs dialect tree range.now)
             → terms ≡ terms_in dialect tree range.now spelled) }
         // If another version of the grammar replaces the string at the span of one, the result is a
@@ -148,7 +148,7 @@ impl<'text> Iterator for Terms<'text> {
 /// Returns the terms of a range string that was checked, even if one of its numbers is too large.
 #[must_use]
 pub fn of_range(range: &str, dialect: Dialect) -> Terms<'_>
-    ensures { (tree : TreeOf dialect) (spelled : SpellsAs dialect tree range.now)
+    ensures { (tree : SetTree) (spelled : SpellsAs dialect tree range.now)
         → result ≡ terms_in dialect tree range.now spelled }
 {
     Terms {

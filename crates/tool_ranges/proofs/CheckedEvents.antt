@@ -17,9 +17,9 @@ use Rattle.semver_ranges.specs.Terms.{left_side, right_side}
 use Rattle.semver_ranges.specs.Steps.RangeEvents.{Event, event_fits, in_front, next_range, one_simple, put, yielded}
 use Rattle.tool_ranges.specs.CargoMeaning.{as_read}
 use Rattle.tool_ranges.specs.declared.dialect.Dialect.{Dialect}
-use Rattle.tool_ranges.specs.declared.dialect.Dialect.TheVariants.{Cargo, Npm, CrateCargo, CrateNpm}
+use Rattle.tool_ranges.specs.declared.dialect.Dialect.TheVariants.{Cargo, Npm}
 use Rattle.tool_ranges.specs.declared.cursor.Cursor.{Cursor}
-use Rattle.tool_ranges.specs.Dialects.{SpellsAs, TreeOf, fits_as, grammar_of}
+use Rattle.tool_ranges.specs.Dialects.{SpellsAs, fits_as, grammar_of}
 use Rattle.tool_ranges.specs.Steps.Checked.{IsSurveyed}
 use Rattle.tool_ranges.specs.Steps.Cursors.{HasLeftIn, events_in, ranges_of, read_as, text_events}
 use Rattle.tool_ranges.specs.Steps.Reading.{IsRead, IsRefusedAs}
@@ -98,27 +98,26 @@ first_of_ranges lower g [] t spelled = absurd spelled
 first_of_ranges lower g (r ∷ []) t spelled = first_yielded lower r []
 first_of_ranges lower g (r ∷ next ∷ others) t spelled = first_yielded lower r (next_range ∷ events_in (map (yielded lower) (next ∷ others)))
 
-first_event : (lower : LowerBounds) (d : Dialect) (tree : TreeOf d) (t : Text) → SpellsAs d tree t
+first_event : (lower : LowerBounds) (d : Dialect) (tree : SetTree) (t : Text) → SpellsAs d tree t
     → (s : Simple) × (es : List Event) × (events_in (ranges_of lower d tree) ≡ one_simple s ∷ es)
-first_event lower Cargo [] t spelled = absurd spelled.comparators
-first_event lower Cargo (s ∷ tree) t spelled = (as_read s, in_front (map as_read tree) [], refl)
+first_event lower Cargo (simples s others ∷ []) t spelled = (as_read s, in_front (map as_read others) [], refl)
+first_event lower Cargo _ t spelled = absurd spelled.comparators
 first_event lower Npm tree t spelled = first_of_ranges lower grammar.Npm tree t spelled.spelled
-first_event lower CrateCargo tree t spelled = first_of_ranges lower grammar.Crate tree t spelled
-first_event lower CrateNpm tree t spelled = first_of_ranges lower grammar.Crate tree t spelled
+first_event lower d tree t spelled = first_of_ranges lower grammar.Crate tree t spelled
 
 -- what is known of a text from its events
 module _ (d : Dialect) (lower : LowerBounds) (t : Text) where
   read_none : text_events lower d t ≡ None → read_as d t ≡ None
   read_none e = at (read_as d t) e where
-    at : (o : Option (TreeOf d)) → option_map (λ tree. events_in (ranges_of lower d tree)) o ≡ None → o ≡ None
+    at : (o : Option SetTree) → option_map (λ tree. events_in (ranges_of lower d tree)) o ≡ None → o ≡ None
     at None e = refl
     at (Some tree) e = cc
 
   read_some : (es : List Event) → text_events lower d t ≡ Some es
-      → (tree : TreeOf d) × (read_as d t ≡ Some tree) × (es ≡ events_in (ranges_of lower d tree))
+      → (tree : SetTree) × (read_as d t ≡ Some tree) × (es ≡ events_in (ranges_of lower d tree))
   read_some es e = at (read_as d t) refl e where
-    at : (o : Option (TreeOf d)) → read_as d t ≡ o → option_map (λ tree. events_in (ranges_of lower d tree)) o ≡ Some es
-        → (tree : TreeOf d) × (read_as d t ≡ Some tree) × (es ≡ events_in (ranges_of lower d tree))
+    at : (o : Option SetTree) → read_as d t ≡ o → option_map (λ tree. events_in (ranges_of lower d tree)) o ≡ Some es
+        → (tree : SetTree) × (read_as d t ≡ Some tree) × (es ≡ events_in (ranges_of lower d tree))
     at None is e = cc
     at (Some tree) is e = (tree, is, (let same : events_in (ranges_of lower d tree) ≡ es = cc in sym same))
 
@@ -132,12 +131,12 @@ module _ (d : Dialect) (lower : LowerBounds) (t : Text) where
   module _ (s : Simple) (f : Bool) (left : Option (List Event)) (after : Cursor) (first : text_events lower d t ≡ put (one_simple s) left)
       (fits : f ≡ term_fits d s) where
     all_events : (es : List Event) (b : Bool) → left ≡ Some es → (f && list_all (event_fits (term_fits d)) es) ≡ b
-        → (tree : TreeOf d) × (read_as d t ≡ Some tree) × (fits_as d tree ≡ b) × (one_simple s ∷ es ≡ events_in (ranges_of lower d tree))
+        → (tree : SetTree) × (read_as d t ≡ Some tree) × (fits_as d tree ≡ b) × (one_simple s ∷ es ≡ events_in (ranges_of lower d tree))
     all_events es b is same =
         let read = read_some (one_simple s ∷ es) (first ∙ ap (put (one_simple s)) is) in (
           read.0,
           read.1,
-          sym (ranges_fit lower d read.0) ∙ ap (list_all (event_fits (term_fits d))) (sym read.2)
+          sym (ranges_fit lower d t read.0 read.1) ∙ ap (list_all (event_fits (term_fits d))) (sym read.2)
               ∙ ap (λ b. b && list_all (event_fits (term_fits d)) es) (sym fits) ∙ same,
           read.2,
         )

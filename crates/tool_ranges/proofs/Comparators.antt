@@ -9,11 +9,13 @@ use Rattle.semver_texts.proofs.Lists.{by_test}
 use Rattle.semver_ranges.specs.Partials.{states_nothing}
 use Rattle.semver_ranges.specs.RangeTree.{Simple}
 use Rattle.tool_ranges.specs.CargoGrammar.{SpellsComparator, SpellsComparators, SpellsRequirement, stands_alone}
+use Rattle.tool_ranges.specs.CargoMeaning.{as_read}
+use Rattle.tool_ranges.specs.declared.dialect.Dialect.TheVariants.{Cargo}
 use Rattle.tool_ranges.specs.Steps.CargoReading.{comparator_at, after_comma}
-use Rattle.semver_ranges.specs.RangeTree.{SetTree}
+use Rattle.semver_ranges.specs.RangeTree.{SetTree, simples}
 use Rattle.semver_ranges.specs.Steps.RangeEvents.{next_range, in_front, events_of, set_events, yielded}
 use Rattle.semver_ranges.specs.declared.partial.LowerBounds.{LowerBounds}
-use Rattle.tool_ranges.specs.Steps.Cursors.{comparators_from, events_in, requirement, with_comma, with_others}
+use Rattle.tool_ranges.specs.Steps.Cursors.{comparators_from, events_in, ranges_of, requirement, tree_of, with_comma, with_others}
 use Rattle.tool_ranges.proofs.ComparatorReading.{ComparatorAt, Follows, comparator_sound, ended_read, parted_read}
 
 -- ---- the next comparator
@@ -97,9 +99,15 @@ comparators_sound (suc k) is_first t tree e = by (comparators_sound k false) (co
           subst (Reads (suc k) is_first t) whole
           (goes_on s front.0 t u left front.1 front.2 rest.0, omega (arith, rest.1), λ _. none, λ _. stands_so (s ∷ left) none)
 
-pub requirement_sound : (t : Text) (tree : List Simple) → requirement t ≡ Some tree → SpellsRequirement tree t
-requirement_sound t tree e =
-    let r = comparators_sound 32 true t tree e in record { comparators = r.0; alone = r.3 refl; few = r.1 }
+pub requirement_sound : (t : Text) (tree : SetTree) → requirement t ≡ Some tree → SpellsRequirement tree t
+requirement_sound t tree e = by (comparators_from 32 true t) refl e where
+  by : (o : Option (List Simple)) → comparators_from 32 true t ≡ o → option_map tree_of o ≡ Some tree → SpellsRequirement tree t
+  by None is e = cc
+  by (Some []) is e = absurd (comparators_sound 32 true t [] is).0
+  by (Some (first ∷ others)) is e =
+      let whole : simples first others ∷ [] ≡ tree = cc in
+      let r = comparators_sound 32 true t (first ∷ others) is in
+      subst (λ tree. SpellsRequirement tree t) whole (record { comparators = r.0; alone = r.3 refl; few = r.1 })
 
 -- ---- a tree that spells the text is read
 
@@ -127,10 +135,18 @@ comparators_complete (suc k) is_first t (s ∷ next ∷ others) (front, back, h,
     ap (with_others is_first (comparators_from k false)) (ap comparator_at text ∙ parted_read s front back h)
     ∙ rw (n, comparators_complete k false back (next ∷ others) more (omega (arith, few)) (λ _. rest) (stands_so (next ∷ others) rest)) refl)
 
-pub requirement_complete : (t : Text) (tree : List Simple) → SpellsRequirement tree t → requirement t ≡ Some tree
-requirement_complete t tree h = comparators_complete 32 true t tree h.comparators h.few (λ e. cc) h.alone
+pub requirement_complete : (t : Text) (tree : SetTree) → SpellsRequirement tree t → requirement t ≡ Some tree
+requirement_complete t (simples first others ∷ []) h =
+    ap (option_map tree_of) (comparators_complete 32 true t (first ∷ others) h.comparators h.few (λ e. cc) h.alone)
+requirement_complete t _ h = absurd h.comparators
 
 -- ---- events of ranges
+
+pub requirement_events : (lower : LowerBounds) (o : Option (List Simple))
+    → option_map (λ tree. events_in (ranges_of lower Cargo tree)) (option_map tree_of o) ≡ option_map (λ ss. in_front (map as_read ss) []) o
+requirement_events lower None = refl
+requirement_events lower (Some []) = refl
+requirement_events lower (Some (first ∷ others)) = refl
 
 pub same_ranges : (lower : LowerBounds) (tree : SetTree) → events_of lower tree ≡ events_in (map (yielded lower) tree)
 same_ranges lower [] = refl

@@ -8,7 +8,7 @@ mod LeftEvents
 -- the table of sides, and which numbers fit
 mod NumberSteps
 mod TableLaws
-mod FitCells
+pub mod FitCells
 mod CheckedEvents
 mod TooLargeNumbers
 -- a version is between the sides of a term if and only if it satisfies the term

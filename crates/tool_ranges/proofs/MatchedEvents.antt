@@ -1,17 +1,15 @@
 -- The progress of matching a version with a range text, after each event of the text.
 use Rattle.std.proofs.Common.{◌≡◌, Bool, true, false, ◌&&◌, ◌||◌, if◌then◌else◌, List, [], ◌∷◌, map, Option, Some, None, refl, sym, ap, ◌∙◌}
 use Rattle.std.proofs.Math.Bool.{and-true, and-false, or-false}
-use Rattle.std.proofs.lemmas.List.Folds.{list_all-map}
 use Rattle.std.specs.Prelude.{option_map}
 use Rattle.std.specs.List.{list_all, list_any}
 use Rattle.semver_texts.specs.Texts.{Text}
 use Rattle.semver_texts.specs.Versions.{PlainVersion}
 use Rattle.semver_texts.proofs.Lists.{by_test}
-use Rattle.semver_ranges.specs.declared.range.Compat.TheVariants as mode
 use Rattle.semver_ranges.specs.declared.partial.LowerBounds.{LowerBounds}
 use Rattle.semver_ranges.specs.declared.range_set.RangeError.TheVariants.{NumberTooLarge}
-use Rattle.semver_ranges.specs.RangeTree.{Simple}
-use Rattle.semver_ranges.specs.ExactBounds.{lowest_pre_release}
+use Rattle.semver_ranges.specs.RangeTree.{Simple, SetTree, simples}
+use Rattle.semver_ranges.specs.RewritingTable.{term_fits_by}
 use Rattle.semver_ranges.specs.StatedPreReleases.{states_pre_release_at}
 use Rattle.semver_ranges.specs.Terms.{of_simple}
 use Rattle.semver_ranges.specs.Steps.RangeEvents.{Event, one_simple, next_range, put, in_front, event_fits, yielded}
@@ -20,13 +18,13 @@ use Rattle.semver_ranges.specs.declared.events.Event.TheVariants as event
 use Rattle.semver_ranges.specs.declared.grammar.Simple as read
 use Rattle.semver_ranges.specs.Steps.CursorViews.{IsSimpleOf}
 use Rattle.tool_ranges.specs.declared.cursor.Cursor.{Cursor}
-use Rattle.semver_ranges.proofs.Tables.{port_table}
 use Rattle.semver_ranges.proofs.EventLists.{set_fits}
 use Rattle.tool_ranges.specs.declared.dialect.Dialect.{Dialect}
-use Rattle.tool_ranges.specs.declared.dialect.Dialect.TheVariants.{Cargo, Npm, CrateCargo, CrateNpm}
+use Rattle.tool_ranges.specs.declared.dialect.Dialect.TheVariants.{Cargo, Npm}
 use Rattle.tool_ranges.specs.declared.matching.Progress.{Progress}
 use Rattle.tool_ranges.specs.CargoMeaning.{as_read}
-use Rattle.tool_ranges.specs.Dialects.{SpellsAs, TreeOf, fits_as}
+use Rattle.tool_ranges.specs.CargoGrammar.{comparators_of}
+use Rattle.tool_ranges.specs.Dialects.{SpellsAs, fits_as}
 use Rattle.tool_ranges.specs.NpmMeaning.{matches_everything}
 use Rattle.tool_ranges.specs.Steps.Cursors.{ComesFirst, HasLeftIn, events_in, ranges_of, read_as, text_events}
 use Rattle.tool_ranges.specs.Steps.Matching.{Says, after, begun, counts, ended, lower_of, range_every, range_met, taken, term_met}
@@ -34,8 +32,7 @@ use Rattle.tool_ranges.specs.Sides.{term_fits}
 use Rattle.tool_ranges.specs.Steps.Reading.{IsRead, IsRefusedAs}
 use Rattle.tool_ranges.proofs.Comparators.{same_ranges}
 use Rattle.tool_ranges.proofs.ReadTrees.{sound_as}
-use Rattle.tool_ranges.proofs.FitCells.{own_fits}
-use Rattle.tool_ranges.proofs.PrintableSets.{npm_table}
+use Rattle.tool_ranges.proofs.PrintableSets.{term_table}
 
 -- ---- the next term
 pub record FirstTerm (g : Grammar) (o : Option (List Event)) (simple : read.Simple) (cursor : Cursor) : Type 0 where
@@ -58,31 +55,26 @@ first_separator g o cursor (one_simple s, left, is, has, e) = absurd is
 
 -- ---- whether the numbers of the events fit
 
-front_fits : (fit : Simple → Bool) (ss : List Simple) → list_all (event_fits fit) (in_front ss []) ≡ list_all fit ss
-front_fits fit [] = refl
-front_fits fit (s ∷ ss) = ap (λ b. fit s && b) (front_fits fit ss)
+comparators_fit : (ss : List Simple) → list_all (event_fits (term_fits Cargo)) (in_front (map as_read ss) [])
+    ≡ list_all (term_fits_by (λ s. term_fits Cargo (as_read s))) (map of_simple ss)
+comparators_fit [] = refl
+comparators_fit (s ∷ ss) = ap (λ b. term_fits Cargo (as_read s) && b) (comparators_fit ss)
 
-pub ranges_fit : (lower : LowerBounds) (d : Dialect) (tree : TreeOf d)
+pub ranges_fit : (lower : LowerBounds) (d : Dialect) (t : Text) (tree : SetTree) → read_as d t ≡ Some tree
     → list_all (event_fits (term_fits d)) (events_in (ranges_of lower d tree)) ≡ fits_as d tree
-ranges_fit lower Cargo tree = front_fits (term_fits Cargo) (map as_read tree) ∙ list_all-map (term_fits Cargo) as_read tree
-ranges_fit lower Npm tree = ap (list_all (event_fits (term_fits Npm))) (sym (same_ranges lower tree)) ∙ set_fits npm_table lower tree
-ranges_fit lower CrateCargo tree = (λ i. list_all (event_fits (λ s. (own_fits s).0 i)) (sym (same_ranges lower tree) i))
-    ∙ set_fits (port_table lowest_pre_release mode.Cargo) lower tree
-ranges_fit lower CrateNpm tree = (λ i. list_all (event_fits (λ s. (own_fits s).1 i)) (sym (same_ranges lower tree) i))
-    ∙ set_fits (port_table lowest_pre_release mode.Npm) lower tree
+ranges_fit lower Cargo t (simples first others ∷ []) is = comparators_fit (first ∷ others) ∙ sym (and-true _)
+ranges_fit lower Cargo t tree is = absurd (sound_as Cargo t tree is).comparators
+ranges_fit lower d t tree is = ap (list_all (event_fits (term_fits d))) (sym (same_ranges lower tree)) ∙ set_fits (term_table d) lower tree
 
 -- a text has at least one range
 abbrev pub HasSome : List (List Simple) → Type 0
 HasSome ranges = (first : List Simple) × (others : List (List Simple)) × (ranges ≡ first ∷ others)
 
-pub some_ranges : (lower : LowerBounds) (d : Dialect) (t : Text) (tree : TreeOf d) → SpellsAs d tree t → HasSome (ranges_of lower d tree)
-some_ranges lower Cargo t tree h = (map as_read tree, [], refl)
+pub some_ranges : (lower : LowerBounds) (d : Dialect) (t : Text) (tree : SetTree) → SpellsAs d tree t → HasSome (ranges_of lower d tree)
+some_ranges lower Cargo t tree h = (map as_read (comparators_of tree), [], refl)
 some_ranges lower Npm t [] h = absurd h.spelled
-some_ranges lower Npm t (r ∷ others) h = (yielded lower r, map (yielded lower) others, refl)
-some_ranges lower CrateCargo t [] h = absurd h
-some_ranges lower CrateCargo t (r ∷ others) h = (yielded lower r, map (yielded lower) others, refl)
-some_ranges lower CrateNpm t [] h = absurd h
-some_ranges lower CrateNpm t (r ∷ others) h = (yielded lower r, map (yielded lower) others, refl)
+some_ranges lower d t [] h = absurd h
+some_ranges lower d t (r ∷ others) h = (yielded lower r, map (yielded lower) others, refl)
 
 module _ (d : Dialect) (all : Bool) (v : PlainVersion) where
   -- the progress at the end, from the progress before the events: `None` if the text is not a range,
@@ -158,7 +150,7 @@ module _ (d : Dialect) (all : Bool) (v : PlainVersion) where
 
   -- the progress after the events of a tree says whether the version satisfies a range of the tree,
   -- and whether some range matches everything
-  pub says_so : (t : Text) (tree : TreeOf d) → SpellsAs d tree t → (progress : Progress)
+  pub says_so : (t : Text) (tree : SetTree) → SpellsAs d tree t → (progress : Progress)
       → ended (counts all v) (after d all v (begun (counts all v)) (events_in (ranges_of (lower_of d all) d tree))) ≡ progress
       → Says d all v progress tree
   says_so t tree spelled progress same =
@@ -176,26 +168,26 @@ module _ (d : Dialect) (all : Bool) (v : PlainVersion) where
 
     pub large : Told (Some None) → IsRefusedAs d t NumberTooLarge
     large e = at (read_as d t) refl e where
-      at : (o : Option (TreeOf d)) → read_as d t ≡ o
+      at : (o : Option SetTree) → read_as d t ≡ o
           → told true (begun (counts all v)) (option_map (λ tree. events_in (ranges_of (lower_of d all) d tree)) o) ≡ Some None
           → IsRefusedAs d t NumberTooLarge
       at None is e = cc
       at (Some tree) is e = by_test (fits_as d tree)
-          (λ y. let fit = ranges_fit (lower_of d all) d tree ∙ y in
+          (λ y. let fit = ranges_fit (lower_of d all) d t tree is ∙ y in
           let no : Some (Some _) ≡ Some None = rw fit at e in cc)
           (λ n. (tree, is, n))
 
     pub says : (progress : Progress) → Told (Some (Some progress)) → IsRead d t (Says d all v progress)
     says progress e = at (read_as d t) refl e where
-      at : (o : Option (TreeOf d)) → read_as d t ≡ o
+      at : (o : Option SetTree) → read_as d t ≡ o
           → told true (begun (counts all v)) (option_map (λ tree. events_in (ranges_of (lower_of d all) d tree)) o) ≡ Some (Some progress)
           → IsRead d t (Says d all v progress)
       at None is e = cc
       at (Some tree) is e = by_test (fits_as d tree)
-          (λ y. let fit = ranges_fit (lower_of d all) d tree ∙ y in
+          (λ y. let fit = ranges_fit (lower_of d all) d t tree is ∙ y in
           let known : Some (Some (ended (counts all v) (after d all v (begun (counts all v)) (events_in (ranges_of (lower_of d all) d tree)))))
           ≡ Some (Some progress) = rw fit at e in
           let same : ended (counts all v) (after d all v (begun (counts all v)) (events_in (ranges_of (lower_of d all) d tree))) ≡ progress = cc in
           (tree, is, y, says_so t tree (sound_as d t tree is) progress same))
-          (λ n. let fit = ranges_fit (lower_of d all) d tree ∙ n in
+          (λ n. let fit = ranges_fit (lower_of d all) d t tree is ∙ n in
           let no : Some None ≡ Some (Some progress) = rw fit at e in cc)

@@ -32,8 +32,9 @@ use Rattle.tool_ranges.specs.declared.dialect.Dialect.{Dialect}
 use Rattle.tool_ranges.specs.declared.dialect.Dialect.TheVariants.{Cargo, Npm, CrateCargo, CrateNpm}
 use Rattle.tool_ranges.specs.declared.matching.Progress.{Progress}
 use Rattle.tool_ranges.specs.CargoMeaning.{against, as_read}
+use Rattle.tool_ranges.specs.CargoGrammar.{comparators_of}
 use Rattle.tool_ranges.specs.CargoMeaning as cargo
-use Rattle.tool_ranges.specs.Dialects.{TreeOf}
+use Rattle.tool_ranges.specs.Steps.Cursors.{ranges_of}
 use Rattle.tool_ranges.specs.Meanings.{meant_by}
 use Rattle.tool_ranges.specs.NpmMeaning as npm
 use Rattle.tool_ranges.specs.Steps.Matching.{Says, range_every, range_met, rule_of, is_met, takes_all, term_met}
@@ -171,20 +172,21 @@ module _ (v : PlainVersion) where
 
   -- ---- Cargo
   module _ (all : Bool) where
-    each_met : (tree : List Simple) → list_all (term_met Cargo all v) (map as_read tree) ≡ list_all (λ s. cargo.meets_one (rule_of all) s v) tree
-    each_met tree = list_all-map (term_met Cargo all v) as_read tree
+    each_met : (ss : List Simple) → list_all (term_met Cargo all v) (map as_read ss) ≡ list_all (λ s. cargo.meets_one (rule_of all) s v) ss
+    each_met ss = list_all-map (term_met Cargo all v) as_read ss
 
-    some_stated : (tree : List Simple) → list_any (λ s. states_pre_release_at (of_simple s) v) (map as_read tree)
-        ≡ list_any (λ s. states_pre_release_at (of_simple s) v) tree
-    some_stated tree = list_any-mapped (λ s. states_pre_release_at (of_simple s) v) (λ s. states_pre_release_at (of_simple s) v) as_read
-        (λ s. refl) tree
+    some_stated : (ss : List Simple) → list_any (λ s. states_pre_release_at (of_simple s) v) (map as_read ss)
+        ≡ list_any (λ s. states_pre_release_at (of_simple s) v) ss
+    some_stated ss = list_any-mapped (λ s. states_pre_release_at (of_simple s) v) (λ s. states_pre_release_at (of_simple s) v) as_read
+        (λ s. refl) ss
 
-  pub cargo_default : (tree : List Simple) → list_any (range_met Cargo false v) (map as_read tree ∷ []) ≡ cargo.meets_by_default tree v
-  cargo_default tree = or-false _ ∙ (λ i. each_met false tree i && (is_empty v.pre || some_stated false tree i))
+  pub cargo_default : (tree : SetTree) → list_any (range_met Cargo false v) (ranges_of Stated Cargo tree) ≡ cargo.meets_by_default tree v
+  cargo_default tree = or-false _
+      ∙ (λ i. each_met false (comparators_of tree) i && (is_empty v.pre || some_stated false (comparators_of tree) i))
 
-  cargo_included : (tree : List Simple)
-      → list_any (range_met Cargo true v) (map as_read tree ∷ []) ≡ list_all (λ s. cargo.meets_one Included s v) tree
-  cargo_included tree = or-false _ ∙ and-true _ ∙ each_met true tree
+  cargo_included : (tree : SetTree)
+      → list_any (range_met Cargo true v) (ranges_of Stated Cargo tree) ≡ cargo.meets_requirement Included tree v
+  cargo_included tree = or-false _ ∙ and-true _ ∙ each_met true (comparators_of tree)
 
   -- ---- the crate
   module _ (d : Dialect) (compat : Compat)
@@ -216,7 +218,7 @@ module _ (v : PlainVersion) where
 -- ---- all dialects
 
 module _ (v : PlainVersion) (fit : numbers_fit v ≡ true) where
-  pub means : (d : Dialect) (rule : PreReleases) (tree : TreeOf d) (progress : Progress) → Says d (takes_all rule) v progress tree
+  pub means : (d : Dialect) (rule : PreReleases) (tree : SetTree) (progress : Progress) → Says d (takes_all rule) v progress tree
       → is_met d rule v progress ≡ meant_by d rule tree (without_build v)
   means Cargo Default tree progress says = says.0 ∙ cargo_default v tree
   means Cargo Included tree progress says = says.0 ∙ cargo_included v tree

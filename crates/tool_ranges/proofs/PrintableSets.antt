@@ -1,6 +1,7 @@
 -- The set that a text of Cargo or npm is rewritten to can be printed, and reading the printed text
 -- gives the set again.
-use Rattle.std.proofs.Common.{◌≡◌, ◌++◌, ◌-◌, ◌^◌, Bool, true, false, not, ◌&&◌, ◌||◌, List, [], ◌∷◌, ℕ, map, Option, Some, None, refl, ap, ◌∙◌, arith, rules}
+use Rattle.std.proofs.Common.{◌≡◌, ◌++◌, ◌-◌, ◌^◌, Bool, true, false, not, ◌&&◌, ◌||◌, List, [], ◌∷◌, ℕ, Option, Some, None}
+use Rattle.std.proofs.Common.{map, refl, ap, ◌∙◌, arith, rules}
 use Rattle.std.specs.Prelude.{is_some}
 use Rattle.std.specs.List.{flat_map, list_all}
 use Rattle.std.proofs.lemmas.Bool.{and_from, and_parts}
@@ -12,8 +13,9 @@ use Rattle.semver_texts.proofs.Lists.{by_test}
 use Rattle.semver_ranges.specs.declared.partial.LowerBounds.TheVariants.{Stated}
 use Rattle.semver_ranges.specs.declared.range.Compat.{Compat}
 use Rattle.semver_ranges.specs.RangeTree.{Form}
-use Rattle.semver_ranges.specs.RangeTree.{HasParts, Simple, SetTree, Spells}
-use Rattle.semver_ranges.specs.RewritingTable.{PlainComparator, PlainSet, fits, rewritten, up}
+use Rattle.semver_ranges.specs.RangeTree.{HasParts, Simple, SetTree, Spells, simples}
+use Rattle.semver_ranges.specs.RewritingTable.{PlainComparator, PlainSet, fits, rewritten, term_fits_by, up}
+use Rattle.semver_ranges.specs.Terms.{of_simple}
 use Rattle.semver_ranges.specs.Partials.{filled, fits_u64, pre_release, stated, zero_filled}
 use Rattle.semver_ranges.specs.PrintedRanges.{IsPrintableSet, is_printable_version, set_text}
 use Rattle.semver_ranges.proofs.AnsweredLaws.{Prints, filled_fits, pre_kept}
@@ -23,9 +25,9 @@ use Rattle.semver_ranges.proofs.Tables.{IsTable}
 use Rattle.version_sets.specs.Sides.{SideValue, below, at, past, above}
 use Rattle.tool_ranges.specs.declared.dialect.Dialect.{Dialect}
 use Rattle.tool_ranges.specs.declared.dialect.Dialect.TheVariants.{Cargo, Npm}
-use Rattle.tool_ranges.specs.CargoGrammar.{SpellsComparators}
+use Rattle.tool_ranges.specs.CargoGrammar.{SpellsComparators, comparators_of}
 use Rattle.tool_ranges.specs.CargoMeaning.{as_read}
-use Rattle.tool_ranges.specs.Rewritten.{rewritten_requirement}
+use Rattle.tool_ranges.specs.Dialects.{fits_as, rewritten_as}
 use Rattle.tool_ranges.specs.Sides.{ends_past, may_rise, sides, term_fits}
 use Rattle.tool_ranges.specs.TermComparators.{at_side, lower_comparator, printed, printed_term, upper_comparator}
 use Rattle.tool_ranges.proofs.Cells.{Spot}
@@ -33,9 +35,9 @@ use Rattle.tool_ranges.proofs.FitCells.{none_stated, raised_fits, term_stated}
 use Rattle.tool_ranges.proofs.PrintedTerms.{within_limit}
 use Rattle.tool_ranges.proofs.SideComparators.{Raises, Sided, both_sided, raised_same}
 
--- in npm's dialect, a side of a hyphen range that states nothing is `>=0.0.0`
-pub npm_table : IsTable (term_fits Npm) (printed_term Stated Npm)
-npm_table = search rules
+-- a side of a hyphen range that states nothing is `>=0.0.0`
+pub term_table : (d : Dialect) → IsTable (term_fits d) (printed_term Stated d)
+term_table d = search rules
 
 -- ---- there is a comparator for each term
 some_side : (d : Dialect) (form : Form) (s : List ℕ) (pre : Bool) → (is_some (sides d form s pre).0 || is_some (sides d form s pre).1) ≡ true
@@ -112,8 +114,9 @@ joined : (a b : List PlainComparator) → ArePrintable a → are_printable b ≡
 joined [] b h e = cc h.0
 joined (x ∷ a) b h e = grind (arith, common_steps)
 
-all_printable : (tree : List Simple) (t : Text) → SpellsComparators tree t → list_all (λ s. term_fits Cargo (as_read s)) tree ≡ true
-    → ArePrintable (flat_map (printed_term Stated Cargo) (map as_read tree))
+all_printable : (ss : List Simple) (t : Text) → SpellsComparators ss t
+    → list_all (term_fits_by (λ s. term_fits Cargo (as_read s))) (map of_simple ss) ≡ true
+    → ArePrintable (flat_map (λ s. printed_term Stated Cargo (as_read s)) ss)
 all_printable [] t h fit = absurd h
 all_printable (s ∷ []) t h fit =
     joined (printed_term Stated Cargo (as_read s)) []
@@ -124,9 +127,12 @@ all_printable (s ∷ next ∷ others) t (front, back, h, more, text) fit =
     (cargo_prints.some (as_read s), cargo_prints.each (as_read s) h.partial.1 fits.0)
     (all_printable (next ∷ others) back more fits.1).1
 
-pub requirement_printable : (tree : List Simple) (t : Text) → SpellsComparators tree t → list_all (λ s. term_fits Cargo (as_read s)) tree ≡ true
-    → IsPrintableSet (rewritten_requirement tree)
-requirement_printable tree t h fit = grind (arith, common_steps, all_printable)
+pub requirement_printable : (tree : SetTree) (t : Text) → SpellsComparators (comparators_of tree) t → fits_as Cargo tree ≡ true
+    → IsPrintableSet (rewritten_as Cargo tree)
+requirement_printable (simples first others ∷ []) t h fit =
+    let print = all_printable (first ∷ others) t h (and_parts _ _ fit).0 in
+    grind (arith, common_steps)
+requirement_printable _ t h fit = absurd h
 
 -- ---- reading the printed text
 

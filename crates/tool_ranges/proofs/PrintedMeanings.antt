@@ -30,13 +30,13 @@ use Rattle.semver_ranges.proofs.Tests.{list_all-weaker, list_any-weaker, list_an
 use Rattle.version_sets.specs.declared.rules.PreReleases.TheVariants.{Default, Included}
 use Rattle.tool_ranges.specs.AnySize.{comparator_any, range_any, set_any}
 use Rattle.tool_ranges.specs.CargoMeaning as cargo
-use Rattle.tool_ranges.specs.CargoMeaning.{as_read}
 use Rattle.tool_ranges.specs.NpmMeaning as npm
 use Rattle.tool_ranges.specs.NpmMeaning.{asks_nothing_by, is_zero, matches_everything, meets_by_count}
 use Rattle.tool_ranges.specs.declared.dialect.Dialect.{Dialect}
 use Rattle.tool_ranges.specs.declared.dialect.Dialect.TheVariants.{Cargo, Npm}
 use Rattle.tool_ranges.specs.TermComparators.{printed_term}
 use Rattle.tool_ranges.specs.Steps.Matching.{range_every, range_met, term_met}
+use Rattle.tool_ranges.specs.Steps.Cursors.{ranges_of}
 use Rattle.tool_ranges.specs.Steps.Printed.{printed_ranges}
 use Rattle.tool_ranges.proofs.AnySizes.{asks_any, pre_any, release_set}
 use Rattle.tool_ranges.proofs.MatchedRanges.{cargo_default, included_range, npm_default}
@@ -107,12 +107,12 @@ module _ (v : PlainVersion) (release : v.pre ≡ []) where
   ranges_counted : (d : Dialect) (rs : List (List Simple)) → list_any (λ ss. list_all (term_met d false v) ss) rs ≡ list_any (range_met d false v) rs
   ranges_counted d rs = list_any-same (λ ss. list_all (term_met d false v) ss) (range_met d false v) (counted d) rs
 
-  pub cargo_meets : (tree : List Simple) (set : PlainSet)
+  pub cargo_meets : (tree : SetTree) (set : PlainSet)
       → set ≡ record { ranges = printed_ranges Stated Cargo mode.Cargo tree; compat = mode.Cargo }
       → meets_set v set ≡ cargo.meets_requirement Default tree v
   cargo_meets tree set is = sym (release_set v set is_release) ∙ ap (λ s. meets_set v (set_any s)) is
-      ∙ ranges_meet Stated Cargo false v cargo_term mode.Cargo (map as_read tree ∷ [])
-      ∙ ranges_counted Cargo (map as_read tree ∷ []) ∙ cargo_default v tree
+      ∙ ranges_meet Stated Cargo false v cargo_term mode.Cargo (ranges_of Stated Cargo tree)
+      ∙ ranges_counted Cargo (ranges_of Stated Cargo tree) ∙ cargo_default v tree
 
   -- a release satisfies a term that matches everything
   met : (form : Form) {s : List ℕ} → Shape s → (p : List IdentifierValue) → asks_nothing_by form (is_empty s) (is_zero (filled s p)) ≡ true

@@ -18,13 +18,12 @@ use Rattle.semver_ranges.proofs.EventLists.{range_made}
 use Rattle.semver_ranges.proofs.EventSums.{front_made}
 use Rattle.tool_ranges.specs.declared.dialect.Dialect.{Dialect}
 use Rattle.tool_ranges.specs.declared.dialect.Dialect.TheVariants.{Npm}
-use Rattle.tool_ranges.specs.Dialects.{SpellsAs, TreeOf}
-use Rattle.tool_ranges.specs.Rewritten.{rewritten_npm}
+use Rattle.tool_ranges.specs.Dialects.{SpellsAs, rewritten_as}
 use Rattle.tool_ranges.specs.Steps.Cursors.{events_in, ranges_of}
 use Rattle.tool_ranges.specs.Steps.Printed.{printed_ranges}
 use Rattle.tool_ranges.specs.TermComparators.{printed_term}
 use Rattle.tool_ranges.proofs.MatchedEvents.{some_ranges}
-use Rattle.tool_ranges.proofs.PrintableSets.{npm_table}
+use Rattle.tool_ranges.proofs.PrintableSets.{term_table}
 
 -- ---- events
 module _ (written : Simple → List PlainComparator) (mode : Compat) where
@@ -52,7 +51,7 @@ module _ (written : Simple → List PlainComparator) (mode : Compat) where
         → map range_of new ≡ map range_of old ++ ranges_by written mode (map comparator_of set) left
     text_ended left none = with_range ∙ ap (λ es. map range_of old ++ ranges_by written mode (map comparator_of set) es) (sym none)
 
-pub printed_events : (low : LowerBounds) (d : Dialect) (mode : Compat) (t : Text) (tree : TreeOf d) → SpellsAs d tree t
+pub printed_events : (low : LowerBounds) (d : Dialect) (mode : Compat) (t : Text) (tree : SetTree) → SpellsAs d tree t
     → printed_ranges low d mode tree ≡ ranges_by (printed_term low d) mode [] (events_in (ranges_of low d tree))
 printed_events low d mode t tree h =
     let some = some_ranges low d t tree h in
@@ -63,8 +62,8 @@ printed_events low d mode t tree h =
 -- ---- npm
 npm_range : (r : RangeTree) → range_of_simples (printed_term Stated Npm) mode.Npm (yielded Stated r)
     ≡ record { comparators = range_by (printed_term Stated Npm) r; compat = mode.Npm }
-npm_range r = range_made npm_table mode.Npm r
+npm_range r = range_made (term_table Npm) mode.Npm r
 
-pub npm_ranges : (tree : SetTree) → printed_ranges Stated Npm mode.Npm tree ≡ (rewritten_npm tree).ranges
+pub npm_ranges : (tree : SetTree) → printed_ranges Stated Npm mode.Npm tree ≡ (rewritten_as Npm tree).ranges
 npm_ranges [] = refl
 npm_ranges (r ∷ others) = λ i. npm_range r i ∷ npm_ranges others i

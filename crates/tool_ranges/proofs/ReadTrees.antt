@@ -13,39 +13,38 @@ use Rattle.semver_ranges.specs.declared.range_set.RangeError.TheVariants.{NotARa
 use Rattle.semver_ranges.specs.Steps.Reading.{read}
 use Rattle.semver_ranges.proofs.ReadingComplete.{tree_read}
 use Rattle.semver_ranges.proofs.ReadingSound.{read_sound}
+use Rattle.semver_ranges.specs.RangeTree.{SetTree}
 use Rattle.tool_ranges.specs.declared.dialect.Dialect.{Dialect}
-use Rattle.tool_ranges.specs.declared.dialect.Dialect.TheVariants.{Cargo, Npm, CrateCargo, CrateNpm}
-use Rattle.tool_ranges.specs.Dialects.{RefusesAs, SpellsAs, TreeOf, fits_as}
+use Rattle.tool_ranges.specs.declared.dialect.Dialect.TheVariants.{Cargo, Npm}
+use Rattle.tool_ranges.specs.Dialects.{RefusesAs, SpellsAs, fits_as}
 use Rattle.tool_ranges.specs.NpmGrammar.{may_stand}
 use Rattle.tool_ranges.specs.Steps.Cursors.{read_as}
 use Rattle.tool_ranges.specs.Steps.Reading.{IsRefusedAs}
 use Rattle.tool_ranges.proofs.Comparators.{requirement_complete, requirement_sound}
 
-pub sound_as : (d : Dialect) (t : Text) (tree : TreeOf d) → read_as d t ≡ Some tree → SpellsAs d tree t
+pub sound_as : (d : Dialect) (t : Text) (tree : SetTree) → read_as d t ≡ Some tree → SpellsAs d tree t
 sound_as Cargo t tree e = requirement_sound t tree e
 sound_as Npm t tree e = by_test (list_all may_stand (chars t))
     (λ y. let is : read grammar.Npm t ≡ Some tree = rw y at e in record { spelled = read_sound grammar.Npm t tree is; characters = y })
     (λ n. let no : None ≡ Some tree = rw n at e in cc)
-sound_as CrateCargo t tree e = read_sound grammar.Crate t tree e
-sound_as CrateNpm t tree e = read_sound grammar.Crate t tree e
+sound_as d t tree e = read_sound grammar.Crate t tree e
 
-pub complete_as : (d : Dialect) (t : Text) (tree : TreeOf d) → SpellsAs d tree t → read_as d t ≡ Some tree
+pub complete_as : (d : Dialect) (t : Text) (tree : SetTree) → SpellsAs d tree t → read_as d t ≡ Some tree
 complete_as Cargo t tree h = requirement_complete t tree h
 complete_as Npm t tree h = rw h.characters (tree_read grammar.Npm tree t h.spelled)
-complete_as CrateCargo t tree h = tree_read grammar.Crate tree t h
-complete_as CrateNpm t tree h = tree_read grammar.Crate tree t h
+complete_as d t tree h = tree_read grammar.Crate tree t h
 
 module _ (d : Dialect) (t : Text) where
-  pub same_read : (tree other : TreeOf d) → read_as d t ≡ Some tree → SpellsAs d other t → tree ≡ other
+  pub same_read : (tree other : SetTree) → read_as d t ≡ Some tree → SpellsAs d other t → tree ≡ other
   same_read tree other e h = let both : Some tree ≡ Some other = sym e ∙ complete_as d t other h in cc
 
-  none_read : (tree : TreeOf d) → read_as d t ≡ None → SpellsAs d tree t → ⊥
+  none_read : (tree : SetTree) → read_as d t ≡ None → SpellsAs d tree t → ⊥
   none_read tree e h = let both : None ≡ Some tree = sym e ∙ complete_as d t tree h in cc
 
-  unfit : (tree other : TreeOf d) → read_as d t ≡ Some tree → fits_as d tree ≡ true → SpellsAs d other t → fits_as d other ≡ false → ⊥
+  unfit : (tree other : SetTree) → read_as d t ≡ Some tree → fits_as d tree ≡ true → SpellsAs d other t → fits_as d other ≡ false → ⊥
   unfit tree other e fit h large = both_ways _ large (sym (ap (fits_as d) (same_read tree other e h)) ∙ fit)
 
-  pub answered_as : {A : Type 0} (x : A) (tree : TreeOf d) → read_as d t ≡ Some tree → fits_as d tree ≡ true → RefusesAs d t (Ok x)
+  pub answered_as : {A : Type 0} (x : A) (tree : SetTree) → read_as d t ≡ Some tree → fits_as d tree ≡ true → RefusesAs d t (Ok x)
   answered_as x tree e fit = record {
     accepted = (tree, sound_as d t tree e, fit);
     not_a_range = (λ wrong. cc, λ none. absurd (none (tree, sound_as d t tree e)));
@@ -68,7 +67,7 @@ module _ (d : Dialect) (t : Text) where
   }
   refused_as OutOfMemory h = absurd h
 
-  pub out_of_memory_as : {A : Type 0} (tree : TreeOf d) → read_as d t ≡ Some tree → fits_as d tree ≡ true
+  pub out_of_memory_as : {A : Type 0} (tree : SetTree) → read_as d t ≡ Some tree → fits_as d tree ≡ true
       → RefusesAs {A = A} d t (Err OutOfMemory)
   out_of_memory_as tree e fit = record {
     accepted = tt;

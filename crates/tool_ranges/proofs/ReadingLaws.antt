@@ -3,12 +3,13 @@
 use Rattle.std.proofs.Common.{◌≡◌, Ok, rules}
 use Rattle.semver_texts.specs.Texts.{Text}
 use Rattle.semver_ranges.specs.RangeTexts.{Refuses}
+use Rattle.semver_ranges.specs.RangeTree.{SetTree}
 use Rattle.tool_ranges.specs.declared.dialect.Dialect.{Dialect}
-use Rattle.tool_ranges.specs.Dialects.{TreeOf, SpellsAs}
+use Rattle.tool_ranges.specs.Dialects.{SpellsAs}
 use Rattle.tool_ranges.proofs.ReadTrees.{complete_as, same_read}
 
 -- a text has at most one tree
-pub one_tree : (dialect : Dialect) (tree other : TreeOf dialect) (t : Text) → SpellsAs dialect tree t → SpellsAs dialect other t
+pub one_tree : (dialect : Dialect) (tree other : SetTree) (t : Text) → SpellsAs dialect tree t → SpellsAs dialect other t
     → tree ≡ other
 one_tree dialect tree other t h k = same_read dialect t tree other (complete_as dialect t tree h) k
 

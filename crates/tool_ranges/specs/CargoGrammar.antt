@@ -6,6 +6,7 @@ use Rattle.semver_texts.specs.Texts.{Text, is_empty}
 use Rattle.semver_texts.specs.declared.grammar.Grammar.TheVariants.{Cargo}
 use Rattle.semver_ranges.specs.RangeTree.{Form, is_bare, bare, equal, less, at_most, greater}
 use Rattle.semver_ranges.specs.RangeTree.{at_least, tilde, caret, PartialTree, one, Simple}
+use Rattle.semver_ranges.specs.RangeTree.{SetTree, simples}
 use Rattle.semver_ranges.specs.RangeTree.{AreBlanks, components, has_no_leading_zeros, qualifier}
 use Rattle.semver_ranges.specs.RangeTree.{is_wildcard}
 use Rattle.semver_ranges.specs.RangeTree.{SpellsPartial}
@@ -76,8 +77,13 @@ abbrev pub stands_alone : List Simple → Bool
 stands_alone (s ∷ []) = true
 stands_alone ss = not (list_any (λ s. states_nothing s.partial) ss)
 
+-- the comparators of a tree: the terms of its range if it has one range of terms, otherwise none
+abbrev pub comparators_of : SetTree → List Simple
+comparators_of (simples first others ∷ []) = first ∷ others
+comparators_of _ = []
+
 -- a requirement's text: one to 32 comparators; one that states no number is the only one
-pub record SpellsRequirement (tree : List Simple) (t : Text) : Type 0 where
-  pub comparators : SpellsComparators tree t
-  pub alone : IsTrue (stands_alone tree)
-  pub few : length tree ≤ 32
+pub record SpellsRequirement (tree : SetTree) (t : Text) : Type 0 where
+  pub comparators : SpellsComparators (comparators_of tree) t
+  pub alone : IsTrue (stands_alone (comparators_of tree))
+  pub few : length (comparators_of tree) ≤ 32

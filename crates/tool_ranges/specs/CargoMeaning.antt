@@ -15,7 +15,8 @@ use Rattle.semver_texts.specs.Precedence.{precedence}
 use Rattle.semver_texts.specs.Texts.{is_empty}
 use Rattle.semver_texts.specs.Versions.{numbers, PlainVersion}
 use Rattle.semver_ranges.specs.RangeTree.{Form, bare, equal, less, at_most, greater, at_least}
-use Rattle.semver_ranges.specs.RangeTree.{caret, PartialTree, Simple, components, is_wildcard}
+use Rattle.semver_ranges.specs.RangeTree.{caret, PartialTree, Simple, SetTree, components}
+use Rattle.semver_ranges.specs.RangeTree.{is_wildcard}
 use Rattle.semver_ranges.specs.Partials.{stated}
 use Rattle.semver_ranges.specs.Terms.{of_simple}
 use Rattle.semver_ranges.specs.CrateMeaning.{agrees_past_zeros, meets_form}
@@ -23,6 +24,7 @@ use Rattle.semver_ranges.specs.StatedPreReleases.{states_pre_release_at}
 use Rattle.version_sets.specs.declared.rules.PreReleases.{PreReleases}
 use Rattle.version_sets.specs.declared.rules.PreReleases.TheVariants.{Default, Included, Excluded}
 use Rattle.tool_ranges.specs.AnySize.{zero_filled_any}
+use Rattle.tool_ranges.specs.CargoGrammar.{comparators_of}
 
 -- whether some component of a partial version is a wildcard
 abbrev pub has_wildcard : PartialTree → Bool
@@ -81,16 +83,18 @@ meets_one rule s v =
 
 -- whether a version counts by default: each release does, and a pre-release does if some comparator
 -- states its three numbers and a pre-release
-abbrev pub counts : List Simple → PlainVersion → Bool
-counts tree v = is_empty v.pre || list_any (λ s. states_pre_release_at (of_simple s) v) tree
+abbrev pub counts : SetTree → PlainVersion → Bool
+counts tree v =
+    is_empty v.pre || list_any (λ s. states_pre_release_at (of_simple s) v) (comparators_of tree)
 
 -- whether a version satisfies a requirement by default: it satisfies each comparator, and it counts
-abbrev pub meets_by_default : List Simple → PlainVersion → Bool
-meets_by_default tree v = list_all (λ s. meets_one Default s v) tree && counts tree v
+abbrev pub meets_by_default : SetTree → PlainVersion → Bool
+meets_by_default tree v =
+    list_all (λ s. meets_one Default s v) (comparators_of tree) && counts tree v
 
 -- whether a version satisfies a requirement under a rule. With `Excluded`, it is a release that
 -- satisfies the requirement by default
-abbrev pub meets_requirement : PreReleases → List Simple → PlainVersion → Bool
+abbrev pub meets_requirement : PreReleases → SetTree → PlainVersion → Bool
 meets_requirement Default tree v = meets_by_default tree v
-meets_requirement Included tree v = list_all (λ s. meets_one Included s v) tree
+meets_requirement Included tree v = list_all (λ s. meets_one Included s v) (comparators_of tree)
 meets_requirement Excluded tree v = is_empty v.pre && meets_by_default tree v

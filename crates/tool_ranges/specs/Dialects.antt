@@ -1,7 +1,7 @@
--- The dialects of range texts: their trees, which texts are invalid, and the comparators that a
--- text is rewritten to.
-use Rattle.std.specs.Prelude.{◌≡◌, Bool, false, List, IsTrue, Result}
-use Rattle.std.specs.List.{list_all}
+-- The dialects of range texts: which trees spell a text, which texts are invalid, and the
+-- comparators that a text is rewritten to.
+use Rattle.std.specs.Prelude.{◌≡◌, Bool, false, IsTrue, Result}
+use Rattle.semver_ranges.specs.declared.partial.LowerBounds.TheVariants.{Stated}
 use Rattle.semver_ranges.specs.declared.range_set.RangeError.{RangeError}
 use Rattle.semver_texts.specs.Texts.{Text}
 use Rattle.semver_texts.specs.Versions.{PlainVersion}
@@ -10,30 +10,24 @@ use Rattle.semver_texts.specs.declared.grammar.Grammar.TheVariants as grammar
 use Rattle.semver_ranges.specs.declared.range.Compat.{Compat}
 use Rattle.semver_ranges.specs.declared.range.Compat.TheVariants as compat
 use Rattle.semver_ranges.specs.CrateMeaning.{meets_tree}
-use Rattle.semver_ranges.specs.RangeTree.{SetTree, Simple, Spells}
+use Rattle.semver_ranges.specs.RangeTree.{SetTree, Spells}
 use Rattle.semver_ranges.specs.RangeTexts.{Refuses}
-use Rattle.semver_ranges.specs.RewritingTable.{PlainSet, fits, fits_by}
+use Rattle.semver_ranges.specs.RewritingTable.{PlainSet, fits_by, set_by}
 use Rattle.semver_ranges.specs.ExactBounds.{rewritten_exactly}
 use Rattle.version_sets.specs.declared.rules.PreReleases.TheVariants.{Default}
 use Rattle.tool_ranges.specs.declared.dialect.Dialect.{Dialect}
 use Rattle.tool_ranges.specs.declared.dialect.Dialect.TheVariants.{Cargo, Npm, CrateCargo}
 use Rattle.tool_ranges.specs.declared.dialect.Dialect.TheVariants.{CrateNpm}
 use Rattle.tool_ranges.specs.CargoGrammar.{SpellsRequirement}
-use Rattle.tool_ranges.specs.CargoMeaning.{as_read, meets_requirement}
+use Rattle.tool_ranges.specs.CargoMeaning.{meets_requirement}
+use Rattle.tool_ranges.specs.FittingTerms.{read_in}
 use Rattle.tool_ranges.specs.NpmGrammar.{SpellsNpmRange}
 use Rattle.tool_ranges.specs.NpmMeaning.{meets_npm}
-use Rattle.tool_ranges.specs.Rewritten.{rewritten_npm, rewritten_requirement}
 use Rattle.tool_ranges.specs.Sides.{term_fits}
-
--- the trees that texts of a dialect have
-abbrev pub TreeOf : Dialect → Type 0
-TreeOf Cargo = List Simple
-TreeOf Npm = SetTree
-TreeOf CrateCargo = SetTree
-TreeOf CrateNpm = SetTree
+use Rattle.tool_ranges.specs.TermComparators.{printed_term}
 
 -- a tree spells a text in a dialect
-abbrev pub SpellsAs : (dialect : Dialect) → TreeOf dialect → Text → Type 0
+abbrev pub SpellsAs : Dialect → SetTree → Text → Type 0
 SpellsAs Cargo tree t = SpellsRequirement tree t
 SpellsAs Npm tree t = SpellsNpmRange tree t
 SpellsAs CrateCargo tree t = Spells tree t
@@ -41,26 +35,11 @@ SpellsAs CrateNpm tree t = Spells tree t
 
 -- whether the numbers that a tree states, and those of its raised bounds, are at most 2^64 - 1, or
 -- at most 2^53 - 1 in npm's dialect
-abbrev pub fits_as : (dialect : Dialect) → TreeOf dialect → Bool
-fits_as Cargo tree = list_all (λ s. term_fits Cargo (as_read s)) tree
-fits_as Npm tree = fits_by (term_fits Npm) tree
-fits_as CrateCargo tree = fits compat.Cargo tree
-fits_as CrateNpm tree = fits compat.Npm tree
-
--- the plain comparators with exact bounds that a tree is rewritten to
-abbrev pub rewritten_as : (dialect : Dialect) → TreeOf dialect → PlainSet
-rewritten_as Cargo tree = rewritten_requirement tree
-rewritten_as Npm tree = rewritten_npm tree
-rewritten_as CrateCargo tree = rewritten_exactly compat.Cargo tree
-rewritten_as CrateNpm tree = rewritten_exactly compat.Npm tree
-
--- the set is the one that each tree of the text is rewritten to
-abbrev pub IsRewrittenAs : Dialect → Text → PlainSet → Type 0
-IsRewrittenAs dialect t set =
-    (tree : TreeOf dialect) → SpellsAs dialect tree t → set ≡ rewritten_as dialect tree
+abbrev pub fits_as : Dialect → SetTree → Bool
+fits_as dialect tree = fits_by (λ s. term_fits dialect (read_in dialect s)) tree
 
 -- whether a release satisfies a tree
-abbrev pub means_release : (dialect : Dialect) → TreeOf dialect → PlainVersion → Bool
+abbrev pub means_release : Dialect → SetTree → PlainVersion → Bool
 means_release Cargo tree v = meets_requirement Default tree v
 means_release Npm tree v = meets_npm Default tree v
 means_release CrateCargo tree v = meets_tree compat.Cargo tree v
@@ -80,19 +59,34 @@ mode_of Npm = compat.Npm
 mode_of CrateCargo = compat.Cargo
 mode_of CrateNpm = compat.Npm
 
+-- the plain comparators with exact bounds that a tree is rewritten to: in the crate's dialects
+-- those of the crate's table, and in the others those of the sides of each term. An empty range, a
+-- hyphen range without a number, and any other term that matches everything, is rewritten to
+-- `>=0.0.0`
+abbrev pub rewritten_as : Dialect → SetTree → PlainSet
+rewritten_as CrateCargo tree = rewritten_exactly compat.Cargo tree
+rewritten_as CrateNpm tree = rewritten_exactly compat.Npm tree
+rewritten_as dialect tree =
+    set_by (λ s. printed_term Stated dialect (read_in dialect s)) (mode_of dialect) tree
+
+-- the set is the one that each tree of the text is rewritten to
+abbrev pub IsRewrittenAs : Dialect → Text → PlainSet → Type 0
+IsRewrittenAs dialect t set =
+    (tree : SetTree) → SpellsAs dialect tree t → set ≡ rewritten_as dialect tree
+
 -- the text is a range in the dialect: some tree spells it
 abbrev pub IsTextAs : Dialect → Text → Type 0
-IsTextAs dialect t = (tree : TreeOf dialect) × SpellsAs dialect tree t
+IsTextAs dialect t = (tree : SetTree) × SpellsAs dialect tree t
 
 -- the text is a range in the dialect, and its numbers fit
 abbrev pub HasSetAs : Dialect → Text → Type 0
 HasSetAs dialect t =
-    (tree : TreeOf dialect) × SpellsAs dialect tree t × IsTrue (fits_as dialect tree)
+    (tree : SetTree) × SpellsAs dialect tree t × IsTrue (fits_as dialect tree)
 
 -- the text is a range in the dialect, and a stated number or one of a raised bound is too large
 abbrev pub IsTooLargeAs : Dialect → Text → Type 0
 IsTooLargeAs dialect t =
-    (tree : TreeOf dialect) × SpellsAs dialect tree t × (fits_as dialect tree ≡ false)
+    (tree : SetTree) × SpellsAs dialect tree t × (fits_as dialect tree ≡ false)
 
 -- when a call that reads a text in a dialect may succeed, and when it returns each error
 abbrev pub RefusesAs : {A : Type 0} → Dialect → Text → Result A RangeError → Type 0

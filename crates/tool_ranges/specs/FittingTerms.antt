@@ -3,15 +3,13 @@ use Rattle.std.specs.Prelude.{ℕ, not, if◌then◌else◌, List, [], ◌∷◌
 use Rattle.std.specs.Prelude.{Option, Some, None, unwrap_or}
 use Rattle.std.specs.List.{flat_map, list_all, prefix_len}
 use Rattle.semver_texts.specs.Texts.{is_empty}
-use Rattle.semver_ranges.specs.RangeTree.{Form, RangeTree, Simple, empty, hyphen, simples}
+use Rattle.semver_ranges.specs.RangeTree.{Form, RangeTree, SetTree, Simple, empty, hyphen, simples}
 use Rattle.semver_ranges.specs.Partials.{stated, zero_filled}
 use Rattle.semver_ranges.specs.Terms.{left_side, right_side}
 use Rattle.tool_ranges.specs.declared.dialect.Dialect.{Dialect}
-use Rattle.tool_ranges.specs.declared.dialect.Dialect.TheVariants.{Cargo, Npm, CrateCargo}
-use Rattle.tool_ranges.specs.declared.dialect.Dialect.TheVariants.{CrateNpm}
+use Rattle.tool_ranges.specs.declared.dialect.Dialect.TheVariants.{Cargo}
 use Rattle.tool_ranges.specs.CargoMeaning.{as_read}
 use Rattle.tool_ranges.specs.DialectTable.{limit}
-use Rattle.tool_ranges.specs.Dialects.{TreeOf}
 use Rattle.tool_ranges.specs.Sides.{raised_place, sides, term_fits}
 
 -- the terms of a range in the order of its text; the sides of a hyphen range are `>=` and `<=`
@@ -29,14 +27,8 @@ abbrev pub read_in : Dialect → Simple → Simple
 read_in dialect s = record { form = operator_in dialect s; partial = s.partial }
 
 -- the terms of a text, with the operators that the dialect reads
-abbrev pub all_terms : (dialect : Dialect) → TreeOf dialect → List Simple
-all_terms Cargo tree = tree
-all_terms Npm tree = flat_map terms_of tree
-all_terms CrateCargo tree = flat_map terms_of tree
-all_terms CrateNpm tree = flat_map terms_of tree
-
-abbrev pub terms_as : (dialect : Dialect) → TreeOf dialect → List Simple
-terms_as dialect tree = map (read_in dialect) (all_terms dialect tree)
+abbrev pub terms_as : Dialect → SetTree → List Simple
+terms_as dialect tree = map (read_in dialect) (flat_map terms_of tree)
 
 -- ---- the number that is too large
 

@@ -6,29 +6,30 @@ use Rattle.semver_ranges.specs.declared.range.Compat.TheVariants as compat
 use Rattle.version_sets.specs.PreReleaseRules.{meant_with}
 use Rattle.version_sets.specs.VersionSets.{SetValue, contains, Fits}
 use Rattle.version_sets.specs.declared.rules.PreReleases.{PreReleases}
+use Rattle.semver_ranges.specs.RangeTree.{SetTree}
 use Rattle.tool_ranges.specs.declared.dialect.Dialect.{Dialect}
 use Rattle.tool_ranges.specs.declared.dialect.Dialect.TheVariants.{Cargo, Npm, CrateCargo}
 use Rattle.tool_ranges.specs.declared.dialect.Dialect.TheVariants.{CrateNpm}
 use Rattle.tool_ranges.specs.declared.meaning.Meaning.{Meaning}
 use Rattle.tool_ranges.specs.CargoMeaning.{meets_requirement}
 use Rattle.tool_ranges.specs.NpmMeaning.{meets_npm}
-use Rattle.tool_ranges.specs.Dialects.{TreeOf, SpellsAs}
+use Rattle.tool_ranges.specs.Dialects.{SpellsAs}
 
--- whether a version satisfies a tree of a dialect under a rule for pre-releases
-abbrev pub meant_by : (dialect : Dialect) → PreReleases → TreeOf dialect → VersionValue → Bool
+-- whether a version satisfies a tree in a dialect, under a rule for pre-releases
+abbrev pub meant_by : Dialect → PreReleases → SetTree → VersionValue → Bool
 meant_by Cargo rule tree v = meets_requirement rule tree v.plain
 meant_by Npm rule tree v = meets_npm rule tree v.plain
 meant_by CrateCargo rule tree v = meant_with rule compat.Cargo tree v
 meant_by CrateNpm rule tree v = meant_with rule compat.Npm tree v
 
 -- whether a version satisfies a tree under a meaning, which has a dialect and a rule
-abbrev pub meant_as : (meaning : Meaning) → TreeOf meaning.dialect → VersionValue → Bool
+abbrev pub meant_as : Meaning → SetTree → VersionValue → Bool
 meant_as meaning tree v = meant_by meaning.dialect meaning.pre_releases tree v
 
 -- for each tree of the text, and each version whose numbers fit 64 bits, the set contains the
 -- version if and only if the version satisfies the tree
 abbrev pub MeansBy : Dialect → PreReleases → Text → SetValue → Type 0
-MeansBy dialect rule t set = (tree : TreeOf dialect) (v : VersionValue)
+MeansBy dialect rule t set = (tree : SetTree) (v : VersionValue)
     → SpellsAs dialect tree t → Fits v.plain → contains set v.plain ≡ meant_by dialect rule tree v
 
 -- as `MeansBy`, with the dialect and the rule of a meaning

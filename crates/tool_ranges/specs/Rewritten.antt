@@ -1,44 +1,19 @@
--- The plain comparators that a range text is rewritten to in Cargo's and npm's dialects: those of
--- its terms.
+-- The plain comparators that a range text in npm's dialect is rewritten to with node-semver's
+-- `includePrerelease`.
 use Rattle.std.specs.Prelude.{if◌then◌else◌, List, [], ◌∷◌, ◌++◌, map}
 use Rattle.std.specs.List.{flat_map}
 use Rattle.semver_texts.specs.Texts.{is_empty}
-use Rattle.semver_ranges.specs.declared.partial.LowerBounds.TheVariants.{Stated, Lowest}
-use Rattle.semver_ranges.specs.declared.range.Compat.TheVariants.{Cargo, Npm}
+use Rattle.semver_ranges.specs.declared.partial.LowerBounds.TheVariants.{Lowest}
+use Rattle.semver_ranges.specs.declared.range.Compat.TheVariants.{Npm}
 use Rattle.semver_ranges.specs.declared.range.Op.TheVariants.{Gte}
 use Rattle.semver_ranges.specs.ExactBounds.{exact_bound}
 use Rattle.semver_ranges.specs.Partials.{states_nothing, zero_filled, zero_version}
 use Rattle.semver_ranges.specs.RangeTree.{Simple, PartialTree, RangeTree, empty, hyphen, simples}
 use Rattle.semver_ranges.specs.RangeTree.{SetTree}
-use Rattle.semver_ranges.specs.RewritingTable.{PlainComparator, PlainSet, comparator, set_by}
+use Rattle.semver_ranges.specs.RewritingTable.{PlainComparator, PlainSet, comparator}
 use Rattle.semver_ranges.specs.Terms.{right_side}
 use Rattle.tool_ranges.specs.declared.dialect.Dialect.TheVariants as dialect
-use Rattle.tool_ranges.specs.CargoMeaning.{as_read}
 use Rattle.tool_ranges.specs.TermComparators.{printed_term}
-
--- ---- Cargo
-
--- the set that a requirement is rewritten to: one range, in Cargo mode. It has the comparators of
--- each term with the operator that Cargo reads
-abbrev pub rewritten_requirement : List Simple → PlainSet
-rewritten_requirement tree =
-    record {
-      ranges = record {
-        comparators = flat_map (printed_term Stated dialect.Cargo) (map as_read tree);
-        compat = Cargo;
-      }
-          ∷ [];
-      compat = Cargo;
-    }
-
--- ---- npm
-
--- the set that a text is rewritten to: its ranges in order, in npm mode. An empty range, a hyphen
--- range without a number, and any other term that matches everything, is rewritten to `>=0.0.0`
-abbrev pub rewritten_npm : SetTree → PlainSet
-rewritten_npm tree = set_by (printed_term Stated dialect.Npm) Npm tree
-
--- ---- npm, with node-semver's `includePrerelease`
 
 -- the comparators of a term. A lower bound that includes the pre-releases of its numbers is the
 -- lowest of these, such as `>=1.2.0-0`, so it is right for pre-releases, too

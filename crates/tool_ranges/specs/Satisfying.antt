@@ -6,7 +6,8 @@ use Rattle.semver_ranges.specs.declared.range_set.RangeError.TheVariants.{Number
 use Rattle.semver_ranges.specs.declared.range_set.RangeError.TheVariants.{OutOfMemory}
 use Rattle.semver_texts.specs.Texts.{Text}
 use Rattle.semver_texts.specs.Versions.{VersionValue}
-use Rattle.tool_ranges.specs.Dialects.{HasSetAs, IsTextAs, IsTooLargeAs, SpellsAs, TreeOf}
+use Rattle.semver_ranges.specs.RangeTree.{SetTree}
+use Rattle.tool_ranges.specs.Dialects.{HasSetAs, IsTextAs, IsTooLargeAs, SpellsAs}
 use Rattle.tool_ranges.specs.Dialects.{grammar_of}
 use Rattle.tool_ranges.specs.Meanings.{meant_as}
 use Rattle.tool_ranges.specs.declared.meaning.Meaning.{Meaning}
@@ -18,7 +19,7 @@ use Rattle.tool_ranges.specs.declared.satisfying.SatisfiesError.TheVariants.{Inv
 -- of the range text
 abbrev pub AnswersOf : Meaning → VersionValue → Text → Result Bool SatisfiesError → Type 0
 AnswersOf m v range (Ok met) = HasSetAs m.dialect range
-    × ((tree : TreeOf m.dialect) → SpellsAs m.dialect tree range → met ≡ meant_as m tree v)
+    × ((tree : SetTree) → SpellsAs m.dialect tree range → met ≡ meant_as m tree v)
 AnswersOf m v range (Err InvalidVersion) = ⊥
 AnswersOf m v range (Err (InvalidRange NotARange)) = ¬ (IsTextAs m.dialect range)
 AnswersOf m v range (Err (InvalidRange NumberTooLarge)) = IsTooLargeAs m.dialect range

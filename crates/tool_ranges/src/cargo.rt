@@ -1,7 +1,7 @@
 //! Cargo's dialect: `1.2` is `>=1.2.0 <2.0.0`, and commas separate comparators.
 
-ghost use Rattle.std.specs.Prelude.{◌≡◌, [], List, true, IfOk, IsTrue};
-ghost use Rattle.semver_ranges.specs.RangeTree.{Simple as SimpleTree, SetTree, Spells};
+ghost use Rattle.std.specs.Prelude.{◌≡◌, [], true, IfOk, IsTrue};
+ghost use Rattle.semver_ranges.specs.RangeTree.{SetTree, Spells};
 ghost use Rattle.semver_texts.specs.Versions.{PlainVersion};
 ghost use Rattle.semver_ranges.specs.RangeViews.{set_of};
 ghost use Rattle.semver_ranges.specs.declared.range.Compat.TheVariants.{Cargo};
@@ -11,8 +11,7 @@ ghost use Rattle.semver_ranges.specs.RewritingTable.{fits, rewritten};
 ghost use Rattle.version_sets.specs.declared.rules.PreReleases.TheVariants.{Default};
 ghost use Rattle.tool_ranges.specs.CargoGrammar.{SpellsRequirement};
 ghost use Rattle.tool_ranges.specs.CargoMeaning.{meets_requirement};
-ghost use Rattle.tool_ranges.specs.Rewritten.{rewritten_requirement};
-ghost use Rattle.tool_ranges.specs.Dialects.{RefusesAs};
+ghost use Rattle.tool_ranges.specs.Dialects.{IsRewrittenAs, RefusesAs};
 ghost use Rattle.tool_ranges.specs.declared.dialect.Dialect.TheVariants as dialect;
 
 mod grammar;
@@ -52,10 +51,10 @@ pub fn rewrite(alloc: Global, requirement: &str) -> Result<RangeSet, RangeError>
     // defined; all others are read. The result is what the syntax tree of the string is rewritten
     // to.
     ensures refusals { RefusesAs dialect.Cargo requirement.now result }
-    ensures as_rewritten { IfOk result (λ set. (tree : List SimpleTree)
-        → SpellsRequirement tree requirement.now → set_of set ≡ rewritten_requirement tree) }
+    ensures as_rewritten { IfOk result
+        (λ set. IsRewrittenAs dialect.Cargo requirement.now (set_of set)) }
     // A release satisfies the result if and only if it satisfies the requirement.
-    ensures releases { IfOk result (λ set. (tree : List SimpleTree) (v : PlainVersion)
+    ensures releases { IfOk result (λ set. (tree : SetTree) (v : PlainVersion)
         → SpellsRequirement tree requirement.now → v.pre ≡ [] →
         meets_set v (set_of set) ≡ meets_requirement Default tree v) }
     // The result is printable: printed, it is a range that `RangeSet::parse` rewrites to the same

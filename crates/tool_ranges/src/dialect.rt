@@ -8,7 +8,7 @@ ghost use Rattle.semver_ranges.specs.PrintedRanges.{IsPrintableSet, set_text};
 ghost use Rattle.semver_ranges.specs.RangeTree.{SetTree, Spells};
 ghost use Rattle.semver_ranges.specs.RangeViews.{set_of};
 ghost use Rattle.semver_ranges.specs.RewritingTable.{fits, rewritten};
-ghost use Rattle.tool_ranges.specs.Dialects.{IsRewrittenAs, RefusesAs, SpellsAs, TreeOf};
+ghost use Rattle.tool_ranges.specs.Dialects.{IsRewrittenAs, RefusesAs, SpellsAs};
 ghost use Rattle.tool_ranges.specs.Dialects.{grammar_of, means_release, mode_of};
 ghost use Rattle.tool_ranges.specs.DialectTable.{name_of, number_of};
 ghost use Rattle.tool_ranges.specs.declared.dialect.Dialect.{Dialect as SomeDialect};
@@ -147,7 +147,7 @@ pub fn rewrite(alloc: Global, dialect: Dialect, range: &str) -> Result<RangeSet,
     ensures refusals { RefusesAs dialect range.now result }
     ensures as_rewritten { IfOk result (λ set. IsRewrittenAs dialect range.now (set_of set)) }
     // A release satisfies the result if and only if it satisfies the range.
-    ensures releases { IfOk result (λ set. (tree : TreeOf dialect) (v : PlainVersion)
+    ensures releases { IfOk result (λ set. (tree : SetTree) (v : PlainVersion)
         → SpellsAs dialect tree range.now → v.pre ≡ [] →
         meets_set v (set_of set) ≡ means_release dialect tree v) }
     // The result is printable: printed, it is a range that `RangeSet::parse` rewrites to the same

@@ -3,8 +3,9 @@
 ghost use Rattle.std.specs.Prelude.{◌≡◌};
 ghost use Rattle.semver_texts.specs.Digits.{digits_in};
 ghost use Rattle.semver_texts.specs.Texts.{Text};
+ghost use Rattle.semver_ranges.specs.RangeTree.{SetTree};
 ghost use Rattle.tool_ranges.specs.declared.dialect.Dialect.{Dialect as SomeDialect};
-ghost use Rattle.tool_ranges.specs.Dialects.{SpellsAs, TreeOf};
+ghost use Rattle.tool_ranges.specs.Dialects.{SpellsAs};
 ghost use Rattle.tool_ranges.specs.VersionRanges.{versions_grammar};
 
 use crate::dialect::Dialect;
@@ -15,7 +16,7 @@ use semver_versions::laws::one_version_in;
 
 /// No range string has two syntax trees in a dialect.
 pub fn one_tree()
-    ensures same_tree { (dialect : SomeDialect) (tree other : TreeOf dialect) (t : Text)
+    ensures same_tree { (dialect : SomeDialect) (tree other : SetTree) (t : Text)
         → SpellsAs dialect tree t → SpellsAs dialect other t → tree ≡ other }
 {}
 

@@ -5,12 +5,12 @@ ghost use Rattle.std.specs.Prelude.{Bool, MatchResult};
 ghost use Rattle.semver_texts.specs.Digits.{digits_in, plain_by};
 ghost use Rattle.semver_texts.specs.Texts.{is_empty};
 ghost use Rattle.semver_texts.specs.Versions.{PlainVersion, without_build};
-ghost use Rattle.semver_ranges.specs.RangeTree.{Simple as SimpleTree};
+ghost use Rattle.semver_ranges.specs.RangeTree.{Simple as SimpleTree, SetTree};
 ghost use Rattle.semver_ranges.specs.Steps.CursorViews.{IsSimpleOf, form_of};
 ghost use Rattle.semver_ranges.specs.Steps.PartialViews.{PartsPass, stated_of, version_of};
 ghost use Rattle.version_sets.specs.PreReleaseRules.{numbers_fit};
 ghost use Rattle.version_sets.specs.Steps.Cuts.{is_in_interval};
-ghost use Rattle.tool_ranges.specs.Dialects.{RefusesAs, SpellsAs, TreeOf, grammar_of};
+ghost use Rattle.tool_ranges.specs.Dialects.{RefusesAs, SpellsAs, grammar_of};
 ghost use Rattle.tool_ranges.specs.Meanings.{meant_by};
 ghost use Rattle.tool_ranges.specs.Sides.{term_fits, sides_fit};
 ghost use Rattle.tool_ranges.specs.Steps.Matching.{Says, begun, counts, ended, lower_of, plain_of};
@@ -40,7 +40,7 @@ pub(crate) fn answer(
     requires { numbers_fit (plain_of version.now) ≡ true }
     ensures refusals { RefusesAs dialect range.now result }
     ensures no_memory { result ≢ Err RangeError.OutOfMemory }
-    ensures meaning { IfOk result (λ met. (tree : TreeOf dialect) → SpellsAs dialect tree range.now
+    ensures meaning { IfOk result (λ met. (tree : SetTree) → SpellsAs dialect tree range.now
         → met ≡ meant_by dialect rule tree (without_build (plain_of version.now))) }
 {
     match matches(version, range, dialect, takes_all(rule)) {

@@ -13,7 +13,7 @@ ghost use Rattle.semver_ranges.specs.RangeTexts.{RefusesExactly};
 ghost use Rattle.semver_ranges.specs.RangeTree.{SetTree, Spells};
 ghost use Rattle.version_sets.specs.Printable.{IsPrintable};
 ghost use Rattle.version_sets.specs.PreReleaseRules.{meant_with, numbers_fit};
-ghost use Rattle.tool_ranges.specs.Dialects.{RefusesAs, SpellsAs, TreeOf, grammar_of};
+ghost use Rattle.tool_ranges.specs.Dialects.{RefusesAs, SpellsAs, grammar_of};
 ghost use Rattle.tool_ranges.specs.Meanings.{MeansAs, meant_as};
 
 use crate::checked::Checked;
@@ -99,7 +99,7 @@ pub fn satisfies(
     ensures no_memory { result ≢ Err RangeError.OutOfMemory }
     // The result is whether the version, whose numeric identifiers are read as the dialect reads
     // them, satisfies the range by definition.
-    ensures meaning { IfOk result (λ met. (tree : TreeOf meaning.dialect)
+    ensures meaning { IfOk result (λ met. (tree : SetTree)
         → SpellsAs meaning.dialect tree range.now
         → met ≡ meant_as meaning tree
         (version_by (digits_in (grammar_of meaning.dialect)) (kept_version_of version.now))) }

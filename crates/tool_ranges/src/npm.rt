@@ -12,10 +12,10 @@ ghost use Rattle.semver_ranges.specs.PrintedRanges.{IsPrintableSet, set_text};
 ghost use Rattle.semver_ranges.specs.RewritingTable.{fits, rewritten};
 ghost use Rattle.version_sets.specs.declared.rules.PreReleases.TheVariants.{Default, Included};
 ghost use Rattle.tool_ranges.specs.AnySize.{set_any};
-ghost use Rattle.tool_ranges.specs.Rewritten.{rewritten_included, rewritten_npm};
+ghost use Rattle.tool_ranges.specs.Rewritten.{rewritten_included};
 ghost use Rattle.tool_ranges.specs.NpmGrammar.{may_stand, SpellsNpmRange};
 ghost use Rattle.tool_ranges.specs.NpmMeaning.{meets_npm};
-ghost use Rattle.tool_ranges.specs.Dialects.{RefusesAs};
+ghost use Rattle.tool_ranges.specs.Dialects.{IsRewrittenAs, RefusesAs};
 ghost use Rattle.tool_ranges.specs.declared.dialect.Dialect.TheVariants as dialect;
 
 use crate::dialect::Dialect;
@@ -53,8 +53,7 @@ pub fn rewrite(alloc: Global, range: &str) -> Result<RangeSet, RangeError>
     // defined; all others are read. The result is what the syntax tree of the string is rewritten
     // to.
     ensures refusals { RefusesAs dialect.Npm range.now result }
-    ensures as_rewritten { IfOk result (λ set. (tree : SetTree) → SpellsNpmRange tree range.now
-        → set_of set ≡ rewritten_npm tree) }
+    ensures as_rewritten { IfOk result (λ set. IsRewrittenAs dialect.Npm range.now (set_of set)) }
     // A release satisfies the result if and only if it satisfies the range.
     ensures releases { IfOk result (λ set. (tree : SetTree) (v : PlainVersion)
         → SpellsNpmRange tree range.now → v.pre ≡ [] →

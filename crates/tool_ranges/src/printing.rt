@@ -4,14 +4,14 @@ ghost use Rattle.std.specs.Prelude.{◌≡◌, ◌++◌, ◌^◌, ◌-◌, Some,
 ghost use Rattle.semver_texts.specs.Texts.{Text};
 ghost use Rattle.semver_texts.specs.Versions.{numbers};
 ghost use Rattle.semver_ranges.specs.ExactBounds.{exact_bound};
-ghost use Rattle.semver_ranges.specs.RangeTree.{Simple as SimpleTree};
+ghost use Rattle.semver_ranges.specs.RangeTree.{Simple as SimpleTree, SetTree};
 ghost use Rattle.semver_ranges.specs.RangeViews.{comparator_of, range_of, set_of};
 ghost use Rattle.semver_ranges.specs.RewritingTable.{comparator};
 ghost use Rattle.semver_ranges.specs.Steps.CursorViews.{IsSimpleOf};
 ghost use Rattle.semver_ranges.specs.Steps.PartialViews.{PartsPass, version_of};
 ghost use Rattle.version_sets.specs.Releases.{release_value};
 ghost use Rattle.version_sets.specs.Steps.Cuts.{side_value};
-ghost use Rattle.tool_ranges.specs.Dialects.{RefusesAs, SpellsAs, TreeOf};
+ghost use Rattle.tool_ranges.specs.Dialects.{RefusesAs, SpellsAs};
 ghost use Rattle.tool_ranges.specs.Sides.{term_fits, may_rise};
 ghost use Rattle.tool_ranges.specs.Steps.Checked.{IsCheckedAs};
 ghost use Rattle.tool_ranges.specs.Steps.Printed.{IsPrintedAs, printed_ranges};
@@ -59,7 +59,7 @@ fn ranges(
 ) -> Result<Vec<Range>, AllocError>
     requires { (t : Text) × IsCheckedAs lower dialect t checked }
     ensures { IfOk result (λ ranges. (t : Text) → IsCheckedAs lower dialect t checked.entry
-        → (tree : TreeOf dialect) → SpellsAs dialect tree t
+        → (tree : SetTree) → SpellsAs dialect tree t
         → map range_of ranges.items ≡ printed_ranges lower dialect compat tree) }
 {
     let grammar = dialect.grammar();

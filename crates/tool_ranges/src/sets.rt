@@ -10,7 +10,7 @@ ghost use Rattle.semver_ranges.specs.RangeTree.{Simple as SimpleTree};
 ghost use Rattle.semver_ranges.specs.Steps.CursorViews.{IsSimpleOf};
 ghost use Rattle.version_sets.specs.Printable.{IsPrintable};
 ghost use Rattle.version_sets.specs.VersionSets.{contains, Fits};
-ghost use Rattle.tool_ranges.specs.Dialects.{RefusesAs, SpellsAs, TreeOf, grammar_of};
+ghost use Rattle.tool_ranges.specs.Dialects.{RefusesAs, SpellsAs, grammar_of};
 ghost use Rattle.tool_ranges.specs.Meanings.{MeansBy, meant_by};
 ghost use Rattle.tool_ranges.specs.Steps.Building.{is_one_of, known, Prints};
 ghost use Rattle.tool_ranges.specs.Steps.Checked.{IsCheckedAs};

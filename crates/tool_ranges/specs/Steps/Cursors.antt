@@ -9,7 +9,7 @@ use Rattle.std.specs.Str.{chars}
 use Rattle.semver_texts.specs.Texts.{Text}
 use Rattle.semver_texts.specs.declared.grammar.Grammar.{Grammar}
 use Rattle.semver_texts.specs.declared.grammar.Grammar.TheVariants as grammar
-use Rattle.semver_ranges.specs.RangeTree.{Simple}
+use Rattle.semver_ranges.specs.RangeTree.{Simple, SetTree, simples}
 use Rattle.semver_ranges.specs.Partials.{states_nothing}
 use Rattle.semver_ranges.specs.declared.grammar.Simple as found
 use Rattle.semver_ranges.specs.declared.events.Event as read
@@ -24,8 +24,8 @@ use Rattle.tool_ranges.specs.declared.cursor.Cursor.TheVariants.{Requirement, Ra
 use Rattle.tool_ranges.specs.declared.dialect.Dialect.{Dialect}
 use Rattle.tool_ranges.specs.declared.dialect.Dialect.TheVariants.{Cargo, Npm, CrateCargo}
 use Rattle.tool_ranges.specs.declared.dialect.Dialect.TheVariants.{CrateNpm}
+use Rattle.tool_ranges.specs.CargoGrammar.{comparators_of}
 use Rattle.tool_ranges.specs.CargoMeaning.{as_read}
-use Rattle.tool_ranges.specs.Dialects.{TreeOf}
 use Rattle.tool_ranges.specs.NpmGrammar.{may_stand}
 use Rattle.tool_ranges.specs.Steps.CargoReading.{comparator_at}
 
@@ -51,22 +51,25 @@ abbrev pub with_comma : Simple → ℕ → Option (Bor Text) → Option (List Si
 with_comma s n None = Some (s ∷ [])
 with_comma s n (Some after) = option_map (λ ss. s ∷ ss) (comparators_from n false after.now)
 
--- the comparators of a whole requirement, which may be at most 32
-abbrev pub requirement : Text → Option (List Simple)
-requirement t = comparators_from 32 true t
+-- the tree that has these comparators
+abbrev pub tree_of : List Simple → SetTree
+tree_of [] = []
+tree_of (first ∷ others) = simples first others ∷ []
+
+-- the tree of a whole requirement, which may have at most 32 comparators
+abbrev pub requirement : Text → Option SetTree
+requirement t = option_map tree_of (comparators_from 32 true t)
 
 -- ---- the tree of a text, and the terms of its ranges
-abbrev pub read_as : (dialect : Dialect) → Text → Option (TreeOf dialect)
+abbrev pub read_as : Dialect → Text → Option SetTree
 read_as Cargo t = requirement t
 read_as Npm t = if list_all may_stand (chars t) then read grammar.Npm t else None
 read_as CrateCargo t = read grammar.Crate t
 read_as CrateNpm t = read grammar.Crate t
 
-abbrev pub ranges_of : LowerBounds → (dialect : Dialect) → TreeOf dialect → List (List Simple)
-ranges_of lower Cargo tree = map as_read tree ∷ []
-ranges_of lower Npm tree = map (yielded lower) tree
-ranges_of lower CrateCargo tree = map (yielded lower) tree
-ranges_of lower CrateNpm tree = map (yielded lower) tree
+abbrev pub ranges_of : LowerBounds → Dialect → SetTree → List (List Simple)
+ranges_of lower Cargo tree = map as_read (comparators_of tree) ∷ []
+ranges_of lower dialect tree = map (yielded lower) tree
 
 -- the events of ranges: their terms, with `next_range` between each two ranges
 abbrev pub events_in : List (List Simple) → List Event

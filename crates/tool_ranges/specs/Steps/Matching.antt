@@ -10,7 +10,7 @@ use Rattle.semver_ranges.specs.declared.partial.LowerBounds.{LowerBounds}
 use Rattle.semver_ranges.specs.declared.partial.LowerBounds.TheVariants.{Lowest, Stated}
 use Rattle.semver_ranges.specs.declared.partial.Partial.{Partial}
 use Rattle.semver_ranges.specs.declared.range.Compat.TheVariants as mode
-use Rattle.semver_ranges.specs.RangeTree.{Simple}
+use Rattle.semver_ranges.specs.RangeTree.{Simple, SetTree}
 use Rattle.semver_ranges.specs.CrateMeaning.{meets_stated}
 use Rattle.semver_ranges.specs.Partials.{stated, zero_filled}
 use Rattle.semver_ranges.specs.StatedPreReleases.{states_pre_release_at}
@@ -28,7 +28,6 @@ use Rattle.tool_ranges.specs.declared.dialect.Dialect.{Dialect}
 use Rattle.tool_ranges.specs.declared.dialect.Dialect.TheVariants.{Cargo, Npm, CrateCargo}
 use Rattle.tool_ranges.specs.declared.dialect.Dialect.TheVariants.{CrateNpm}
 use Rattle.tool_ranges.specs.declared.matching.Progress.{Progress}
-use Rattle.tool_ranges.specs.Dialects.{TreeOf}
 use Rattle.tool_ranges.specs.Steps.Cursors.{ranges_of}
 
 -- the version of a borrowed version, without its build metadata
@@ -110,7 +109,7 @@ range_every ss = list_all (λ s. npm.matches_everything (of_simple s)) ss
 
 -- at the end of a text, it is known whether the version satisfies some range of the tree and counts
 -- in it, and whether some range matches everything
-abbrev pub Says : (dialect : Dialect) → Bool → PlainVersion → Progress → TreeOf dialect → Type 0
+abbrev pub Says : Dialect → Bool → PlainVersion → Progress → SetTree → Type 0
 Says dialect all v progress tree =
     (progress.met
     ≡ list_any (range_met dialect all v) (ranges_of (lower_of dialect all) dialect tree))

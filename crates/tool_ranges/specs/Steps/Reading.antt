@@ -5,18 +5,19 @@ use Rattle.semver_texts.specs.Texts.{Text}
 use Rattle.semver_ranges.specs.declared.range_set.RangeError.{RangeError}
 use Rattle.semver_ranges.specs.declared.range_set.RangeError.TheVariants.{NotARange, NumberTooLarge}
 use Rattle.semver_ranges.specs.declared.range_set.RangeError.TheVariants.{OutOfMemory}
+use Rattle.semver_ranges.specs.RangeTree.{SetTree}
 use Rattle.tool_ranges.specs.declared.dialect.Dialect.{Dialect}
-use Rattle.tool_ranges.specs.Dialects.{TreeOf, fits_as}
+use Rattle.tool_ranges.specs.Dialects.{fits_as}
 use Rattle.tool_ranges.specs.Steps.Cursors.{read_as}
 
 -- a text has a tree whose numbers fit and that has some property
-abbrev pub IsRead : (dialect : Dialect) → Text → (TreeOf dialect → Type 0) → Type 0
-IsRead dialect t Is = (tree : TreeOf dialect) × (read_as dialect t ≡ Some tree)
+abbrev pub IsRead : Dialect → Text → (SetTree → Type 0) → Type 0
+IsRead dialect t Is = (tree : SetTree) × (read_as dialect t ≡ Some tree)
     × IsTrue (fits_as dialect tree) × Is tree
 
 -- why a call that does not allocate returns an error
 abbrev pub IsRefusedAs : Dialect → Text → RangeError → Type 0
 IsRefusedAs dialect t NotARange = read_as dialect t ≡ None
-IsRefusedAs dialect t NumberTooLarge = (tree : TreeOf dialect) × (read_as dialect t ≡ Some tree)
+IsRefusedAs dialect t NumberTooLarge = (tree : SetTree) × (read_as dialect t ≡ Some tree)
     × (fits_as dialect tree ≡ false)
 IsRefusedAs dialect t OutOfMemory = ⊥

@@ -8,6 +8,8 @@ use Rattle.semver_texts.specs.Versions.{VersionValue}
 use Rattle.version_sets.specs.PreReleaseRules.{meant_with}
 use Rattle.version_sets.specs.VersionSets.{SetValue, contains, Fits}
 use Rattle.version_sets.specs.declared.rules.PreReleases.TheVariants.{Excluded}
+use Rattle.tool_ranges.proofs.FitCells.{own_fits}
+use Rattle.tool_ranges.proofs.ReadSets.{Refused}
 use Rattle.release_filter.proofs.filter.read_releases.Goals as goal
 
 -- the result of reading a range text in a dialect
@@ -19,11 +21,19 @@ record Answers (t : Text) (r : Result SetValue RangeError) (compat : Compat) : T
 pub returns-in-Cargo : goal.returns-in-Cargo
 returns-in-Cargo c =
     let e = c.read.ensures in
-    let told = subst (Answers c.args.text.now c.read.result) (sym c.in-Cargo.is) (record { refusals = e.refusals; meaning = e.meaning }) in
+    let told = subst (Answers c.args.text.now c.read.result) (sym c.in-Cargo.is)
+    (record {
+      refusals = subst (Refused c.args.text.now c.read.result) (λ i s. (own_fits s).0 i) e.refusals;
+      meaning = e.meaning;
+    }) in
     record { refusals = told.refusals; meaning = told.meaning; digits = e.digits }
 
 pub returns-in-Npm : goal.returns-in-Npm
 returns-in-Npm c =
     let e = c.read-in-Npm.ensures in
-    let told = subst (Answers c.args.text.now c.read-in-Npm.result) (sym c.in-Npm.is) (record { refusals = e.refusals; meaning = e.meaning }) in
+    let told = subst (Answers c.args.text.now c.read-in-Npm.result) (sym c.in-Npm.is)
+    (record {
+      refusals = subst (Refused c.args.text.now c.read-in-Npm.result) (λ i s. (own_fits s).1 i) e.refusals;
+      meaning = e.meaning;
+    }) in
     record { refusals = told.refusals; meaning = told.meaning; digits = e.digits }

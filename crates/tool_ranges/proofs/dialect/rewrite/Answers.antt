@@ -1,5 +1,7 @@
 use Rattle.tool_ranges.proofs.dialect.rewrite.Goals as goal
-use Rattle.std.proofs.Common.{rules}
+use Rattle.std.proofs.Common.{rules, subst, sym}
+use Rattle.tool_ranges.proofs.FitCells.{own_fits}
+use Rattle.tool_ranges.proofs.ReadSets.{Refused}
 
 pub returns-in-Cargo : goal.returns-in-Cargo
 returns-in-Cargo c =
@@ -27,7 +29,7 @@ pub returns-in-CrateCargo : goal.returns-in-CrateCargo
 returns-in-CrateCargo c =
     let e = c.parse_exact.ensures in
     rw c.in-CrateCargo.is (record {
-      refusals = e.refusals;
+      refusals = subst (Refused c.args.range.now c.parse_exact.result) (λ i s. sym (own_fits s).0 i) e.refusals;
       as_rewritten = e.as_rewritten;
       releases = search rules;
       printable = e.printable;
@@ -38,7 +40,7 @@ pub returns-in-CrateNpm : goal.returns-in-CrateNpm
 returns-in-CrateNpm c =
     let e = c.parse_exact-in-CrateNpm.ensures in
     rw c.in-CrateNpm.is (record {
-      refusals = e.refusals;
+      refusals = subst (Refused c.args.range.now c.parse_exact-in-CrateNpm.result) (λ i s. sym (own_fits s).1 i) e.refusals;
       as_rewritten = e.as_rewritten;
       releases = search rules;
       printable = e.printable;

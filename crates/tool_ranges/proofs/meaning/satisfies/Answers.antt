@@ -6,7 +6,8 @@ use Rattle.semver_texts.specs.declared.grammar.Digits.{Digits}
 use Rattle.semver_ranges.specs.declared.range_set.RangeError.{RangeError}
 use Rattle.semver_versions.specs.VersionRefs.{VersionRefValue, kept_version_of, version_of}
 use Rattle.version_sets.specs.declared.rules.PreReleases.{PreReleases}
-use Rattle.tool_ranges.specs.Dialects.{RefusesAs, SpellsAs, TreeOf, grammar_of}
+use Rattle.semver_ranges.specs.RangeTree.{SetTree}
+use Rattle.tool_ranges.specs.Dialects.{RefusesAs, SpellsAs, grammar_of}
 use Rattle.tool_ranges.specs.Meanings.{meant_by}
 use Rattle.tool_ranges.specs.declared.dialect.Dialect.{Dialect}
 use Rattle.tool_ranges.proofs.MatchedMeanings.{same_plain}
@@ -17,11 +18,11 @@ use Rattle.tool_ranges.proofs.meaning.satisfies.Goals.{After-read_by-version}
 -- the result in a dialect for a version, whose build metadata doesn't count
 record Answers (t : Text) (rule : PreReleases) (v : PlainVersion) (r : Result Bool RangeError) (d : Dialect) : Type 0 where
   pub refusals : RefusesAs d t r
-  pub meaning : IfOk r (λ met. (tree : TreeOf d) → SpellsAs d tree t → met ≡ meant_by d rule tree (without_build v))
+  pub meaning : IfOk r (λ met. (tree : SetTree) → SpellsAs d tree t → met ≡ meant_by d rule tree (without_build v))
 
 -- the same for a version that has build metadata
 abbrev Says : Text → PreReleases → Result Bool RangeError → (d : Dialect) → VersionValue → Type 0
-Says t rule r d w = IfOk r (λ met. (tree : TreeOf d) → SpellsAs d tree t → met ≡ meant_by d rule tree w)
+Says t rule r d w = IfOk r (λ met. (tree : SetTree) → SpellsAs d tree t → met ≡ meant_by d rule tree w)
 
 with_build : (t : Text) (rule : PreReleases) (w : VersionValue) (r : Result Bool RangeError) (d : Dialect) → Answers t rule w.plain r d
     → Says t rule r d w

@@ -26,7 +26,7 @@ loop-event-init c = λ t read.
       all,
       spelled,
       read.3,
-      ranges_fit c.args.lower d tree ∙ read.2,
+      ranges_fit c.args.lower d t tree read.1 ∙ read.2,
       printed_events c.args.lower d c.args.compat t tree spelled
           ∙ (λ i. map range_of (sym c.in_ok-ranges.ensures.items i)
           ++ ranges_by (printed_term c.args.lower d) c.args.compat (map comparator_of (sym c.in_ok-comparator_set.ensures.items i)) all),

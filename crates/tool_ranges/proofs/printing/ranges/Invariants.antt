@@ -4,7 +4,8 @@ use Rattle.semver_texts.specs.Texts.{Text}
 use Rattle.semver_ranges.specs.RangeViews.{comparator_of, range_of}
 use Rattle.semver_ranges.specs.Steps.DesugaredViews.{ranges_by}
 use Rattle.semver_ranges.specs.Steps.RangeEvents.{Event, event_fits}
-use Rattle.tool_ranges.specs.Dialects.{SpellsAs, TreeOf, grammar_of}
+use Rattle.semver_ranges.specs.RangeTree.{SetTree}
+use Rattle.tool_ranges.specs.Dialects.{SpellsAs, grammar_of}
 use Rattle.tool_ranges.specs.Steps.Checked.{HasEvents, IsCheckedAs, size_after}
 use Rattle.tool_ranges.specs.Sides.{term_fits}
 use Rattle.tool_ranges.specs.Steps.Printed.{printed_ranges}
@@ -13,7 +14,7 @@ use Rattle.tool_ranges.proofs.printing.ranges.Given as goal
 
 abbrev pub invariant-loop-event : goal.invariant-loop-event
 invariant-loop-event l = (t : Text) → IsCheckedAs l.lower l.dialect t l.fn.checked
-    → (tree : TreeOf l.dialect) × (left : List Event) × SpellsAs l.dialect tree t
+    → (tree : SetTree) × (left : List Event) × SpellsAs l.dialect tree t
     × HasEvents (grammar_of l.dialect) l.checked left × (list_all (event_fits (term_fits l.dialect)) left ≡ true)
     × (printed_ranges l.lower l.dialect l.compat tree
     ≡ map range_of l.ranges.items ++ ranges_by (printed_term l.lower l.dialect) l.compat (map comparator_of l.comparator_set.items) left)

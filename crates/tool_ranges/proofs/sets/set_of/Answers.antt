@@ -30,7 +30,7 @@ loop-event-init c =
         events_in (ranges_of (lower_of d all) d read.0),
         sound_as d t read.0 read.1,
         subst (λ all. HasEvents (grammar_of d) c.args.checked (events_in (ranges_of (lower_of d all) d read.0))) (sym c.takes_all-all.ensures) read.3,
-        ranges_fit (lower_of d all) d read.0 ∙ read.2,
+        ranges_fit (lower_of d all) d t read.0 read.1 ∙ read.2,
         λ v small. ap (λ p. after d all v p (events_in (ranges_of (lower_of d all) d read.0))) (sym (c.new-building.ensures.known all v small)),
       ),
       c.new-building.ensures.prints _,

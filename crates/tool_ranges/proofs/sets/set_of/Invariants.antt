@@ -5,7 +5,8 @@ use Rattle.semver_texts.specs.Texts.{Text}
 use Rattle.semver_texts.specs.Versions.{PlainVersion}
 use Rattle.semver_ranges.specs.Steps.RangeEvents.{Event, event_fits}
 use Rattle.version_sets.specs.VersionSets.{Fits}
-use Rattle.tool_ranges.specs.Dialects.{SpellsAs, TreeOf, grammar_of}
+use Rattle.semver_ranges.specs.RangeTree.{SetTree}
+use Rattle.tool_ranges.specs.Dialects.{SpellsAs, grammar_of}
 use Rattle.tool_ranges.specs.Steps.Building.{known, Prints}
 use Rattle.tool_ranges.specs.Steps.Checked.{HasEvents, IsCheckedAs, size_after}
 use Rattle.tool_ranges.specs.Steps.Cursors.{events_in, ranges_of}
@@ -15,7 +16,7 @@ use Rattle.tool_ranges.proofs.sets.set_of.Given as goal
 
 abbrev pub invariant-loop-event : goal.invariant-loop-event
 invariant-loop-event l = ((t : Text) → IsCheckedAs (lower_of l.dialect (takes_all l.rule)) l.dialect t l.fn.checked
-    → (tree : TreeOf l.dialect) × (left : List Event) × SpellsAs l.dialect tree t
+    → (tree : SetTree) × (left : List Event) × SpellsAs l.dialect tree t
     × HasEvents (grammar_of l.dialect) l.checked left × (list_all (event_fits (term_fits l.dialect)) left ≡ true)
     × ((v : PlainVersion) → Fits v
     → after l.dialect l.all v (begun (counts l.all v)) (events_in (ranges_of (lower_of l.dialect l.all) l.dialect tree))

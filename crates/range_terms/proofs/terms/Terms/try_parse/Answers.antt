@@ -4,7 +4,11 @@ use Rattle.range_terms.specs.Replacing.{IsReplaceable}
 use Rattle.range_terms.proofs.Replaceable.{replaceable}
 use Rattle.range_terms.specs.RewrittenVersions.{IsRewritable}
 use Rattle.range_terms.proofs.RewrittenTerms.{rewritable}
+use Rattle.tool_ranges.proofs.ReadingLaws.{answered_too}
 use Rattle.range_terms.proofs.terms.Terms.try_parse.Goals as goal
+
+pub returns-clause-refusals : goal.returns-clause-refusals
+returns-clause-refusals c = answered_too _ _ _ c.in_ok-check.field-0 _ c.in_ok-check.ensures.refusals
 
 pub returns-clause-replaceable : goal.returns-clause-replaceable
 returns-clause-replaceable c =

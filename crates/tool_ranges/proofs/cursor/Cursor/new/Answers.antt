@@ -1,4 +1,4 @@
-use Rattle.std.proofs.Common.{◌≤◌, ◌+◌, ◌*◌, refl, sym, ◌∙◌, subst, arith, length, inl, inr}
+use Rattle.std.proofs.Common.{true, ◌≤◌, ◌+◌, ◌*◌, refl, sym, ◌∙◌, subst, arith, length, inl, inr}
 use Rattle.std.specs.Prelude.{is_some}
 use Rattle.semver_texts.specs.Texts.{Text}
 use Rattle.semver_texts.specs.declared.grammar.Grammar.TheVariants.{Crate, Npm}
@@ -6,8 +6,9 @@ use Rattle.semver_ranges.specs.declared.events.Events.{Events}
 use Rattle.semver_ranges.specs.Steps.CursorViews.{HasLeft, size_left}
 use Rattle.semver_ranges.specs.Steps.Reading.{read}
 use Rattle.semver_ranges.proofs.FoundEvents.{flag_small}
-use Rattle.tool_ranges.proofs.Comparators.{same_events}
+use Rattle.tool_ranges.proofs.Comparators.{requirement_events, same_events}
 use Rattle.tool_ranges.proofs.cursor.Cursor.new.Goals as goal
+use Rattle.tool_ranges.specs.Steps.Cursors.{comparators_from}
 
 small : (events : Events) (t : Text) → length events.rest.now ≤ length t → size_left events ≤ 2 * length t + 34
 small events t short =
@@ -19,7 +20,10 @@ pub returns-then-not-may_stand : goal.returns-then-not-may_stand
 returns-then-not-may_stand c = (refl, rw c.in-Npm.is (rw (sym c.may_stand.ensures ∙ c.if-not-may_stand.true) refl))
 
 pub returns-in-Cargo : goal.returns-in-Cargo
-returns-in-Cargo c = (rw c.in-Cargo.is (rw c.as_bytes-bytes.ensures.value refl), omega arith)
+returns-in-Cargo c = (
+  rw c.in-Cargo.is (rw c.as_bytes-bytes.ensures.value (requirement_events c.args.lower (comparators_from 32 true c.args.text.now))),
+  omega arith,
+)
 
 pub returns-else-not-may_stand : goal.returns-else-not-may_stand
 returns-else-not-may_stand c =
