@@ -21,7 +21,7 @@ use Rattle.range_terms.specs.SpelledTerms.{AreTermsOf, IsSpelled, IsTermOf, IsUp
 use Rattle.range_terms.specs.Steps.{terms_left}
 use Rattle.range_terms.specs.WrittenTerms.{WrittenTerm, WrittenVersion, terms_in}
 use Rattle.range_terms.proofs.Dots.{cut_here}
-use Rattle.range_terms.proofs.SpelledTerms.{terms_spelled}
+use Rattle.range_terms.proofs.TermPlaces.{terms_spelled}
 use Rattle.range_terms.proofs.Whole.{terms_found}
 use Rattle.invalid_ranges.specs.TooLarge.{component_begin, first_of, first_offset, limit_offset, offset_in, versions_of}
 

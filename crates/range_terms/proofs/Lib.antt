@@ -6,11 +6,9 @@ pub mod FoundComparators
 pub mod Bars
 pub mod Dots
 pub mod MadeVersions
-pub mod SpelledTerms
 pub mod LowBytes
 pub mod Places
-pub mod RangePlaces
-pub mod ComparatorPlaces
+pub mod TermPlaces
 pub mod Replaceable
 pub mod RewrittenWords
 pub mod RewrittenTerms

@@ -1,8 +1,8 @@
 -- A range text of a dialect stays one if one of its words is replaced.
-use Rattle.std.proofs.Common.{◌≡◌, ◌+◌, ◌<◌, true, ◌&&◌, List, [], ◌∷◌, ◌++◌, length, take, drop, get_or, refl, sym, ap, ◌∙◌, subst}
+use Rattle.std.proofs.Common.{◌≡◌, ◌+◌, ◌<◌, true, false, ◌&&◌, List, [], ◌∷◌, ◌++◌, length, take, drop, get_or, refl, sym, ap, ◌∙◌, subst}
 use Rattle.std.proofs.Common.{arith, length-append, append_assoc}
 use Rattle.std.proofs.Math.Seq.{drop-append_seam, get_or-append_seam, take-append_seam}
-use Rattle.std.proofs.lemmas.Bool.{and_from, and_parts}
+use Rattle.std.proofs.lemmas.Bool.{and_from, and_parts, not-true, not_from_false}
 use Rattle.std.proofs.lemmas.List.Elements.{All-from_recursion}
 use Rattle.std.proofs.lemmas.List.Folds.{list_all-append}
 use Rattle.std.proofs.lemmas.Str.{IsCharBoundary-before_ascii, IsUtf8-from_ascii, IsUtf8-take, chars-IsAscii, chars-append}
@@ -13,8 +13,9 @@ use Rattle.std.specs.Str.{IsAscii, IsUtf8, chars}
 use Rattle.semver_texts.specs.Texts.{Text}
 use Rattle.semver_texts.specs.declared.grammar.Grammar.TheVariants as grammar
 use Rattle.semver_texts.proofs.Lists.{all_more}
-use Rattle.semver_ranges.specs.RangeTree.{PartialTree, Role, SetTree}
-use Rattle.tool_ranges.specs.CargoGrammar.{comparators_of}
+use Rattle.semver_texts.specs.declared.grammar.Grammar.{Grammar}
+use Rattle.semver_ranges.specs.RangeTree.{PartialTree, Role, SetTree, Simple, SpellsRangeIn, SpellsWord, simples}
+use Rattle.tool_ranges.specs.CargoGrammar.{SpellsRequirement, comparators_of, stands_alone}
 use Rattle.tool_ranges.specs.Dialects.{IsTextAs, SpellsAs}
 use Rattle.tool_ranges.specs.NpmGrammar.{may_stand}
 use Rattle.tool_ranges.specs.declared.dialect.Dialect.{Dialect}
@@ -22,18 +23,17 @@ use Rattle.tool_ranges.specs.declared.dialect.Dialect.TheVariants.{Cargo, Npm}
 use Rattle.range_terms.specs.declared.term.Span.{Span}
 use Rattle.range_terms.specs.Replacing.{IsReplaceable, MayReplace, replaced}
 use Rattle.range_terms.specs.WrittenTerms.{WrittenTerm, comparators_at, ranges_at, terms_in}
-use Rattle.range_terms.proofs.ComparatorPlaces.{AreComparators, comparators_places, requirement_again}
 use Rattle.range_terms.proofs.LowBytes.{is_low, word_low}
 use Rattle.range_terms.proofs.Places.{AllPlaces, IsPlace}
-use Rattle.range_terms.proofs.RangePlaces.{AreRanges, ranges_places}
+use Rattle.range_terms.proofs.TermPlaces.{AreComparators, AreRanges, IsWordOfCargo, MayStand, all_of, comparators_told, places_told, ranges_told}
+use Rattle.range_terms.proofs.TermPlaces.{states_none}
 
 -- the text with other bytes at the span of a word
-text_replaced : (t before word after w : Text) (span : Span) → t ≡ before ++ (word ++ after) → span.start ≡ 0 + length before
-    → span.end ≡ 0 + length before + length word → replaced t span w ≡ before ++ (w ++ after)
+text_replaced : (t before word after w : Text) (span : Span) → t ≡ before ++ (word ++ after) → span.start ≡ length before
+    → span.end ≡ length before + length word → replaced t span w ≡ before ++ (w ++ after)
 text_replaced t before word after w span text start end =
-    let from : span.start ≡ length before = omega (arith, start) in
     let to : span.end ≡ length (before ++ word) = omega (arith, end, length-append before word) in
-    let front : take span.start t ≡ before = rw (from, text) (take-append_seam before (word ++ after)) in
+    let front : take span.start t ≡ before = rw (start, text) (take-append_seam before (word ++ after)) in
     let back : drop span.end t ≡ after = rw (to, text, ← append_assoc before word after) (drop-append_seam (before ++ word) after) in
     rw (front, back) refl
 
@@ -93,7 +93,7 @@ module _ (d : Dialect) (t : Text) where
       → list_all is_low word ≡ true → May role p w → Good (before ++ (w ++ after)) → IsTextAs d (before ++ (w ++ after))
 
   one_place : (Good : Text → Type 0) (May : Role → PartialTree → Text → Type 0) (role : Role) (span : Span) → Goes Good May
-      → ((p : PartialTree) (w : Text) → MayReplace d role p w → May role p w) → IsPlace Good (May role) t 0 span
+      → ((p : PartialTree) (w : Text) → MayReplace d role p w → May role p w) → IsPlace Good (May role) t span
       → (p : PartialTree) (w : Text) → MayReplace d role p w → IsTextAs d (replaced t span w)
   one_place Good May role span goes may place p w h =
       subst (IsTextAs d) (sym (text_replaced t place.before place.word place.after w span place.text place.start place.end))
@@ -101,7 +101,7 @@ module _ (d : Dialect) (t : Text) where
 
   all_replaceable : (Good : Text → Type 0) (May : Role → PartialTree → Text → Type 0) → Goes Good May
       → ((role : Role) (p : PartialTree) (w : Text) → MayReplace d role p w → May role p w) → (xs : List WrittenTerm)
-      → AllPlaces Good May t 0 xs → AllByRecursion (IsReplaceable d t) xs
+      → AllPlaces Good May t xs → AllByRecursion (IsReplaceable d t) xs
   all_replaceable Good May goes may xs all = all_more
       (λ x places. record {
         version = one_place Good May _ x.version.span goes (may _) places.version;
@@ -109,12 +109,41 @@ module _ (d : Dialect) (t : Text) where
       })
       xs all
 
+-- a comparator that states no number is still the only one, so the text is a requirement again
+stand_again : (tree made : List Simple) → length made ≡ length tree → (states_none tree ≡ false → states_none made ≡ false)
+    → stands_alone tree ≡ true → stands_alone made ≡ true
+stand_again tree [] same none alone = refl
+stand_again tree (a ∷ []) same none alone = refl
+stand_again [] (a ∷ b ∷ made) same none alone = absurd (omega (arith, same))
+stand_again (x ∷ []) (a ∷ b ∷ made) same none alone = absurd (omega (arith, same))
+stand_again (x ∷ y ∷ tree) (a ∷ b ∷ made) same none alone = not_from_false _ (none (not-true _ alone))
+
+requirement_again : (tree : SetTree) (t t' : Text) → SpellsRequirement tree t → AreComparators (comparators_of tree) t'
+    → (made : SetTree) × SpellsRequirement made t'
+requirement_again tree t t' spelled ([], h, same, none) = absurd h
+requirement_again tree t t' spelled (first ∷ rest, h, same, none) = (
+  simples first rest ∷ [],
+  record {
+    comparators = h;
+    alone = stand_again (comparators_of tree) (first ∷ rest) same none spelled.alone;
+    few = omega (arith, spelled.few, same);
+  },
+)
+
+range_places : (d : Dialect) (g : Grammar) (tree : SetTree) (t : Text) (spelled : SpellsRangeIn g tree t)
+    → AllPlaces (AreRanges g) (λ role p w. SpellsWord g role p w) t (ranges_at g 0 0 tree t spelled)
+range_places d g tree t spelled = places_told t (AreRanges g) d (λ role p w. SpellsWord g role p w) (λ role p w. SpellsWord g role p w) _ _
+    (ranges_told t (AreRanges g) d g 0 0 tree t spelled (all_of (AreRanges g) t))
+
 pub replaceable : (d : Dialect) (tree : SetTree) (t : Text) (spelled : SpellsAs d tree t) → IsUtf8 t
     → AllByRecursion (IsReplaceable d t) (terms_in d tree t spelled)
-replaceable Cargo tree t spelled utf8 = all_replaceable Cargo t (AreComparators (comparators_of tree)) _
+replaceable Cargo tree t spelled utf8 =
+    let Good = AreComparators (comparators_of tree) in
+    all_replaceable Cargo t Good MayStand
     (λ before word after w role p text some low may good. requirement_again tree t _ spelled good)
     (λ role p w h. h) (comparators_at 0 (comparators_of tree) t spelled.comparators)
-    (comparators_places 0 (comparators_of tree) t spelled.comparators)
+    (places_told t Good Cargo MayStand IsWordOfCargo _ _
+    (comparators_told t Good Cargo 0 (comparators_of tree) t spelled.comparators (all_of Good t)))
 replaceable Npm tree t spelled utf8 = all_replaceable Npm t (AreRanges grammar.Npm) _
     (λ before word after w role p text some low may good. (
       good.0,
@@ -123,7 +152,7 @@ replaceable Npm tree t spelled utf8 = all_replaceable Npm t (AreRanges grammar.N
         characters = stands_again t before word after w text utf8 spelled.characters some low (word_low grammar.Npm role p w may);
       },
     ))
-    (λ role p w h. h) (ranges_at grammar.Npm 0 0 tree t spelled.spelled) (ranges_places grammar.Npm 0 0 tree t spelled.spelled)
+    (λ role p w h. h) (ranges_at grammar.Npm 0 0 tree t spelled.spelled) (range_places Npm grammar.Npm tree t spelled.spelled)
 replaceable d tree t spelled utf8 = all_replaceable d t (AreRanges grammar.Crate) _
     (λ before word after w role p text some low may good. good)
-    (λ role p w h. h) (ranges_at grammar.Crate 0 0 tree t spelled) (ranges_places grammar.Crate 0 0 tree t spelled)
+    (λ role p w h. h) (ranges_at grammar.Crate 0 0 tree t spelled) (range_places d grammar.Crate tree t spelled)

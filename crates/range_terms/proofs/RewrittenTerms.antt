@@ -1,6 +1,6 @@
 -- Each version of a term is written as a word of the text. With the numbers of another version, it
 -- may replace this word.
-use Rattle.std.proofs.Common.{◌≡◌, ℕ, suc, ◌+◌, ◌≤◌, Bool, true, false, not, ◌||◌, ◌&&◌, if◌then◌else◌, List, [], ◌∷◌, ◌++◌}
+use Rattle.std.proofs.Common.{◌≡◌, ℕ, ◌+◌, ◌≤◌, Bool, true, false, not, ◌||◌, ◌&&◌, if◌then◌else◌, List, [], ◌∷◌, ◌++◌}
 use Rattle.std.proofs.Common.{Some, length, map, refl, sym, ap, ◌∙◌, subst, arith, codes, inl, inr, length-append, one-add}
 use Rattle.std.specs.Prelude.{◌==◌, IsTrue, nat_le, take_while}
 use Rattle.std.specs.Char.{is_ascii_digit}
@@ -17,36 +17,30 @@ use Rattle.semver_texts.specs.declared.grammar.Grammar.TheVariants as grammar
 use Rattle.semver_texts.proofs.Lists.{by_test}
 use Rattle.semver_ranges.specs.NpmLengths.{is_short_number, is_short_pre, is_short_version}
 use Rattle.semver_ranges.specs.Partials.{stated, states_nothing}
-use Rattle.semver_ranges.specs.RangeTree.{PartialTree, RangeTree, Role, SetTree, Simple, SpellsPartial, SpellsWord, components}
-use Rattle.semver_ranges.specs.RangeTree.{SpellsSimple, SpellsSimples, SpellsRange, SpellsPadded, SpellsRangeIn}
-use Rattle.semver_ranges.specs.RangeTree.{after_hyphen, empty, hyphen, simples, has_no_leading_zeros, has_short_parts}
+use Rattle.semver_ranges.specs.RangeTree.{PartialTree, Role, SetTree, SpellsPartial, SpellsWord, components}
+use Rattle.semver_ranges.specs.RangeTree.{SpellsRangeIn}
+use Rattle.semver_ranges.specs.RangeTree.{after_hyphen, has_no_leading_zeros, has_short_parts}
 use Rattle.semver_ranges.specs.RangeTree.{is_component, is_taken_whole, is_wildcard, is_word_of_npm, numbers_and_pre}
 use Rattle.semver_ranges.specs.RangeTree.{one, pre_parts, qualifier, states_three, three, two}
 use Rattle.semver_ranges.proofs.LongWords.{some_component}
 use Rattle.semver_ranges.proofs.ReadingPieces.{is_component_byte, partial_starts, starts}
 use Rattle.semver_versions.specs.VersionRefs.{VersionRefValue, IsVersionRefIn}
-use Rattle.tool_ranges.specs.CargoGrammar.{SpellsComparator, SpellsComparators, comparators_of, is_partial_of_cargo, wildcards_are_last}
+use Rattle.tool_ranges.specs.CargoGrammar.{comparators_of, is_partial_of_cargo, wildcards_are_last}
 use Rattle.tool_ranges.specs.Dialects.{SpellsAs, grammar_of}
 use Rattle.tool_ranges.specs.declared.dialect.Dialect.{Dialect}
 use Rattle.tool_ranges.specs.declared.dialect.Dialect.TheVariants.{Cargo, Npm}
 use Rattle.range_terms.specs.Replacing.{IsReplaceable, MayReplace, role_in}
 use Rattle.range_terms.specs.RewrittenVersions.{IsRewritable, MayBecome, text_with}
 use Rattle.range_terms.specs.Rewriting as rewriting
-use Rattle.range_terms.specs.WrittenTerms.{WrittenTerm, WrittenVersion, comparators_at, component_of, major_of, padded_at, range_at}
-use Rattle.range_terms.specs.WrittenTerms.{comparator_at, ranges_at, simple_at, simples_at, terms_in, version_of}
-use Rattle.range_terms.proofs.Places.{both}
-use Rattle.range_terms.proofs.RangePlaces.{same_role}
+use Rattle.range_terms.specs.WrittenTerms.{WrittenTerm, WrittenVersion, comparators_at, component_of, major_of}
+use Rattle.range_terms.specs.WrittenTerms.{ranges_at, terms_in, version_of}
+use Rattle.range_terms.proofs.Places.{AreWordsOf, IsWordOf}
+use Rattle.range_terms.proofs.TermPlaces.{AreComparators, AreRanges, IsWordOfCargo, MayStand, all_of, comparators_told, ranges_told, words_told}
 use Rattle.range_terms.proofs.Replaceable.{replaceable}
 use Rattle.range_terms.proofs.RewrittenWords.{IsOfGrammar, core_spelled, core_with, if_parts, number_component, of_grammar, partial_with}
 use Rattle.range_terms.proofs.RewrittenWords.{same_wildcard, with_number, word_written}
 
 -- ---- a version that is written as a word
-
-pub record IsWrittenAs (Good : PartialTree → Text → Type 0) (x : WrittenVersion) : Type 0 where
-  pub tree : PartialTree
-  pub word : Text
-  pub is : x ≡ version_of x.span (begins_with 118 word) tree
-  pub good : Good tree word
 
 -- a partial version doesn't begin with a `v`
 no_v : (t : Text) → starts is_component_byte t ≡ true → begins_with 118 t ≡ false
@@ -60,11 +54,11 @@ bare_written x v tree word is spelled =
     ∙ ap (λ b. text_with (version_of x.span b tree) v) (no_v word (partial_starts tree word spelled))
     ∙ word_written x.span false v tree
 
-crate_word : (x : WrittenVersion) (v : VersionRefValue) → IsOfGrammar grammar.Crate v → (w : IsWrittenAs SpellsPartial x)
+crate_word : (x : WrittenVersion) (v : VersionRefValue) → IsOfGrammar grammar.Crate v → (w : IsWordOf SpellsPartial x)
     → SpellsPartial (partial_with w.tree v) (text_with x v)
 crate_word x v of w =
-    subst (SpellsPartial (partial_with w.tree v)) (sym (bare_written x v w.tree w.word w.is w.good))
-    (core_spelled v w.tree w.word of w.good)
+    subst (SpellsPartial (partial_with w.tree v)) (sym (bare_written x v w.tree w.word w.is w.spelled))
+    (core_spelled v w.tree w.word of w.spelled)
 
 -- ---- Cargo
 
@@ -125,16 +119,16 @@ something_stated v (three a b c pre build) of e =
 abbrev IsOfCargo : PartialTree → Text → Type 0
 IsOfCargo p word = SpellsPartial p word × (is_partial_of_cargo p ≡ true)
 
-cargo_word : (x : WrittenVersion) (v : VersionRefValue) → IsOfGrammar grammar.Cargo v → (w : IsWrittenAs IsOfCargo x)
+cargo_word : (x : WrittenVersion) (v : VersionRefValue) → IsOfGrammar grammar.Cargo v → (w : IsWordOf IsOfCargo x)
     → rewriting.is_number (Some x.major) ≡ true
     → SpellsPartial (partial_with w.tree v) (text_with x v)
     × IsTrue (is_partial_of_cargo (partial_with w.tree v) && not (states_nothing (partial_with w.tree v)))
 cargo_word x v of w number =
     let p = w.tree in
-    let last = (and_parts (wildcards_are_last (components p)) _ w.good.1).0 in
+    let last = (and_parts (wildcards_are_last (components p)) _ w.spelled.1).0 in
     let cargo : is_partial_of_cargo (partial_with p v) ≡ true =
     and_from _ _ (last_wildcards v p of ∙ last) (and_from _ _ (no_qualifier v p of) (no_zeros v p of.zeros)) in (
-      subst (SpellsPartial (partial_with p v)) (sym (bare_written x v p w.word w.is w.good.0)) (core_spelled v p w.word of w.good.0),
+      subst (SpellsPartial (partial_with p v)) (sym (bare_written x v p w.word w.is w.spelled.0)) (core_spelled v p w.word of w.spelled.0),
       and_from _ _ cargo (ap not (something_stated v p of (major_number p x (begins_with 118 w.word) w.is number))),
     )
 
@@ -229,10 +223,10 @@ read_by_npm role v p n of each h k =
     (if_short (is_taken_whole role (partial_with p v)) n (length (numbers_and_pre (partial_with p v))) k (omega (arith, h, k, within)))))
 
 npm_word : (role : Role) (x : WrittenVersion) (v : VersionRefValue) → IsOfGrammar grammar.Npm v
-    → (w : IsWrittenAs (SpellsWord grammar.Npm role) x) → length (text_with x v) ≤ max_length
+    → (w : IsWordOf (SpellsWord grammar.Npm role) x) → length (text_with x v) ≤ max_length
     → SpellsWord grammar.Npm role (partial_with w.tree v) (text_with x v)
 npm_word role x v of w long =
-    let (front, back, mark, spelled, taken, text) = w.good in
+    let (front, back, mark, spelled, taken, text) = w.spelled in
     let p = w.tree in
     let made = core_spelled v p back of spelled in
     elim mark [
@@ -251,80 +245,6 @@ npm_word role x v of w long =
     written b e =
         ap (λ y. text_with y v) w.is ∙ ap (λ c. text_with (version_of x.span c w.tree) v) e ∙ word_written x.span b v w.tree
 
--- ---- each version of the terms of a text
-
-pub record AreWritten (Good : Role → PartialTree → Text → Type 0) (x : WrittenTerm) : Type 0 where
-  pub version : IsWrittenAs (Good (role_in x.operator)) x.version
-  pub upper : (v : WrittenVersion) → x.upper ≡ Some v → IsWrittenAs (Good after_hyphen) v
-
-abbrev AllWritten : (Role → PartialTree → Text → Type 0) → List WrittenTerm → Type 0
-AllWritten Good xs = AllByRecursion (AreWritten Good) xs
-
-of_upper : {Good : PartialTree → Text → Type 0} (x v : WrittenVersion) → Some x ≡ Some v → IsWrittenAs Good x → IsWrittenAs Good v
-of_upper {Good = Good} x v is w = let same : x ≡ v = cc in subst (IsWrittenAs Good) same w
-
-module _ (d : Grammar) where
-  abbrev Word : Role → PartialTree → Text → Type 0
-  Word role p w = SpellsWord d role p w
-
-  simple_written : (k o : ℕ) (s : Simple) (t : Text) (spelled : SpellsSimple d s t) → AreWritten Word (simple_at d k o s t spelled)
-  simple_written k o s t (front, word, form, spelled, whole) = record {
-    version = subst (λ role. IsWrittenAs (Word role) (simple_at d k o s t (front, word, form, spelled, whole)).version)
-        (sym (same_role s.form))
-        (record { tree = s.partial; word = word; is = refl; good = spelled });
-    upper = λ v is. cc;
-  }
-
-  simples_written : (k o : ℕ) (first : Simple) (others : List Simple) (t : Text) (spelled : SpellsSimples d first others t)
-      → AllWritten Word (simples_at d k o first others t spelled)
-  simples_written k o first [] t spelled = (simple_written k o first t spelled, tt)
-  simples_written k o first (next ∷ others) t (front, gap, back, spelled, blanks, more, whole) =
-      (simple_written k o first front spelled, simples_written k (o + length (front ++ gap)) next others back more)
-
-  range_written : (k o : ℕ) (r : RangeTree) (t : Text) (spelled : SpellsRange d r t) → AllWritten Word (range_at d k o r t spelled)
-  range_written k o empty t spelled = tt
-  range_written k o (simples first others) t spelled = simples_written k o first others t spelled
-  range_written k o (hyphen left right) t (l, gap, gap', r, spelled, g, g', spelled', whole) = (
-    record {
-      version = record { tree = left; word = l; is = refl; good = spelled };
-      upper = λ v is. of_upper _ v is (record { tree = right; word = r; is = refl; good = spelled' });
-    },
-    tt,
-  )
-
-  padded_written : (k o : ℕ) (r : RangeTree) (t : Text) (spelled : SpellsPadded d r t) → AllWritten Word (padded_at d k o r t spelled)
-  padded_written k o r t (before, inner, after, h, spelled, h', whole) = range_written k (o + length before) r inner spelled
-
-  ranges_written : (k o : ℕ) (tree : SetTree) (t : Text) (spelled : SpellsRangeIn d tree t)
-      → AllWritten Word (ranges_at d k o tree t spelled)
-  ranges_written k o [] t spelled = absurd spelled
-  ranges_written k o (r ∷ []) t spelled = padded_written k o r t spelled
-  ranges_written k o (r ∷ next ∷ others) t (front, back, spelled, more, whole) =
-      both (AreWritten Word) (padded_at d k o r front spelled) (ranges_at d (suc k) (o + length front + 2) (next ∷ others) back more)
-      (padded_written k o r front spelled)
-      (ranges_written (suc k) (o + length front + 2) (next ∷ others) back more)
-
-abbrev Comparator : Role → PartialTree → Text → Type 0
-Comparator role p word = IsOfCargo p word
-
-comparator_written : (o : ℕ) (s : Simple) (t : Text) (spelled : SpellsComparator s t) → AreWritten Comparator (comparator_at o s t spelled)
-comparator_written o s t spelled = record {
-  version = record {
-    tree = s.partial;
-    word = spelled.word;
-    is = refl;
-    good = (spelled.partial, (and_parts (is_partial_of_cargo s.partial) _ spelled.is_read).0);
-  };
-  upper = λ v is. cc;
-}
-
-comparators_written : (o : ℕ) (tree : List Simple) (t : Text) (spelled : SpellsComparators tree t)
-    → AllWritten Comparator (comparators_at o tree t spelled)
-comparators_written o [] t spelled = absurd spelled
-comparators_written o (s ∷ []) t spelled = (comparator_written o s t spelled, tt)
-comparators_written o (s ∷ next ∷ others) t (front, back, spelled, more, whole) =
-    (comparator_written o s front spelled, comparators_written (o + length front + 1) (next ∷ others) back more)
-
 -- ---- all terms
 
 zipped : {X : Type 0} {P Q R : X → Type 0} → ((x : X) → P x → Q x → R x) → (xs : List X) → AllByRecursion P xs → AllByRecursion Q xs
@@ -335,10 +255,10 @@ zipped f (x ∷ xs) p q = (f x p.0 q.0, zipped f xs p.1 q.1)
 -- with the numbers of a version of the dialect, a written version is a word that may replace it
 abbrev MakesWords : Dialect → (Role → PartialTree → Text → Type 0) → Type 0
 MakesWords d Good = (role : Role) (x : WrittenVersion) (v : VersionRefValue) (read : Text) → IsVersionRefIn (grammar_of d) read v
-    → (w : IsWrittenAs (Good role) x) → MayBecome d x (text_with x v) → MayReplace d role (partial_with w.tree v) (text_with x v)
+    → (w : IsWordOf (Good role) x) → MayBecome d x (text_with x v) → MayReplace d role (partial_with w.tree v) (text_with x v)
 
 one_rewritable : (d : Dialect) (Good : Role → PartialTree → Text → Type 0) → MakesWords d Good → (t : Text) (x : WrittenTerm)
-    → IsReplaceable d t x → AreWritten Good x → IsRewritable d t x
+    → IsReplaceable d t x → AreWordsOf Good x → IsRewritable d t x
 one_rewritable d Good makes t x may written = record {
   version = λ v read of fits.
       may.version (partial_with written.version.tree v) (text_with x.version v)
@@ -348,21 +268,29 @@ one_rewritable d Good makes t x may written = record {
       may.upper y is (partial_with w.tree v) (text_with y v) (makes after_hyphen y v read of w fits);
 }
 
-cargo_words : MakesWords Cargo Comparator
+cargo_words : MakesWords Cargo IsWordOfCargo
 cargo_words role x v read of w number = cargo_word x v (of_grammar grammar.Cargo v read of) w number
 
 npm_words : MakesWords Npm (λ role p word. SpellsWord grammar.Npm role p word)
 npm_words role x v read of w long = npm_word role x v (of_grammar grammar.Npm v read of) w long
 
+range_words : (d : Dialect) (g : Grammar) (tree : SetTree) (t : Text) (spelled : SpellsRangeIn g tree t)
+    → AllByRecursion (AreWordsOf (λ role p word. SpellsWord g role p word)) (ranges_at g 0 0 tree t spelled)
+range_words d g tree t spelled = words_told t (AreRanges g) d (λ role p w. SpellsWord g role p w) (λ role p w. SpellsWord g role p w) _ _
+    (ranges_told t (AreRanges g) d g 0 0 tree t spelled (all_of (AreRanges g) t))
+
 pub rewritable : (d : Dialect) (tree : SetTree) (t : Text) (spelled : SpellsAs d tree t) → IsUtf8 t
     → AllByRecursion (IsRewritable d t) (terms_in d tree t spelled)
-rewritable Cargo tree t spelled utf8 = zipped (one_rewritable Cargo Comparator cargo_words t)
-    (comparators_at 0 (comparators_of tree) t spelled.comparators) (replaceable Cargo tree t spelled utf8)
-    (comparators_written 0 (comparators_of tree) t spelled.comparators)
-rewritable Npm tree t spelled utf8 = zipped (one_rewritable Npm (λ role p word. SpellsWord grammar.Npm role p word) npm_words t)
-    (ranges_at grammar.Npm 0 0 tree t spelled.spelled) (replaceable Npm tree t spelled utf8)
-    (ranges_written grammar.Npm 0 0 tree t spelled.spelled)
-rewritable d tree t spelled utf8 = zipped (one_rewritable d (λ role p word. SpellsWord grammar.Crate role p word)
+rewritable Cargo tree t spelled utf8 =
+    let Good = AreComparators (comparators_of tree) in
+    zipped (one_rewritable Cargo IsWordOfCargo cargo_words t) (comparators_at 0 (comparators_of tree) t spelled.comparators)
+    (replaceable Cargo tree t spelled utf8)
+    (words_told t Good Cargo MayStand IsWordOfCargo _ _
+    (comparators_told t Good Cargo 0 (comparators_of tree) t spelled.comparators (all_of Good t)))
+rewritable Npm tree t spelled utf8 =
+    zipped (one_rewritable Npm (λ role p word. SpellsWord grammar.Npm role p word) npm_words t)
+    (ranges_at grammar.Npm 0 0 tree t spelled.spelled) (replaceable Npm tree t spelled utf8) (range_words Npm grammar.Npm tree t spelled.spelled)
+rewritable d tree t spelled utf8 =
+    zipped (one_rewritable d (λ role p word. SpellsWord grammar.Crate role p word)
     (λ role x v read of w fits. crate_word x v (of_grammar grammar.Crate v read of) w) t)
-    (ranges_at grammar.Crate 0 0 tree t spelled) (replaceable d tree t spelled utf8)
-    (ranges_written grammar.Crate 0 0 tree t spelled)
+    (ranges_at grammar.Crate 0 0 tree t spelled) (replaceable d tree t spelled utf8) (range_words d grammar.Crate tree t spelled)
