@@ -43,6 +43,9 @@
 #   that they write for COUNT random projects, and for projects with edited manifests and damaged
 #   lock files, compared with whether the tool's own frozen install accepts these (npm, yarnpkg,
 #   cargo, python3, and the library as for locks)
+# - judged [CASE]..: npm, Debian's yarn 1 and Cargo themselves, whether their frozen installs accept
+#   the projects in python/cases/judged, and whether the commands that check-lock-file proposes
+#   repair them (the same as for managers)
 # - damaged-locks: check-lock-file and compare-requirements, which have to exit with 0, 1 or 2 for
 #   COUNT damaged copies of the files in python/cases (python3 with PyYAML, and the library as for
 #   locks)
@@ -123,6 +126,10 @@ managers)
     shift
     exec python3 -B tools/comparisons/managers/run.py "${1:-100}" "${2:-1}"
     ;;
+judged)
+    shift
+    exec python3 -B tools/comparisons/managers/judged.py "$@"
+    ;;
 node-suite)
     shift
     . tools/comparisons/node-suite.sh
@@ -158,7 +165,7 @@ crate | cargo | node | npm | versions | real | grid | lines | places | version-p
     kinds='crate|cargo|node|npm|versions|real|grid|lines|places|version-places|js|npm-on-it'
     kinds="$kinds|managers|damaged-locks|erased|order|raise"
     echo "usage: tools/compare.sh $kinds [COUNT] [SEED], or locks FILE.., or real-locks [NAME..]," >&2
-    echo '       or node-suite [--show], or semver-suite, crate-tests or targets' >&2
+    echo '       or judged [CASE..], or node-suite [--show], or semver-suite, crate-tests or targets' >&2
     exit 2
     ;;
 esac

@@ -206,6 +206,33 @@ refused 'check-lock-file: standard input: merge conflict at line 1' "$work/confl
 echo 'all' > "$work/unknown"
 refused 'check-lock-file: standard input: it is no lock file that is known' "$work/unknown" $check -
 
+# ---- the smallest projects on which a tool and the checker might disagree
+
+# can_judge NAME: returns whether Python has what a case of cases/judged needs.
+can_judge() {
+    case $1 in
+    cargo-*) python3 -c 'import tomllib' 2> /dev/null ;;
+    pnpm-*) python3 -c 'import yaml' 2> /dev/null ;;
+    esac
+}
+
+# judged NAME STATUS: checks a copy of a case, in which the files named `.case` are without that.
+judged() {
+    copy=$work/judged/$1 lines=cases/judged/$1/expected
+    [ -e "$lines" ] || lines=/dev/null
+    mkdir -p "$work/judged" && cp -R "cases/judged/$1" "$copy"
+    find "$copy" -name '*.case' | while read -r path; do mv "$path" "${path%.case}"; done
+    same "judged/$1" "$2" /dev/null "$lines" "cases/judged/$1/told" \
+        sh -c 'cd "$1" && exec "$2" --format tsv .' - "$copy" "$PWD/$check"
+}
+grep -v '^#' cases/judged/table | while read -r name verdict status; do
+    [ -z "$name" ] || if can_judge "$name"; then
+        judged "$name" "$status"
+    else
+        echo "judged/$name: skipped, since Python can't read its files"
+    fi
+done
+
 # ---- files that are made from those of npm and Cargo, on standard input
 
 sed -f cases/from-npm/broken.sed cases/from-npm/package-lock.json > "$work/lock"

@@ -6,6 +6,7 @@ from typing import Dict, Iterable, Iterator, List, NamedTuple, Optional, Tuple
 from ..files import (
     STANDARD_INPUT,
     Entry,
+    Unreadable,
     WrongShape,
     bytes_of,
     is_there,
@@ -96,6 +97,15 @@ def manifest_in(directory: str) -> Optional[Entry]:
     path = os.path.join(directory, MANIFEST)
     with taking(path, MANIFEST):
         return checked(json_object(bytes_of(path))) if is_there(path) else None
+
+
+def unchecked_manifest(directory: str) -> Entry:
+    """Returns the package.json in a directory; an empty one if it isn't there or isn't valid."""
+    try:
+        with open(os.path.join(directory, MANIFEST), "rb") as file:
+            return json_object(file.read())
+    except (OSError, Unreadable, WrongShape, RecursionError):
+        return {}
 
 
 def version_in(manifest: Entry) -> Optional[str]:

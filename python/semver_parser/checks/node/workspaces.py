@@ -1,8 +1,9 @@
 """The workspaces of a project: the directories that the patterns of a manifest find."""
 
+import os
 import re
 from functools import lru_cache
-from typing import Any, Iterable, List, NamedTuple, Tuple
+from typing import Any, Iterable, Iterator, List, NamedTuple, Tuple
 
 from ..files import list_at, text_at
 from .patterns import MODULES, alternatives, expression, places_at
@@ -31,6 +32,22 @@ def directories_of(texts: Iterable[str], top: str) -> List[str]:
         else:
             found.update(places_at(text, top))
     return sorted(found - left_out)
+
+
+def directories_around(directory: str) -> Iterator[str]:
+    """Yields the directories around a directory, the nearest first, up to the top of the repository
+    that they are in."""
+    outer = os.path.dirname(os.path.abspath(directory))
+    while outer != os.path.dirname(outer):
+        yield outer
+        if os.path.exists(os.path.join(outer, ".git")):
+            return
+        outer = os.path.dirname(outer)
+
+
+def place_in(directory: str, outer: str) -> str:
+    """Returns the path of a directory from one around it, as patterns match it."""
+    return os.path.relpath(os.path.abspath(directory), outer).replace(os.sep, "/")
 
 
 # ---- npm's rules, by which the order counts

@@ -6,7 +6,6 @@ from typing import Dict, Iterable, Iterator, List, Optional, Set, Tuple
 
 from ..files import (
     Entry,
-    Unreadable,
     WrongShape,
     bytes_of,
     json_object,
@@ -15,8 +14,16 @@ from ..files import (
     text_at,
     texts_at,
 )
-from ..node.package_json import refuse_twice
-from ..node.workspaces import is_workspace, name_by_directory, patterns_in, patterns_of, places_in
+from ..node.package_json import refuse_twice, unchecked_manifest
+from ..node.workspaces import (
+    directories_around,
+    is_workspace,
+    name_by_directory,
+    patterns_in,
+    patterns_of,
+    place_in,
+    places_in,
+)
 from .lock import ACCEPTED, KINDS_OF_TOPS, WORKSPACES, Packages, is_top, with_manifest
 
 
@@ -90,27 +97,12 @@ def by_name(manifests: Iterable[Tuple[str, Entry]]) -> Dict[str, str]:
 def root_around(directory: str) -> Optional[str]:
     """Returns the nearest directory around a directory whose package.json has that as a
     workspace."""
-    inner = os.path.abspath(directory)
-    outer = os.path.dirname(inner)
-    while outer != os.path.dirname(outer):
+    for outer in directories_around(directory):
         manifest = unchecked_manifest(outer)
         try:
             texts = patterns_in(manifest.get(WORKSPACES, []), WORKSPACES)
-            place = os.path.relpath(inner, outer).replace(os.sep, "/")
-            if is_workspace(patterns_of(texts), place):
+            if is_workspace(patterns_of(texts), place_in(directory, outer)):
                 return os.path.relpath(outer)
         except WrongShape:
             return None
-        if os.path.exists(os.path.join(outer, ".git")):
-            return None
-        outer = os.path.dirname(outer)
     return None
-
-
-def unchecked_manifest(directory: str) -> Entry:
-    """Returns the package.json in a directory; an empty one if it isn't there or isn't valid."""
-    try:
-        with open(os.path.join(directory, "package.json"), "rb") as file:
-            return json_object(file.read())
-    except (OSError, Unreadable, WrongShape, RecursionError):
-        return {}

@@ -54,6 +54,7 @@ from .lock import (
     requirer_at,
     stated_in,
 )
+from .roots import root_around
 from .settings import WORKSPACE_FILE, keys_of_setting
 from .specifiers import npm_form_of, parent_and_name, takes_peer
 
@@ -300,6 +301,12 @@ class Pnpm(NodeTool):
                 keys = settings.keys_of_catalog(catalog, it.name)
                 return Statement(os.path.join(directory, WORKSPACE_FILE), keys)
         return super().statement(finding, file)
+
+    def read_instead(self, path: str, is_named: bool) -> Optional[str]:
+        """Returns why pnpm doesn't read a pnpm-lock.yaml: it is in a workspace, and pnpm reads that
+        of the project."""
+        root = root_around(os.path.dirname(path))
+        return None if root is None else f"since it is in a workspace of {root}"
 
 
 PNPM = Pnpm()

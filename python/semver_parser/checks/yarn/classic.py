@@ -62,6 +62,7 @@ from ..tool import Input
 from .family import YarnScheme, YarnTool
 from .lock import YarnFile, bare, own_name, requirements_of
 from .resolutions import Resolution, Resolutions, resolutions_for
+from .roots import has_workspaces, is_of_yarn_1, root_around
 
 TRIVIAL = ("", "*")
 
@@ -314,13 +315,6 @@ def with_workspaces(project: Project, path: str) -> Project:
     return project._replace(manifests=found)
 
 
-def has_workspaces(manifest: Entry) -> bool:
-    """Returns whether yarn considers the project one of its workspaces. That is so even if it names
-    no other."""
-    named = manifest.get("workspaces")
-    return "packages" in named if isinstance(named, dict) else named is not None
-
-
 def specifier_in(manifest: Entry, it: Requirement) -> str:
     """Returns what a package.json requires by a name. If it is in several tables, the first that
     isn't `*` or empty counts."""
@@ -365,6 +359,12 @@ class Classic(YarnTool):
             finding.advised(finding.requirement.stated, False)
         if isinstance(finding, (AnotherPackage, Unsatisfied)) and alias_of(finding.specifier):
             finding.advised(TwoVersions.advice, False)
+
+    def read_instead(self, path: str, is_named: bool) -> Optional[str]:
+        """Returns why yarn 1 doesn't read a yarn.lock: it is in a workspace, and yarn 1 reads that
+        of the project. For later versions, a directory with a yarn.lock is a project of its own."""
+        root = root_around(os.path.dirname(path)) if is_of_yarn_1(path) else None
+        return None if root is None else f"since it is in a workspace of {root}"
 
 
 CLASSIC = Classic()
