@@ -69,6 +69,7 @@ from ..node.specifiers import (
 )
 from ..satisfaction import is_met, is_version
 from ..tool import Input, Offsets, Statement
+from .below_workspaces import put_below_workspaces
 from .disk import check_manifest, read_links, root_around, workspaces_of
 from .leaving import Leaving
 from .lock import (
@@ -364,6 +365,8 @@ class Reader:
         first += [Conflict(it, override) for it, override in refused(reading)]
         checked, plain = self.checked(), dict(required)
         put_overrides(packages, required, reading)
+        if not reading.named.isdisjoint(self.workspaces):
+            put_below_workspaces(required, self.workspaces, self.rules, looked_at(required))
         is_strict = is_set(self.directory, STRICT_PEERS)
         tops = self.workspaces.values()
         peers = None if is_strict else Peers(required, NPM_SCHEME.fits, tops, reading.rules)
