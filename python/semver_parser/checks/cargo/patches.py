@@ -1,6 +1,7 @@
 """Findings about the patches of a workspace. A lock file must have each of them, as a package or as
 one that isn't used."""
 
+import re
 from typing import Iterator, List, Optional
 
 from ..findings import Finding, MissingEntry, NotPatched, NotReplaced, Unreached
@@ -46,8 +47,8 @@ def replacement_findings(resolution: Resolution) -> Iterator[Finding]:
             to = [resolution.lock.directory_of(it) for it in edges]
             if is_meant and need.source.place not in to:
                 yield NotPatched(package, need.source.text(project.folder))
-    # A key is NAME:VERSION, perhaps after the URL of the source and `#`.
-    stated = {it.key.rpartition("#")[2].partition(":")[0] for it in project.replacements}
+    # A key is NAME@VERSION or NAME:VERSION, perhaps after the URL of the source and `#`.
+    stated = {re.split("[@:]", it.key.rpartition("#")[2])[0] for it in project.replacements}
     for package in resolution.lock.packages:
         if "replace" in package.entry and package.name not in stated:
             yield NotReplaced(package)
