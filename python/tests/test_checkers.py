@@ -31,6 +31,7 @@ from semver_parser.checks.model import (
     Scope,
 )
 from semver_parser.checks.node.package_json import refuse_twice
+from semver_parser.checks.node.patterns import alternatives
 from semver_parser.checks.node.specifiers import NodeScheme, reason_of
 from semver_parser.checks.node.workspaces import directories_of, is_workspace, patterns_of
 from semver_parser.checks.npm.lock import folders, name_by_place
@@ -175,6 +176,20 @@ class Shared(unittest.TestCase):
         self.assertTrue(is_workspace(patterns, "packages/a"))
         self.assertFalse(is_workspace(patterns, "packages/b"))
         self.assertRaises(WrongShape, refuse_twice, [("a", "one"), ("a", "two")])
+
+    def test_sequences(self) -> None:
+        """What brace-expansion 2.0.1 of npm 10.8.2 returns."""
+        for pattern, expected in (
+            ("p{1..3}/*", ["p1/*", "p2/*", "p3/*"]),
+            ("{01..10..3}", ["01", "04", "07", "10"]),
+            ("{-02..1}", ["-02", "-01", "000", "001"]),
+            ("{3..1}", ["3", "2", "1"]),
+            ("{a..e..2}", ["a", "c", "e"]),
+            ("{1..a}", ["{1..a}"]),
+        ):
+            self.assertEqual(alternatives(pattern), expected)
+        for pattern in ("{1..1001}", "{1..2..0}", "{1..99999999999999999999}"):
+            self.assertRaises(WrongShape, alternatives, pattern)
 
     def test_paths(self) -> None:
         paths = Paths({"the project": ["a 1.0.0"], "a 1.0.0": ["b 1.0.0"]})

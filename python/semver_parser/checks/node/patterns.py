@@ -7,17 +7,22 @@ project they find. As for npm and yarn, they find none in a `node_modules`.
 import os
 import re
 from functools import lru_cache
-from typing import Iterator, List, Pattern
+from typing import Iterator, List, NoReturn, Pattern
 
 from ..files import WrongShape
 
-BRACES = re.compile(r"\{([^{},]*(?:,[^{},]*)+)\}")
+# Braces with a list such as `{a,b}`, or with a sequence such as `{1..3}`, `{01..10..3}` or `{a..c}`.
+LIST = r"[^{},]*(?:,[^{},]*)+"
+SEQUENCE = r"(?:-?\d+\.\.-?\d+|[A-Za-z]\.\.[A-Za-z])(?:\.\.-?\d+)?"
+BRACES = re.compile(rf"\{{({LIST}|{SEQUENCE})\}}", re.A)
+PADDED = re.compile(r"-?0\d", re.A)
+
 MAGIC = re.compile(r"[*?\[(]")
 ANYWHERE = "**"
 MODULES = "node_modules"
 
-# How many patterns one with braces may stand for.
-MOST = 1000
+# How many patterns one with braces may stand for, and how long a number in them may be.
+MOST, LONGEST = 1000, 18
 
 # The parts of a pattern without braces.
 PART = re.compile(r"(?:\A|(?<=/))\*\*(?:/|\Z)|[?*+@!]\([^()]*\)|\[[!^]?\]?[^\]/]*\]|.", re.S)
@@ -32,14 +37,19 @@ NOTHING = re.compile(r"(?!)")
 
 
 def alternatives(pattern: str) -> List[str]:
-    """Returns the patterns that one with braces stands for: `{a,b}/*` stands for `a/*` and
-    `b/*`."""
+    """Returns the patterns that one with braces stands for: `{a,b}/*` stands for `a/*` and `b/*`,
+    and `p{1..3}` for `p1`, `p2` and `p3`."""
     patterns = [pattern]
     while any(BRACES.search(it) for it in patterns):
         patterns = [inner for it in patterns for inner in without_braces(it)]
         if len(patterns) > MOST:
-            raise WrongShape(f": workspaces: a pattern is for more than {MOST:,} others")
+            refuse_more()
     return patterns
+
+
+def refuse_more() -> NoReturn:
+    """Rejects a pattern that stands for too many others."""
+    raise WrongShape(f": workspaces: a pattern is for more than {MOST:,} others")
 
 
 def without_braces(pattern: str) -> List[str]:
@@ -47,8 +57,27 @@ def without_braces(pattern: str) -> List[str]:
     found = BRACES.search(pattern)
     if found is None:
         return [pattern]
-    before, after = pattern[: found.start()], pattern[found.end() :]
-    return [before + it + after for it in found.group(1).split(",")]
+    before, after, inside = pattern[: found.start()], pattern[found.end() :], found.group(1)
+    texts = inside.split(",") if "," in inside else sequence(*inside.split(".."))
+    return [before + it + after for it in texts]
+
+
+def sequence(first: str, last: str, step: str = "1") -> List[str]:
+    """Returns the texts of a sequence from a number or a letter to another one. If one of two
+    numbers begins with 0, all of them have the same length."""
+    if max(map(len, (first, last, step))) > LONGEST:
+        refuse_more()
+    is_of_letters = first.isalpha()
+    begin, end = map(ord if is_of_letters else int, (first, last))
+    by = abs(int(step))
+    if by == 0 or abs(end - begin) // by >= MOST:
+        refuse_more()
+    numbers = range(begin, end - 1, -by) if end < begin else range(begin, end + 1, by)
+    if is_of_letters:
+        return [chr(it).replace("\\", "") for it in numbers]
+    is_padded = any(PADDED.match(it) for it in (first, last, step))
+    width = max(len(first), len(last)) if is_padded else 0
+    return [f"{it:0{width}}" if width else str(it) for it in numbers]
 
 
 @lru_cache(maxsize=None)
