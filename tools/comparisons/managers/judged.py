@@ -68,6 +68,13 @@ def put(name: str, folder: Path, registry: Registry) -> None:
         put_crates(folder)
 
 
+def place_of(folder: Path) -> Path:
+    """Returns the directory in which the frozen install of a project runs: the one that its file
+    `where` names, or else that of the project."""
+    named = folder / "where"
+    return folder / named.read_text().strip() if named.exists() else folder
+
+
 def put_crates(folder: Path) -> None:
     """Writes the crates of a case into a directory that Cargo uses instead of crates.io, and the
     sources of each package."""
@@ -151,10 +158,11 @@ def wrong_in(case: Case, folder: Path, tools: Tools, known: str) -> Iterator[str
     status, commands = status_at(folder)
     if status != case.status:
         yield f"check-lock-file exits with {status}, and not with {case.status}"
-    frozen = tools.frozen(folder)
+    place = place_of(folder)
+    frozen = tools.frozen(place)
     if not frozen or case.verdict == NOT_RUN:
         return
-    is_taken, printed = tools.run(frozen, folder)
+    is_taken, printed = tools.run(frozen, place)
     if is_taken != (case.verdict == ACCEPTS):
         yield f"{' '.join(frozen)} {ACCEPTS if is_taken else REJECTS} it: {printed}"
     if is_taken != (status == 0) and not re.search(rf"judged/{re.escape(case.name)}\b", known):
@@ -163,7 +171,7 @@ def wrong_in(case: Case, folder: Path, tools: Tools, known: str) -> Iterator[str
         ends, printed = tools.run(command.split(), where)
         if not ends:
             yield f"{command} fails: {printed}"
-        elif not tools.run(frozen, folder)[0]:
+        elif not tools.run(frozen, place)[0]:
             yield f"{' '.join(frozen)} rejects it after {command}"
         elif status_at(folder)[0]:
             yield f"check-lock-file lists something after {command}"

@@ -34,6 +34,7 @@ def manifest_at(folder: str) -> Manifest:
 def members_at(folder: str) -> Iterator[Manifest]:
     """Yields the manifests of the workspace or the package in a directory."""
     top = read(os.path.join(folder, MANIFEST))
+    refuse_stray(folder, top)
     with taking(os.path.join(folder, MANIFEST), MANIFEST):
         inherited = inherited_of(top, folder)
         entries = entries_of(folder, top)
@@ -63,15 +64,35 @@ def root_of(folder: str, entry: Entry) -> Optional[str]:
                 return outer
 
 
+def is_elsewhere(root: Optional[str], folder: str) -> bool:
+    """Returns whether a directory belongs to a workspace in another one."""
+    return root is not None and os.path.abspath(root) != os.path.abspath(folder)
+
+
+def has_member(root: str, folder: str) -> bool:
+    """Returns whether the workspace in a directory has the package in another one as a member."""
+    members = entries_of(root, read(os.path.join(root, MANIFEST)))
+    return os.path.abspath(folder) in map(os.path.abspath, members)
+
+
+def refuse_stray(folder: str, entry: Entry) -> None:
+    """Rejects a manifest that is below a workspace, and that the workspace neither has as a member
+    nor excludes."""
+    root = root_of(folder, entry)
+    if root is not None and is_elsewhere(root, folder) and not has_member(root, folder):
+        why = f"the workspace in {os.path.relpath(root)} neither has it as a member nor excludes it"
+        raise Refusal(os.path.join(folder, MANIFEST), why)
+
+
 def unread_beside_workspace(folder: str) -> Optional[str]:
-    """Returns the lock file that Cargo reads instead of the one in a directory, if the directory
-    belongs to a workspace in another one."""
+    """Returns the lock file that Cargo reads instead of the one in a directory, if the directory is
+    a member of a workspace in another one."""
     path = os.path.join(folder, MANIFEST)
     try:
         root = root_of(folder, read(path)) if os.path.isfile(path) else None
+        if root is None or not is_elsewhere(root, folder) or not has_member(root, folder):
+            return None
     except Refusal:
-        return None
-    if root is None or os.path.abspath(root) == os.path.abspath(folder):
         return None
     return os.path.normpath(os.path.join(os.path.relpath(root), "Cargo.lock"))
 
