@@ -2,7 +2,7 @@
 `--strict`."""
 
 from functools import cached_property
-from typing import Callable, Optional, Set
+from typing import Callable, Optional, Set, Tuple
 
 from semver_parser import Dialect
 
@@ -10,6 +10,7 @@ from ..findings import (
     Finding,
     InvalidRange,
     Missing,
+    MissingMember,
     NoVersion,
     OfFound,
     OfRequirement,
@@ -17,7 +18,7 @@ from ..findings import (
     TwoVersions,
     Unsatisfied,
 )
-from ..model import Requirement
+from ..model import PEERS, Requirement
 from ..node.specifiers import is_fetched
 from ..satisfaction import is_met, range_in
 from .lock import Packages, folder_round, folders, inside, is_outside, is_top, locked_in
@@ -34,16 +35,26 @@ ANEW = "remove it, and have npm write it without the old one"
 # The advice for a mismatched peer that npm may keep.
 PEER = "run npm install; if npm keeps a mismatched peer, change what requires the package"
 
+# The advice if no version satisfies both a peer and what the project requires.
+AGREE = "have the requirement and the peer agree, or set legacy-peer-deps=true in .npmrc"
+
 
 class Leaving:
     """Decides which findings are about something that npm leaves as it is. Without `peers`, npm
-    leaves no peer."""
+    leaves no peer. `apart` has the places and names of peers that contradict what the project
+    requires."""
 
     def __init__(
-        self, packages: Packages, peers: Optional[Peers], rules: Rule, look: Callable[[], Set[str]]
+        self,
+        packages: Packages,
+        peers: Optional[Peers],
+        rules: Rule,
+        look: Callable[[], Set[str]],
+        apart: Set[Tuple[str, str]],
     ) -> None:
         self.packages, self.peers, self.locked = packages, peers, locked_in(packages)
         self.rules, self.look = rules, look
+        self.apart, self.names_apart = {place for place, _ in apart}, {name for _, name in apart}
 
     @cached_property
     def looked(self) -> Set[str]:
@@ -52,6 +63,8 @@ class Leaving:
 
     def excuse(self, finding: Finding) -> str:
         """Returns why npm leaves what a finding is about as it is; an empty text if it doesn't."""
+        if isinstance(finding, MissingMember) and finding.about in self.apart:
+            finding.advised(AGREE, True)
         if not isinstance(finding, (*UNMET, Missing, InvalidRange, NoVersion)):
             return ""
         assert isinstance(finding, OfRequirement)
@@ -62,7 +75,10 @@ class Leaving:
             return "bundled"
         if not is_top(it.requirer.place) and it.requirer.place not in self.looked:
             finding.advised(ANEW, False)
-        return self.excuse_of_version(finding) if isinstance(finding, UNMET) else ""
+        why = self.excuse_of_version(finding) if isinstance(finding, UNMET) else ""
+        if not why and it.name in self.names_apart and (it.kind == PEERS or not it.requirer.place):
+            finding.advised(AGREE, True)
+        return why
 
     def excuse_of_version(self, finding: OfFound) -> str:
         """Returns why npm leaves a package with the wrong version; an empty text if it doesn't."""

@@ -70,7 +70,8 @@ from ..node.specifiers import (
 from ..satisfaction import is_met, is_version
 from ..tool import Input, Offsets, Statement
 from .below_workspaces import put_below_workspaces
-from .disk import check_manifest, read_links, root_around, workspaces_of
+from .contradictions import Contradictions
+from .disk import check_manifest, manifest_in, read_links, root_around, workspaces_of
 from .leaving import Leaving
 from .lock import (
     WORKSPACES,
@@ -86,7 +87,7 @@ from .lock import (
     within,
     without_optional,
 )
-from .overrides import Rule, put_overrides, reading_of, refused, rules_of
+from .overrides import Reading, Rule, put_overrides, reading_of, refused, rules_of
 from .peers import Peers
 
 # The lock file that npm writes into node_modules.
@@ -357,6 +358,26 @@ class Reader:
                 required = [it for it in required if it.kind != WORKSPACES]
             yield Node(package, required, own)
 
+    def leaving(self, reading: Reading) -> Leaving:
+        """Returns what decides which findings are about something that npm leaves as it is."""
+        packages, required, fits = self.packages, self.required, NPM_SCHEME.fits
+        is_strict = is_set(self.directory, STRICT_PEERS)
+        peers = None if is_strict else Peers(required, fits, self.workspaces.values(), reading.rules)
+        apart = self.contradictions(reading)
+        return Leaving(packages, peers, self.rules, lambda: looked_at(required), apart)
+
+    def contradictions(self, reading: Reading) -> Set[Tuple[str, str]]:
+        """Returns the places and names of peers that contradict what the project requires. Names
+        with overrides are left out: an override may decide for a peer, too."""
+        if not self.scope.has_peers:
+            return set()
+        there, manifests = self.packages, {}
+        for place in self.workspaces.values():
+            manifest = there.get(place) or manifest_in(os.path.join(self.directory or "", place))
+            manifests[place] = manifest or {}
+        found = Contradictions(there, self.required, manifests, NPM_SCHEME.fits).found()
+        return {it for it in found if it[1] not in reading.named}
+
     def lock_file(self) -> LockFile:
         """Returns what the lock file has."""
         packages, found, required = self.packages, self.found, self.required
@@ -367,9 +388,6 @@ class Reader:
         put_overrides(packages, required, reading)
         if not reading.named.isdisjoint(self.workspaces):
             put_below_workspaces(required, self.workspaces, self.rules, looked_at(required))
-        is_strict = is_set(self.directory, STRICT_PEERS)
-        tops = self.workspaces.values()
-        peers = None if is_strict else Peers(required, NPM_SCHEME.fits, tops, reading.rules)
         own = (it for it, each in packages.items() if not each.get("link"))
         there = [it for it in own if not found[it].is_own]
         return LockFile(
@@ -377,7 +395,7 @@ class Reader:
             [found[it] for it in there],
             lambda: edges_of(plain),
             lambda: compared_in((it, packages[it]) for it in packages if is_top(it)),
-            Leaving(packages, peers, self.rules, lambda: looked_at(required)).excuse,
+            self.leaving(reading).excuse,
             left_out=self.left_out,
             from_lock=len(self.from_lock.intersection(checked)),
             package_count=len(set(there).intersection(checked)),
