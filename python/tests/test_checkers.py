@@ -10,6 +10,7 @@ from unittest.mock import patch
 from semver_parser import Dialect
 from semver_parser.checks import judge, repository, tools
 from semver_parser.checks.cargo.demands import is_reached
+from semver_parser.checks.cargo.sources import GIT, Source, is_other_commit
 from semver_parser.checks.cargo.validity import is_target, refuse_invalid
 from semver_parser.checks.files import WrongShape, toml_object
 from semver_parser.checks.findings import CLASSES, NotChecked, Overridden, Unsatisfied
@@ -157,6 +158,24 @@ class Locating(unittest.TestCase):
         wanted = {("a",), ("b",)}
         found = lines_at(text, toml_offsets(text, wanted, DEPENDENCIES), wanted)
         self.assertEqual(found, {("a",): 4, ("b",): 5})
+
+
+class Commits(unittest.TestCase):
+    """A `rev` that is a commit has to be the one in the lock file."""
+
+    def test_commits(self) -> None:
+        locked = "git+https://example.org/b?rev=x#1870181ee2313a7e5883693afa878d21a582e854"
+        for reference, is_other in (
+            ("rev=1870181e", False),
+            ("rev=1870181e" + "0" * 32, True),
+            ("rev=d4c24e9", True),
+            ("rev=20260101", False),
+            ("rev=main", False),
+            ("tag=d4c24e9", False),
+        ):
+            source = Source(GIT, "https://example.org/b", reference)
+            self.assertEqual(is_other_commit(source, locked), is_other, reference)
+        self.assertFalse(is_other_commit(source, "git+https://example.org/b"))
 
 
 class Shared(unittest.TestCase):

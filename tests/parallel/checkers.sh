@@ -315,8 +315,8 @@ refused "$told $work/workspaces/packages/a/package.json: it is no package.json: 
     $check "$work/workspaces/package-lock.json"
 refused_manifest 'overrides: a@next has no range after its name' '{"overrides": {"a@next": "1.0.0"}}'
 
-echo '{"resolutions": ["numbers"]}' > "$work/package.json"
-refused "$told standard input: it is no package.json: resolutions isn't an object" "$work/package.json" \
+echo '{"resolutions": {"numbers": 1}}' > "$work/package.json"
+refused "$told standard input: it is no package.json: resolutions: numbers isn't a text" "$work/package.json" \
     $check --package-json - cases/yarn/classic/yarn.lock
 
 # has_help PROGRAM: checks the help and the version, also without the library, and with an output

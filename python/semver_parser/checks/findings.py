@@ -199,6 +199,13 @@ class AnotherSource(OfFound):
     text = "{found} comes from another source than {range}, {required}"
 
 
+class AnotherCommit(OfFound):
+    """A package from another commit of a git repository than is required."""
+
+    kind, title = AnotherSource.kind, AnotherSource.title
+    text = "{found} comes from another commit than {range}, {required}"
+
+
 class InvalidRange(OfFound):
     """A requirement that is an invalid range for its tool."""
 

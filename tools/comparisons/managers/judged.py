@@ -25,8 +25,11 @@ from semver_parser.checks.reports import Wanted, report_on
 
 CASES = Path(TOP, "python", "cases", "judged")
 README = Path(TOP, "python", "semver_parser", "checks", "README.md")
-HERE = "http://registry.example"
-"""What stands for the URL of the registry in the files of a case."""
+HERE, REPOSITORY = "http://registry.example", "http://git.example"
+"""What stands for the URLs of the registry and of the git repository in the files of a case."""
+
+AT = "2026-01-01T00:00:00Z"
+"""The time of each commit of that repository, so that they are always the same."""
 
 WAITING = 300
 ACCEPTS, REJECTS, NOT_RUN = "accepts", "rejects", "not-run"
@@ -34,7 +37,7 @@ ACCEPTS, REJECTS, NOT_RUN = "accepts", "rejects", "not-run"
 QUIET = ["--ignore-scripts", "--no-audit", "--no-fund"]
 QUIET_YARN = ["--non-interactive", "--no-progress", "--ignore-scripts"]
 VENDORED = (
-    '[source.crates-io]\nreplace-with = "made"\n[source.made]\ndirectory = "{}"\n[net]\noffline = true\n'
+    '[source.crates-io]\nreplace-with = "made"\n[source.made]\ndirectory = "{}"\n'
 )
 
 
@@ -58,12 +61,16 @@ def put(name: str, folder: Path, registry: Registry) -> None:
     """Writes the project of a case to a directory, and has the registry serve its packages. In
     files named `.case` the name ends before that."""
     shutil.copytree(CASES / name, folder)
+    repository = folder.parent / "git"
     for path in [it for it in folder.rglob("*") if it.is_file()]:
-        path.write_text(path.read_text().replace(HERE, registry.url))
+        text = path.read_text().replace(HERE, registry.url)
+        path.write_text(text.replace(REPOSITORY, f"file://{repository}"))
         if path.suffix == ".case":
             path.rename(path.with_suffix(""))
     served = folder / "registry.json"
     registry.serve(json.loads(served.read_text()) if served.exists() else {})
+    if (folder / "git").exists():
+        put_commits(folder / "git", repository)
     if (folder / "Cargo.lock").exists():
         put_crates(folder)
 
@@ -73,6 +80,25 @@ def place_of(folder: Path) -> Path:
     `where` names, or else that of the project."""
     named = folder / "where"
     return folder / named.read_text().strip() if named.exists() else folder
+
+
+def put_commits(contents: Path, repository: Path) -> None:
+    """Makes a git repository with a commit of the contents of each directory, in order, and removes
+    these directories."""
+    names = {"NAME": "judged", "EMAIL": "judged@example.org", "DATE": AT}
+    who = {f"GIT_{each}_{key}": it for each in ("AUTHOR", "COMMITTER") for key, it in names.items()}
+
+    def git(*arguments: str) -> None:
+        command = ["git", "-C", str(repository), *arguments]
+        subprocess.run(command, env={**os.environ, **who}, check=True)
+
+    repository.mkdir()
+    git("init", "--quiet", "--initial-branch=main", ".")
+    for commit in sorted(contents.iterdir()):
+        shutil.copytree(commit, repository, dirs_exist_ok=True)
+        git("add", ".")
+        git("commit", "--quiet", "--message", commit.name)
+    shutil.rmtree(contents)
 
 
 def put_crates(folder: Path) -> None:

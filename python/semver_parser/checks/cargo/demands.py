@@ -22,15 +22,15 @@ ADVICE = "remove the checksum, and have it written anew"
 def checksum_findings(lock: Lock) -> Iterator[Finding]:
     """Yields the findings about packages of registries without a valid checksum, and about others
     with one. Cargo writes no checksums for a registry that has none. So one is missing only if
-    another package has one."""
-    has_any = any(FIELD in it.entry for it in lock.packages if it.source)
+    another package of the same registry has one."""
+    with_checksums = {it.source for it in lock.packages if FIELD in it.entry}
     for package in lock.packages:
         is_of_registry = bool(package.source) and source_of(package.source).kind != GIT
         checksum = package.entry.get(FIELD)
         if not is_of_registry and checksum is not None and not lock.is_gone(package):
             what = "a checksum, and isn't from a registry"
             yield WrongChecksum(package, "", what).advised(ADVICE, True)
-        elif is_of_registry and checksum is None and has_any:
+        elif is_of_registry and checksum is None and package.source in with_checksums:
             yield WrongChecksum(package, "", "no checksum")
         elif is_of_registry and checksum is not None and not is_checksum(checksum):
             what = f"the invalid checksum {checksum}"

@@ -21,6 +21,9 @@ LOCKED = re.compile(r"(git|registry|sparse)\+([^?#]*)(?:\?([^#]*))?(?:#.*)?", re
 
 REFERENCES = ("branch", "tag", "rev")
 
+# A commit, or the beginning of one.
+COMMIT = re.compile("[0-9a-f]{7,40}")
+
 
 class Source(NamedTuple):
     """A source: its kind, its directory, URL or name, and the branch, tag or revision of git."""
@@ -58,6 +61,15 @@ def locked_source(text: str) -> Source:
     if kind == GIT:
         return Source(GIT, canonical(url), unquote(query or ""))
     return Source(REGISTRY, ("sparse+" if kind == "sparse" else "") + canonical(url))
+
+
+def is_other_commit(wanted: Source, text: str) -> bool:
+    """Returns whether a lock file has another commit than a `rev` names. A `rev` may also be the
+    name of a tag, such as `20260101`, so one that has only decimal digits isn't compared."""
+    kind, _, rev = wanted.reference.partition("=")
+    is_commit = kind == "rev" and COMMIT.fullmatch(rev) is not None and not rev.isdecimal()
+    commit = text.partition("#")[2]
+    return wanted.kind == GIT and is_commit and bool(commit) and not commit.startswith(rev)
 
 
 def registry_at(index: str) -> Source:

@@ -18,6 +18,7 @@ from semver_parser import Dialect
 from ..directories import named_below
 from ..files import Entry, WrongShape, toml_object
 from ..findings import (
+    AnotherCommit,
     AnotherSource,
     Finding,
     Missing,
@@ -39,6 +40,7 @@ from .packages import Lock, key_of
 from .patches import patch_findings
 from .project import Workspace
 from .resolution import Match, Resolution
+from .sources import is_other_commit
 
 LOCK_FILE = "Cargo.lock"
 
@@ -68,10 +70,12 @@ class CargoScheme(Scheme):
         met = self.resolution.is_met(dependency, found)
         if met is None or not met:
             return INVALID_RANGE if met is None else UNSATISFIED
-        if self.resolution.is_source(dependency, found):
-            return RIGHT
         source = dependency.source.text(self.resolution.project.folder)
-        return Verdict(AnotherSource, printed=source)
+        if not self.resolution.is_source(dependency, found):
+            return Verdict(AnotherSource, printed=source)
+        if is_other_commit(dependency.source, found.source):
+            return Verdict(AnotherCommit, printed=source)
+        return RIGHT
 
 
 class Reader:
@@ -241,7 +245,9 @@ class Cargo(Tool):
 
     def advise(self, finding: Finding) -> None:
         """Adds advice to a finding about a package at a path with another version: its manifest or
-        another one has to change."""
+        another one has to change; and about another commit, which the command leaves as it is."""
+        if isinstance(finding, AnotherCommit):
+            finding.advised(f"run cargo update {finding.requirement.name}", False)
         if isinstance(finding, Unsatisfied) and finding.found and not finding.found.source:
             finding.advised("change the version of the package, or what is required of it", True)
 

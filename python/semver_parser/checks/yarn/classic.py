@@ -52,7 +52,6 @@ from ..node.specifiers import (
     alias_of,
     directory_at,
     is_elsewhere,
-    may_overlap,
     name_and_rest,
     verdict_on,
 )
@@ -196,17 +195,18 @@ class Reader:
             others += requirements_of(package, self.lock.requirer(package))
         return own & {(it.name, it.specifier) for it in others}
 
-    def is_contradicted(self, it: Requirement) -> bool:
-        """Returns whether no version satisfies both a requirement and a resolution for it."""
+    def has_other_resolution(self, it: Requirement) -> bool:
+        """Returns whether a resolution for a requirement doesn't say the same."""
         specs = (each.spec for each in self.resolved_for(it) if is_taken(each.spec))
-        return any(not may_overlap(it.specifier, spec) for spec in specs)
+        return any(spec != it.specifier for spec in specs)
 
     def compared(self, stated: List[Requirement], shared: Shared) -> Iterator[Requirement]:
         """Yields what the project and its workspaces require, with what to change if a resolution
-        contradicts something shared: yarn then writes a lock file that it rejects."""
+        doesn't say the same as something shared. yarn then takes the newest version for each of the
+        two, and rejects the lock file that it wrote unless that is the same one."""
         for it in stated:
             is_shared = it.requirer.name == PROJECT and (it.name, it.specifier) in shared
-            is_wrong = is_shared and self.is_contradicted(it)
+            is_wrong = is_shared and self.has_other_resolution(it)
             yield it._replace(stated=AGREE) if is_wrong else it
 
     def of_resolutions(self, stated: List[Requirement], shared: Shared) -> Iterator[Requirement]:

@@ -73,7 +73,7 @@ class YarnTool(Tool):
         """Returns the package.json files of a project, and the resolutions of its own."""
         project, path = project_beside(file), manifest_path(file, file.directory)
         with taking(path or "", MANIFEST):
-            return project, resolutions_of(project.top)
+            return project, resolutions_of(project.top, self.is_berry)
 
     def lock_of(self, file: Input) -> YarnFile:
         """Returns the packages of a lock file."""

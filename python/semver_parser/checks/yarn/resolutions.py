@@ -1,7 +1,7 @@
 """The resolutions in a package.json of yarn, which replace the requirements of packages."""
 
 import re
-from typing import Dict, Iterable, List, NamedTuple, Tuple
+from typing import Any, Dict, Iterable, List, NamedTuple, Tuple
 
 from ..files import Entry, texts_at
 from ..node.specifiers import name_and_rest
@@ -25,10 +25,19 @@ Resolutions = Dict[str, Dict[Tuple[str, str, str], List[Resolution]]]
 requirer, its place, and the specifier. Each of these is empty if it may be any."""
 
 
-def resolutions_of(manifest: Entry) -> Resolutions:
+def by_key(value: Any) -> Dict[str, str]:
+    """Returns the resolutions of yarn 1 by their keys. A list has its indices as keys, and what is
+    neither a list nor an object has no resolutions. `null` and `false` accept every version."""
+    listed = dict(enumerate(value)) if isinstance(value, list) else value
+    found = listed.items() if isinstance(listed, dict) else ()
+    return texts_at({str(key): text or "" for key, text in found}, "resolutions")
+
+
+def resolutions_of(manifest: Entry, is_berry: bool) -> Resolutions:
     """Returns the resolutions of a package.json. A step with `*` may be any package."""
     resolutions: Resolutions = {}
-    texts = texts_at(manifest.get("resolutions", {}), "resolutions")
+    value = manifest.get("resolutions", {})
+    texts = texts_at(value, "resolutions") if is_berry else by_key(value)
     for number, (path, spec) in enumerate(texts.items()):
         *outer, last = STEP.findall(path) or [path]
         name, within = name_and_rest(last)
