@@ -187,8 +187,7 @@ advised() {
 advised monorepo/package-lock.json 'change the version of the package, or what is required of it'
 advised overrides-conflict/package-lock.json 'have the override and the requirement say the same'
 advised hiding/newer/package-lock.json 'remove it, and have npm write it without the old one'
-advised peers-conflict/package-lock.json 'run npm install in cases/peers-conflict' \
-    'run npm install; if npm keeps a mismatched peer, change what requires the package'
+advised peers-conflict/package-lock.json 'have the requirement and the peer agree, or set legacy-peer-deps=true in .npmrc'
 ! has_toml || advised cargo-lock/conflicts/Cargo.lock 'correct the manifests: no lock file is right for them'
 ! has_toml || advised cargo-lock/checksums/Cargo.lock 'remove the checksum, and have it written anew'
 repaired monorepo/web/yarn.lock 'yarn install'

@@ -8,6 +8,10 @@ from .reports import Report
 from .wording import quoted
 
 
+COMMAND = "run "
+"""How an advice begins that names a command. It isn't printed if something makes commands fail."""
+
+
 def command_for(report: Report) -> Optional[str]:
     """Returns the command that repairs the findings about a lock file. Returns None if it repairs
     none of them, or if one makes it fail."""
@@ -25,5 +29,8 @@ def repair_lines(report: Report) -> Iterator[str]:
         where = f" in {quoted(directory)}" if directory else ""
         yield f"to repair {report.name}, run {command}{where}"
     if report.tool is not None and report.tool.repair:
-        advice = (it.advice for it in report.listed if not (it.is_note or it.excuse))
-        yield from (f"to repair {report.name}, {it}" for it in dict.fromkeys(advice) if it)
+        wrong = [it for it in report.listed if not (it.is_note or it.excuse)]
+        is_blocked = any(it.is_blocking for it in wrong)
+        for advice in dict.fromkeys(it.advice for it in wrong if it.advice):
+            if not (is_blocked and advice.startswith(COMMAND)):
+                yield f"to repair {report.name}, {advice}"
