@@ -306,9 +306,8 @@ refused_manifest "the file isn't an object" '[]'
 refused_manifest "dependencies isn't an object" '{"dependencies": []}'
 refused_manifest "devDependencies: a isn't a text" '{"devDependencies": {"a": 1}}'
 refused_manifest "peerDependenciesMeta: a isn't an object" '{"peerDependenciesMeta": {"a": true}}'
-refused_manifest "overrides isn't an object" '{"overrides": ["numbers"]}'
-refused_manifest "overrides: a: b isn't an object" '{"overrides": {"a": {"b": 1}}}'
-refused_manifest "overrides: a: . isn't a text" '{"overrides": {"a": {".": null}}}'
+refused_manifest 'overrides: a is null' '{"overrides": {"a": null}}'
+refused_manifest "overrides: a: . isn't a text" '{"overrides": {"a": {".": 1}}}'
 refused_manifest 'overrides:  names no package' '{"overrides": {"": "1.0.0"}}'
 cp -R cases/workspaces "$work/workspaces" && echo '[]' > "$work/workspaces/packages/a/package.json"
 refused "$told $work/workspaces/packages/a/package.json: it is no package.json: the file isn't an object" /dev/null \

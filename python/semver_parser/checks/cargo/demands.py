@@ -22,8 +22,10 @@ ADVICE = "remove the checksum, and have it written anew"
 def checksum_findings(lock: Lock) -> Iterator[Finding]:
     """Yields the findings about packages of registries without a valid checksum, and about others
     with one. Cargo writes no checksums for a registry that has none. So one is missing only if
-    another package of the same registry has one."""
+    another package of the same registry has one, or in the first form of the file, which has
+    `<none>` then."""
     with_checksums = {it.source for it in lock.packages if FIELD in it.entry}
+    sums = lock.sums
     for package in lock.packages:
         is_of_registry = bool(package.source) and source_of(package.source).kind != GIT
         checksum = package.entry.get(FIELD)
@@ -32,9 +34,16 @@ def checksum_findings(lock: Lock) -> Iterator[Finding]:
             yield WrongChecksum(package, "", what).advised(ADVICE, True)
         elif is_of_registry and checksum is None and package.source in with_checksums:
             yield WrongChecksum(package, "", "no checksum")
+        elif is_of_registry and sums is not None and key_in_sums(package) not in sums:
+            yield WrongChecksum(package, "", "no checksum")
         elif is_of_registry and checksum is not None and not is_checksum(checksum):
             what = f"the invalid checksum {checksum}"
             yield WrongChecksum(package, "", what).advised(ADVICE, True)
+
+
+def key_in_sums(package: Package) -> str:
+    """Returns the key of the checksum of a package in the first form of the file."""
+    return f"checksum {package.name} {package.version} ({package.source})"
 
 
 def is_checksum(value: object) -> bool:

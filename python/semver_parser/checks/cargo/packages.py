@@ -7,8 +7,8 @@ from ..files import Entry, WrongShape, list_at, object_at, text_at
 from ..model import Package
 from .sources import PATH, Source, is_from, locked_source
 
-# The newest form of the file that cargo 1.95 reads.
-NEWEST = 4
+# The forms of the file that cargo 1.95 reads, besides those without a version.
+VERSIONS = (3, 4)
 
 PackageKey = Tuple[str, str, str]
 
@@ -38,8 +38,8 @@ class Lock:
     Cargo doesn't ignore."""
 
     def __init__(self, lock: Entry, place: Place) -> None:
-        version = lock.get("version", NEWEST)
-        if not isinstance(version, int) or version > NEWEST:
+        version = lock.get("version", VERSIONS[-1])
+        if type(version) is not int or version not in VERSIONS:
             raise WrongShape(f": version {version} isn't known")
         self.place = place
         # Cargo.lock files from before 2017 have the package itself in a table of its own.
@@ -51,6 +51,7 @@ class Lock:
         self.unused = [package_of(it, "patch: unused") for it in unused]
         for several in (self.packages, self.unused):
             refuse_twice(several)
+        self.sums = sums_of(lock, self.packages)
         self.by_name: Dict[str, List[Package]] = {}
         for package in self.packages:
             if not self.is_gone(package):
@@ -86,6 +87,17 @@ class Lock:
             elif len({it.version for it in found}) == 1:
                 found = [it for it in found if self.directory_of(it) is not None] or found
             yield Edge(name, version, found[0] if len(found) == 1 else None)
+
+
+def sums_of(lock: Entry, packages: List[Package]) -> Optional[Entry]:
+    """Returns the checksums of a lock file in the first form, which has them in a table of its own.
+    In this form, each edge has the version of its package, and its source, if that has one. Returns
+    None for a file in a later form."""
+    own = {(it.name, it.version) for it in packages if not it.source}
+    texts = (text for it in packages for text in depends_of(it.entry, it.name or ""))
+    are_whole = all(text.count(" ") > 1 or tuple(text.split(" ")) in own for text in texts)
+    is_later = "version" in lock or any("checksum" in it.entry for it in packages)
+    return object_at(lock.get("metadata", {}), "metadata") if are_whole and not is_later else None
 
 
 def package_of(value: object, where: str) -> Package:

@@ -11,7 +11,12 @@ from ..files import Entry, WrongShape
 from ..satisfaction import is_version
 
 EDITIONS, RESOLVERS = ("2015", "2018", "2021", "2024"), ("1", "2", "3")
+
+# The minor version of Rust from which on there is an edition.
+OLDEST = {"2018": 31, "2021": 56, "2024": 85}
+
 NAME = re.compile(r"[^\W\d][\w-]*")
+RUST_VERSION = re.compile(r"(?:0|[1-9][0-9]{0,8})(?:\.(?:0|[1-9][0-9]{0,8})){0,2}")
 
 # A setting of a `cfg(..)`, whose text is left out, and an expression of settings.
 SETTING = r'(?:r#|(?!(?:all|any|not)\b))[A-Za-z_]\w*(?: *= *"")? *'
@@ -42,11 +47,22 @@ def wrong_in_package(package: Entry, directory: str) -> Iterator[str]:
     if edition is not None and not isinstance(edition, dict) and edition not in EDITIONS:
         yield f"edition {edition} is unknown"
     has_build = "build" in package or os.path.isfile(os.path.join(directory, "build.rs"))
+    oldest = package.get("rust-version")
+    if isinstance(oldest, str) and not RUST_VERSION.fullmatch(oldest.strip()):
+        yield f"rust-version {oldest} is invalid"
+    elif isinstance(oldest, str) and is_below(oldest, OLDEST.get(str(edition), 0)):
+        yield f"rust-version {oldest} is too low for edition {edition}"
     if "links" in package and not has_build:
         yield "links is there without a build script"
     named = package.get("workspace")
     if isinstance(named, str) and not os.path.isfile(os.path.join(directory, named, "Cargo.toml")):
         yield f"workspace {named} isn't there"
+
+
+def is_below(rust: str, minor: int) -> bool:
+    """Returns whether a version of Rust is below 1 with a minor version."""
+    parts = [*map(int, rust.split(".")), 0]
+    return (parts[0], parts[1]) < (1, minor)
 
 
 def wrong_in_workspace(entry: Entry, package: Entry) -> Iterator[str]:

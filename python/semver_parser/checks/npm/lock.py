@@ -5,6 +5,7 @@ project, and it is empty for the project itself.
 """
 
 import posixpath
+import re
 from functools import lru_cache
 from typing import Dict, Iterator, List, Optional, Set, Tuple
 
@@ -19,6 +20,9 @@ Packages = Dict[str, Entry]
 KINDS_OF_EACH = (PEERS, "dependencies", "optionalDependencies")
 KINDS_OF_TOPS = (*KINDS_OF_EACH, "devDependencies")
 ACCEPTED = "acceptDependencies"
+
+# A lockfileVersion, which may be a text. npm has written 1 to 3, and reads the others as 3.
+VERSION = re.compile(r"[1-9][0-9]?")
 WORKSPACES = "workspaces"
 OF_MANIFEST = ("name", "version", "workspaces", *KINDS_OF_TOPS, "peerDependenciesMeta", ACCEPTED)
 
@@ -88,17 +92,23 @@ def packages_of(lock: Entry, manifest: Optional[Entry]) -> Packages:
     """Returns the packages of a lock file, in its order. What the project itself requires comes
     from its package.json, if that is there, and otherwise from the lock file. A lock file of
     lockfileVersion 1 doesn't have it."""
-    version = lock.get("lockfileVersion")
-    if version not in (1, 2, 3) or type(version) is not int:
-        raise WrongShape(" of lockfileVersion 1, 2 or 3")
-    if version == 1:
+    if has_old_form(lock):
         project = {"version": lock["version"]} if "version" in lock else {}
         packages = {"": project, **dict(packages_inside(lock, ""))}
     else:
-        packages = dict(objects_at(lock.get("packages"), "packages"))
+        packages = dict(objects_at(lock.get("packages", {"": {}}), "packages"))
     if manifest is not None:
         packages[""] = with_manifest(packages.get("", {}), manifest)
     return packages
+
+
+def has_old_form(lock: Entry) -> bool:
+    """Returns whether a lock file has its packages as lockfileVersion 1 does, under `dependencies`.
+    As for npm, `packages` count if they are there, whatever the lockfileVersion is."""
+    version = str(lock.get("lockfileVersion"))
+    if not VERSION.fullmatch(version):
+        raise WrongShape(" of npm: it has no lockfileVersion from 1 on")
+    return "packages" not in lock and (version == "1" or "dependencies" in lock)
 
 
 def with_manifest(entry: Entry, manifest: Entry) -> Entry:
@@ -152,6 +162,7 @@ def modern_entry(old: Entry, place: str) -> Entry:
     """Returns a package of lockfileVersion 1 in the form of lockfileVersion 2 and 3. If it comes
     from an archive of a registry, it has the version in the file name."""
     entry: Entry = {"inBundle": old.get("bundled", False), "dev": old.get("dev", False)}
+    entry["integrity"] = old.get("integrity")
     requires = old.get("requires", {})
     if not isinstance(requires, bool):
         entry["dependencies"] = texts_at(requires, f"{place}: requires")

@@ -18,7 +18,8 @@ have none.
 from bisect import bisect_left, insort
 from dataclasses import dataclass, field
 from functools import cached_property
-from typing import Dict, Iterator, List, Optional, Set, Tuple
+from itertools import count
+from typing import Any, Dict, Iterator, List, Optional, Set, Tuple
 
 from semver_parser import Dialect, Range
 
@@ -180,9 +181,18 @@ def is_git_without_range(spec: str) -> bool:
 def rules_of(manifest: Entry) -> Rule:
     """Returns the rules of a package.json, inside an outermost rule without a name."""
     outermost = Rule()
-    overrides = object_at(manifest.get("overrides", {}), "overrides")
-    add_rules(outermost, overrides, "overrides", manifest)
+    overrides = manifest.get("overrides") or {}
+    add_rules(outermost, inner_overrides(overrides, "overrides"), "overrides", manifest)
     return outermost
+
+
+def inner_overrides(value: Any, where: str) -> Entry:
+    """Returns the overrides in a value by their keys. As for npm, a list has its indices as keys,
+    and a text, a number and `true` have none inside."""
+    if value is None:
+        raise WrongShape(f": {where} is null")
+    listed = dict(zip(map(str, count()), value)) if isinstance(value, list) else value
+    return listed if isinstance(listed, dict) else {}
 
 
 def add_rules(outer: Rule, overrides: Entry, where: str, manifest: Entry) -> None:
@@ -191,11 +201,12 @@ def add_rules(outer: Rule, overrides: Entry, where: str, manifest: Entry) -> Non
         if key != ".":
             its_place = f"{where}: {key}"
             name, within = name_and_range(key, its_place)
-            own = value if isinstance(value, str) else object_at(value, its_place).get(".", within)
-            text = text_at(own, f"{its_place}: .") or ANY
+            inner = inner_overrides(value, its_place)
+            own = value if isinstance(value, str) else inner.get(".", within)
+            text = text_at(within if own is None else own or ANY, f"{its_place}: .")
             rule = Rule(name, within, text, replacement(text, manifest), outer, key)
             outer.inner.append(rule)
-            add_rules(rule, {} if isinstance(value, str) else value, its_place, manifest)
+            add_rules(rule, inner, its_place, manifest)
 
 
 def name_and_range(key: str, where: str) -> Tuple[str, str]:

@@ -48,6 +48,8 @@ from ..model import (
     Scope,
 )
 from ..node.archives import archive_at
+from ..node.integrity import FIELD as INTEGRITY
+from ..node.integrity import checksum_findings
 from ..node.npmrc import LEGACY_PEERS, STRICT_PEERS, is_set
 from ..node.package_json import (
     MANIFEST,
@@ -76,6 +78,7 @@ from .leaving import Leaving
 from .lock import (
     WORKSPACES,
     Packages,
+    has_old_form,
     is_left_out,
     is_linked,
     is_of_what_is_there,
@@ -288,11 +291,11 @@ NPM = Npm()
 
 
 def lock_of(file: Input) -> Entry:
-    """Returns the object in a lock file. As for npm, an npm-shrinkwrap.json without lockfileVersion
-    is one of lockfileVersion 1."""
+    """Returns the object in a lock file. As for npm, a file with the name of a lock file that has no
+    lockfileVersion is one of lockfileVersion 1."""
     lock = file.json
-    is_old = os.path.basename(file.path) == NPM.lock_files[1] and "lockfileVersion" not in lock
-    return {"lockfileVersion": 1, **lock} if is_old else lock
+    is_named = os.path.basename(file.path) in (*NPM.lock_files, HIDDEN)
+    return {"lockfileVersion": 1, **lock} if is_named else lock
 
 
 def manifest_and_rules(path: Optional[str]) -> Tuple[Optional[Entry], Rule]:
@@ -319,7 +322,7 @@ class Reader:
     ) -> None:
         self.directory, self.manifest, self.rules, self.scope = directory, manifest, rules, scope
         self.packages, self.left_out = packages_of(lock, manifest), 0
-        self.is_old = lock["lockfileVersion"] == 1
+        self.is_old = has_old_form(lock)
         self.from_lock = read_links(self.packages, directory)
         self.workspaces = workspaces_of(self.packages, directory, manifest is not None)
         if scope != Scope():
@@ -352,7 +355,9 @@ class Reader:
             package = None if entry.get("link") else self.found[place]
             resolved = entry.get("resolved")
             is_plain = package is None or is_own_archive(package, resolved)
-            own = () if package is None or is_plain else archive_findings(package, resolved)
+            own = [] if package is None or is_plain else list(archive_findings(package, resolved))
+            if package is not None:
+                own += checksum_findings(package, entry.get(INTEGRITY), False)
             required = self.required[place]
             if not place:
                 required = [it for it in required if it.kind != WORKSPACES]

@@ -35,6 +35,8 @@ from ..findings import (
 from ..judge import INVALID_RANGE, RIGHT, UNSATISFIED, Verdict
 from ..model import PEERS, PROJECT, LockFile, Node, Package, Requirement, Requirer
 from ..node.archives import archive_at, without_build
+from ..node.integrity import FIELD as INTEGRITY
+from ..node.integrity import checksum_findings
 from ..node.package_json import (
     KINDS,
     MANIFEST,
@@ -62,6 +64,7 @@ from .family import YarnScheme, YarnTool
 from .lock import YarnFile, bare, own_name, requirements_of
 from .resolutions import Resolution, Resolutions, resolutions_for
 from .roots import has_workspaces, is_of_yarn_1, root_around
+from .yarnrc import WORKSPACES_SETTING, is_off
 
 TRIVIAL = ("", "*")
 
@@ -73,6 +76,9 @@ AGREE = "have the resolution and the requirement say the same"
 
 # What to change if a directory is gone.
 GONE = "put the directory there, or remove what requires it"
+
+# What to change if workspaces are turned off.
+WITHOUT = "remove the setting, or the workspaces"
 
 
 Shared = Set[Tuple[str, str]]
@@ -175,8 +181,10 @@ class Reader:
     # ---- what the project requires
 
     def stated(self) -> Iterator[Requirement]:
-        """Yields what the project and its workspaces require, except for each other."""
-        versions = {name: version_in(it) for name, it in self.project.by_name().items()}
+        """Yields what the project and its workspaces require, except for workspaces. The project
+        isn't one of these: if it requires its own name, yarn takes that from the registry."""
+        workspaces = (it for place, it in self.project.manifests.items() if place != TOP)
+        versions = {name_in(it): version_in(it) for it in workspaces}
         for directory, manifest in self.project.manifests.items():
             for it in requirements_in(manifest, requirer_of(directory)):
                 version, spec = versions.get(it.name), specifier_in(manifest, it)
@@ -265,13 +273,16 @@ class Reader:
                 if not os.path.isdir(os.path.join(self.project.directory or "", path or "")):
                     yield Missing(it).advised(GONE, True)
 
-    def not_private(self) -> Iterator[Finding]:
-        """Yields the finding about a project that has workspaces and isn't private, which yarn
-        rejects."""
+    def wrong_workspaces(self) -> Iterator[Finding]:
+        """Yields the findings about a project that has workspaces and isn't private, or whose
+        .yarnrc turns workspaces off, which yarn rejects."""
         top = self.project.top
         patterns = patterns_in(top.get("workspaces", []), "workspaces")
-        if patterns and not top.get("private"):
-            package = Package(name_in(top), None, PROJECT, is_own=True)
+        package = Package(name_in(top), None, PROJECT, is_own=True)
+        if patterns and is_off(self.project.directory, WORKSPACES_SETTING):
+            what = f"has workspaces, and {WORKSPACES_SETTING} is false in .yarnrc"
+            yield OwnConflict(package, "", what).advised(WITHOUT, True)
+        elif patterns and not top.get("private"):
             yield OwnConflict(package, "", "has workspaces, and is not private")
 
     def lock_file(self, file: Input) -> LockFile:
@@ -287,7 +298,7 @@ class Reader:
         shown = [it for it in stated if file.scope.has(it.kind)]
         dropped = self.dropped(shown, reached) if self.resolutions else ()
         lock.nodes = [Node(None, lock.scoped(outside, file.scope)), Node(findings=dropped)]
-        lock.nodes.append(Node(findings=[*self.gone_directories(shown), *self.not_private()]))
+        lock.nodes.append(Node(findings=[*self.gone_directories(shown), *self.wrong_workspaces()]))
         for it in map(self.lock.keyed, reached):
             lock.nodes.append(Node(it, self.required_by(it), archive_findings(it)))
         return lock
@@ -331,8 +342,9 @@ def is_taken(spec: str) -> bool:
 
 
 def archive_findings(package: Package) -> Iterator[Finding]:
-    """Yields the findings about a package whose archive at a registry is that of another
-    version."""
+    """Yields the findings about a package whose archive at a registry is that of another version,
+    or whose checksum can't be right."""
+    yield from checksum_findings(package, package.entry.get(INTEGRITY), True)
     url = package.source.partition("#")[0]
     archive = archive_at(url) if own_name(package.entry) is not None else None
     version = without_build(package.version or "")
