@@ -13,7 +13,13 @@ from semver_parser.checks.cargo.demands import is_reached
 from semver_parser.checks.cargo.sources import GIT, Source, is_other_commit
 from semver_parser.checks.cargo.validity import is_target, refuse_invalid
 from semver_parser.checks.files import WrongShape, toml_object
-from semver_parser.checks.findings import CLASSES, NotChecked, Overridden, Unsatisfied
+from semver_parser.checks.findings import (
+    CLASSES,
+    NotChecked,
+    Overridden,
+    Unreached,
+    Unsatisfied,
+)
 from semver_parser.checks.judge import Scheme, Verdict
 from semver_parser.checks.locating import (
     DEPENDENCIES,
@@ -23,6 +29,7 @@ from semver_parser.checks.locating import (
     yaml_offsets,
 )
 from semver_parser.checks.model import (
+    NOT_REACHED,
     Locked,
     LockFile,
     Node,
@@ -96,12 +103,18 @@ class Judge(unittest.TestCase):
         self.assertEqual(sentences(required("^1.0.0", "1.0.0", locked=gone)), [wrong])
 
     def test_what_only_counts_if_all_else_is_right(self) -> None:
-        extra = Unsatisfied(required("1", "2.0.0"), None, "1")
-        for version, count in (("1.0.0", 1), ("3.0.0", 1)):
+        for version, excuses in (("1.0.0", [""]), ("3.0.0", ["", NOT_REACHED])):
+            extra = Unreached(Package("other", "1.0.0"))
             lock = LockFile([Node(None, [required("^1.0.0", version)])], if_right=lambda: [extra])
             found = judge.judge(lock, NodeScheme()).findings
-            self.assertEqual(len(found), count)
-            self.assertEqual(found[0] is extra, version == "1.0.0")
+            self.assertEqual([it.excuse for it in found], excuses)
+            self.assertIs(found[-1], extra)
+
+    def test_what_is_not_reached_is_said(self) -> None:
+        lock = LockFile([], unreached=[Package("other", "1.0.0")])
+        [found] = judge.judge(lock, NodeScheme()).findings
+        self.assertEqual(found.sentence(), "other 1.0.0 is there, but nothing requires it")
+        self.assertEqual(found.excuse, NOT_REACHED)
 
     def test_the_scope_leaves_requirements_out(self) -> None:
         lock = LockFile([])

@@ -78,7 +78,8 @@ for rule in driver["rules"]:
 assert driver["name"] == "check-lock-file" and run["invocations"] == [{"executionSuccessful": False}], run
 for it in run["results"]:
     assert rules[it["ruleIndex"]] == it["ruleId"] and it["partialFingerprints"]["primaryLocationLineHash"], it
-    assert it["level"] == ("note" if it["ruleId"] == "not-checked" else "error"), it
+    is_note = it["ruleId"] in ("not-checked", "not-required")
+    assert it["level"] == ("note" if is_note else "error"), it
     [location] = it["locations"]
     place = location["physicalLocation"]
     line = place["region"]["startLine"]
@@ -211,7 +212,7 @@ for name in cargo/made.json nothing-wrong.json; do
     ! $check cases/$name 2>&1 > /dev/null | grep '^to repair' || exit 1
 done
 $check cases/monorepo cases/cut-off.json 2>&1 > /dev/null | tail -n 1 > "$work/output" || :
-echo 'total: 4 requirements of 3 packages in 3 files; 4 findings; 1 error' | diff -u - "$work/output"
+echo 'total: 4 requirements of 2 packages in 3 files; 1 not reached; 4 findings; 1 error' | diff -u - "$work/output"
 ! $check --quiet cases/monorepo 2>&1 > /dev/null | grep . || exit 1
 echo 'sums: passed'
 
@@ -429,8 +430,7 @@ sed -n 's/^package-lock.json: //p' "$work/lines" > "$work/fields"
 same 'a manifest' 1 /dev/null "$work/fields" /dev/null sh -c 'cd cases/monorepo && exec "$1" --quiet packages/b/package.json' - "$here/$check"
 mkdir -p "$work/library/inner" && git init -q "$work/library" && cp cases/nothing-wrong.json "$work/package-lock.json"
 echo '{}' > "$work/library/inner/package.json"
-echo "$work/library/inner/package.json: no lock file is for it" > "$work/told"
-same 'a manifest without a lock file' 0 /dev/null /dev/null "$work/told" $check "$work/library/inner/package.json"
+refused "check-lock-file: $work/library/inner/package.json: no lock file is for it" /dev/null $check "$work/library/inner/package.json"
 rm "$work/package-lock.json"
 refused "check-lock-file: $work/gone/package.json: it can't be read: No such file or directory" /dev/null $check "$work/gone/package.json"
 if has_toml; then
@@ -448,11 +448,18 @@ same 'npm-shrinkwrap.json beside package-lock.json' 0 /dev/null /dev/null "$work
 mkdir -p "$work/leftover/packages/b"
 cp cases/monorepo/package.json cases/monorepo/package-lock.json "$work/leftover"
 for name in package.json package-lock.json; do cp "cases/monorepo/packages/b/package.json" "$work/leftover/packages/b/$name"; done
-echo 'packages/b/package-lock.json: left out, since it is in a workspace of .' > "$work/told"
-for path in packages/b packages/b/package-lock.json; do
-    same "a package-lock.json in a workspace, by $path" 0 /dev/null /dev/null "$work/told" \
+# in_leftover STATUS PATH LINE..: checks a path there, and compares the lines on standard error.
+in_leftover() {
+    wanted=$1 path=$2
+    shift 2
+    printf '%s\n' "$@" > "$work/told"
+    same "a package-lock.json in a workspace, by $path" "$wanted" /dev/null /dev/null "$work/told" \
         sh -c 'cd "$1" && exec "$2" "$3"' - "$work/leftover" "$here/$check" "$path"
-done
+}
+left_out='packages/b/package-lock.json: left out, since it is in a workspace of .'
+in_leftover 2 packages/b "$left_out" 'check-lock-file: packages/b: none of its lock files is checked'
+in_leftover 2 packages/b/package-lock.json \
+    "check-lock-file: packages/b/package-lock.json: it isn't checked, since it is in a workspace of ."
 refused "check-lock-file: --package-json is for exactly one file; see check-lock-file --help" /dev/null \
     $check --package-json cases/stale/package.json cases/stale
 refused "check-lock-file: --package-json is for exactly one file; see check-lock-file --help" /dev/null \

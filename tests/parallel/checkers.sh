@@ -101,11 +101,13 @@ if python3 -c 'import tomllib' 2> /dev/null; then
     checked_as_named 1 toml-1.1
     checked_as_named 2 another-shape
     cp -R cases/cargo-lock/right "$work/right" && cp "$work/right/Cargo.lock" "$work/right/app"
-    for path in app/Cargo.lock app; do
-        echo 'app/Cargo.lock: left out, since Cargo reads Cargo.lock' > "$work/note"
-        same "a Cargo.lock in a member, by $path" 0 /dev/null /dev/null "$work/note" \
-            sh -c 'cd "$1" && exec "$2" "$3"' - "$work/right" "$PWD/$check" "$path"
-    done
+    echo "check-lock-file: app/Cargo.lock: it isn't checked, since Cargo reads Cargo.lock" > "$work/note"
+    same 'a Cargo.lock in a member' 2 /dev/null /dev/null "$work/note" \
+        sh -c 'cd "$1" && exec "$2" app/Cargo.lock' - "$work/right" "$PWD/$check"
+    printf '%s\n' 'app/Cargo.lock: left out, since Cargo reads Cargo.lock' \
+        'check-lock-file: app: none of its lock files is checked' > "$work/note"
+    same 'a member with a Cargo.lock' 2 /dev/null /dev/null "$work/note" \
+        sh -c 'cd "$1" && exec "$2" app' - "$work/right" "$PWD/$check"
     printf 'a = {\n    b = 1, # c\n}\nd\n' > "$work/right/Cargo.toml"
     refused "check-lock-file: $work/right/Cargo.toml: it isn't TOML: Expected '=' after a key in a key/value pair (at line 4, column 2)" \
         /dev/null $check "$work/right/Cargo.lock"
@@ -164,9 +166,9 @@ checked 0 yarn/berry-right/yarn.lock
 checked 1 yarn/berry/yarn.lock
 checked 1 yarn/berry/yarn.lock --strict
 for name in resolution resolutions contradicted keys stale stale-berry workspaces-berry gone; do checked 1 "yarn/$name/yarn.lock"; done
-for name in asked not-required; do checked 0 "yarn/$name/yarn.lock"; done
+checked 0 yarn/asked/yarn.lock
 checked 1 yarn/asked/yarn.lock --strict
-for name in cut-off one-name; do checked 2 "yarn/$name/yarn.lock"; done
+for name in cut-off one-name not-required; do checked 2 "yarn/$name/yarn.lock"; done
 if python3 -c 'import yaml' 2> /dev/null; then
     for version in 5 6 9; do
         checked 0 "pnpm/right-$version.yaml"

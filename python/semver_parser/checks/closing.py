@@ -39,6 +39,11 @@ def parts_of(report: Report) -> List[str]:
         each = sorted(reasons.items(), key=lambda it: (-it[1], it[0]))
         listed = ", ".join(counted(count, *REASONS[reason]) for reason, count in each)
         parts.append(f"{sum(reasons.values()):,} not checked: {listed}")
+    not_reached = report.not_reached()
+    if not_reached:
+        packages = counted(not_reached, "package", "packages")
+        them = "it" if not_reached == 1 else "them"
+        parts.append(f"{packages} not reached, since nothing requires {them}")
     if report.left_out:
         parts.append(f"{report.left_out:,} left out")
     if report.allowed:
@@ -68,6 +73,8 @@ def total_line(results: Results) -> str:
     parts = [f"total: {checked} of {packages} in {files}"]
     not_checked = sum(sum(it.not_checked().values()) for it in reports)
     parts += [f"{not_checked:,} not checked"] if not_checked else []
+    not_reached = sum(it.not_reached() for it in reports)
+    parts += [f"{not_reached:,} not reached"] if not_reached else []
     parts.append(counted(listed, "finding", "findings"))
     errors = len(results.reports) - len(reports) + len(results.refusals)
     if errors:
@@ -85,6 +92,6 @@ def error_of(report: Report) -> Optional[Refusal]:
 def unchecked_line(report: Report) -> str:
     """Returns why it is an error that nothing was checked."""
     requirements = counted(report.requirements, "requirement", "requirements")
-    packages = counted(report.packages, "package", "packages")
+    packages = counted(report.packages + report.not_reached(), "package", "packages")
     first = f"nothing was checked of {requirements} and {packages} ({report.tool_name})"
     return "; ".join([first, *parts_of(report)])

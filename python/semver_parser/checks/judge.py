@@ -19,9 +19,10 @@ from .findings import (
     OfFound,
     Overridden,
     Stale,
+    Unreached,
     Unsatisfied,
 )
-from .model import LockFile, Node, Package, Requirement
+from .model import NOT_REACHED, LockFile, Node, Package, Requirement
 from .satisfaction import is_met, is_version
 
 
@@ -157,6 +158,7 @@ def judge(lock: LockFile, scheme: Scheme) -> Judgement:
                 finding.excused(lock.excuse(finding))
             findings.append(finding)
         requirements += sum(it.found is not None or it.is_counted for it in node.requirements)
-    if not findings:
-        findings += lock.if_right()
+    is_right = not findings
+    findings += (it if is_right else it.excused(NOT_REACHED) for it in lock.if_right())
+    findings += (Unreached(it).excused(NOT_REACHED) for it in lock.unreached)
     return Judgement(findings, requirements)

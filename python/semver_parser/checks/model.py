@@ -21,6 +21,9 @@ from typing import (
 if TYPE_CHECKING:
     from .findings import Finding
 
+NOT_REACHED = "not reached"
+"""The excuse of a finding about a package to which nothing leads, and which the tool ignores."""
+
 PROJECT = "the project"
 """The name of the project itself as a requirer."""
 
@@ -181,10 +184,12 @@ class LockFile:
     - `edges` returns who leads to what, if to anything, by labels, for the paths of `--why`.
     - `stated` returns what the project and its workspaces require, for `--duplicates`.
     - `excuse` returns why the tool leaves what a finding is about as it is, if it does.
-    - `if_right` returns findings that count only if nothing else is listed.
+    - `if_right` returns findings that count only if nothing else is listed. Otherwise they are about
+      packages that aren't reached.
+    - `unreached` are packages to which nothing leads, and which the tool ignores.
     - `scheme` is that of the file, if it isn't that of its tool.
     - `left_out` counts what the scope leaves out, and `from_lock` the workspaces and links whose
-      manifests aren't there. `package_count` is the number of packages in the closing line.
+      manifests aren't there. `package_count` is the number of packages that are reached.
     """
 
     nodes: List[Node]
@@ -193,6 +198,7 @@ class LockFile:
     stated: Callable[[], Iterable[Requirement]] = tuple
     excuse: Callable[["Finding"], str] = no_excuse
     if_right: Callable[[], Iterable["Finding"]] = tuple
+    unreached: Sequence[Package] = ()
     left_out: int = 0
     from_lock: int = 0
     package_count: int = 0

@@ -8,7 +8,7 @@ from .files import STANDARD_INPUT, Refusal, bytes_of, name_of, taking
 from .findings import Finding, Missing
 from .judge import judge
 from .locating import lines_at, statement_lines
-from .model import Keys, LockFile, Scope
+from .model import NOT_REACHED, Keys, LockFile, Scope
 from .paths import Paths
 from .tool import Input, Statement, Tool
 from .tools import tool_for
@@ -76,19 +76,26 @@ class Report:
         """Returns how many requirements aren't checked, for each reason."""
         found: Dict[str, int] = {}
         for it in self.findings:
-            if it.excuse:
+            if it.excuse and it.excuse != NOT_REACHED:
                 reason = Missing.kind if it.kind == Missing.kind else it.excuse
                 found[reason] = found.get(reason, 0) + 1
         return found
+
+    def not_reached(self) -> int:
+        """Returns to how many packages nothing leads."""
+        return sum(it.excuse == NOT_REACHED for it in self.findings)
 
     def checked(self) -> int:
         """Returns how many requirements are checked."""
         return self.requirements - sum(self.not_checked().values())
 
     def is_unchecked(self) -> bool:
-        """Returns whether nothing was checked or listed by default, though something is required
-        outside of the project's own directories. With `--strict` that is an error."""
+        """Returns whether it is an error that nothing was checked or listed by default: the file has
+        packages, but nothing leads to them; or with `--strict`, something is required outside of the
+        project's own directories."""
         is_wrong = any(not it.excuse for it in self.findings)
+        if self.not_reached() and not (self.requirements or self.packages):
+            return not (is_wrong or self.left_out)
         is_required = bool(self.requirements + self.packages)
         reasons = set(self.not_checked())
         is_own = bool(reasons) and reasons <= OWN

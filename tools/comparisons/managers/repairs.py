@@ -54,6 +54,7 @@ def repair(path: Path, tool: Repairs, found: Differences, shown: Dict[str, objec
     command = proposed(path)
     if command is None:
         return
+    causes = {type(it).__name__ for it in listed_in(path) if not it.advice}
     ended = subprocess.run(
         [tool.program, *command.split()[1:], *tool.flags],
         cwd=path.parent, env={**os.environ, **tool.environment},
@@ -78,3 +79,5 @@ def repair(path: Path, tool: Repairs, found: Differences, shown: Dict[str, objec
         found.add("a repair that repairs nothing", {**shown, "left": [it.record for it in listed]})
     else:
         found.count("repairs that repair")
+        for cause in causes:
+            found.count(f"a repair of {cause}")

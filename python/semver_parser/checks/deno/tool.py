@@ -17,7 +17,7 @@ from typing import Any, Dict, Iterator, List, NamedTuple, Optional, Set, Tuple
 from ..files import Entry, Unreadable, list_at, object_at, objects_at, text_at, texts_at
 from ..judge import RIGHT, Verdict
 from ..locating import json_offsets
-from ..model import PROJECT, Keys, LockFile, Node, Package, Requirement, Requirer
+from ..model import PROJECT, Graph, Keys, LockFile, Node, Package, Requirement, Requirer
 from ..node.package_json import MANIFEST
 from ..node.specifiers import NodeScheme, name_and_rest
 from ..tool import Input, Offsets, Tool
@@ -162,7 +162,21 @@ class Reader:
         nodes.append(Node(None, list(self.required())))
         for key, entry in self.packages[NPM].items():
             nodes.append(Node(None, list(self.of_package(key, entry))))
-        return LockFile(nodes, there, self.edges, package_count=len(there))
+        lock = LockFile(nodes, there, self.edges)
+        lock.unreached = self.unreached(there, lock.graph())
+        lock.package_count = len(there) - len(lock.unreached)
+        return lock
+
+    def unreached(self, there: List[Package], graph: Graph) -> List[Package]:
+        """Returns the packages to which no specifier leads."""
+        found: Set[str] = set()
+        left = [PROJECT]
+        while left:
+            at = left.pop()
+            if at not in found:
+                found.add(at)
+                left += graph.get(at, ())
+        return [it for it in there if it.label not in found]
 
 
 def listers_of(who: str, member: Entry, at: Keys) -> Iterator[Lister]:

@@ -344,8 +344,21 @@ class Reader:
         checked = [it for it in places if not is_left_out(places[it], self.scope)]
         if self.manifest is None:
             return checked
-        there = reached(self.required, ["", *self.workspaces.values()])
+        there = self.reached()
         return [it for it in checked if it in there]
+
+    def reached(self) -> Set[str]:
+        """Returns the places to which something leads from the project and its workspaces."""
+        return reached(self.required, ["", *self.workspaces.values()])
+
+    def unreached(self) -> List[Package]:
+        """Returns the packages to which nothing leads. It isn't known which these are without the
+        project's package.json, or if requirements are left out."""
+        if self.manifest is None or self.scope != Scope():
+            return []
+        there = self.reached()
+        entries = self.packages.items()
+        return [self.found[it] for it, entry in entries if it not in there and not entry.get("link")]
 
     def nodes(self, checked: List[str], first: List[Finding]) -> Iterator[Node]:
         """Yields a node for the project as a whole, and one for each place that is checked."""
@@ -402,6 +415,7 @@ class Reader:
             lambda: compared_in((it, packages[it]) for it in packages if is_top(it)),
             self.leaving(reading).excuse,
             left_out=self.left_out,
+            unreached=self.unreached(),
             from_lock=len(self.from_lock.intersection(checked)),
             package_count=len(set(there).intersection(checked)),
         )

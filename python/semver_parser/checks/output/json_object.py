@@ -33,6 +33,7 @@ def report_object(report: Report) -> Object:
         "packages": report.packages,
         "checked": report.checked(),
         "not_checked": report.not_checked(),
+        "not_reached": report.not_reached(),
         "left_out": report.left_out,
         "allowed": report.allowed,
         "from_lock": report.from_lock,

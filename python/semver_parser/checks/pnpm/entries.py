@@ -76,11 +76,31 @@ def depends_of(key: str, entry: Entry) -> Dict[str, str]:
     return {name: text for them in each for name, text in them.items()}
 
 
-def missing_entries(entries: Entries, tops: List[str]) -> Iterator[Finding]:
-    """Yields the findings about packages without an entry, or with only one of its two halves,
-    among those to which some keys lead."""
+def reached_from(entries: Entries, tops: List[str]) -> List[str]:
+    """Returns the keys of the entries to which some keys lead."""
     seen, left = set(tops), list(tops)
     for key in left:
+        for name, text in depends_of(key, entries.snapshots[key]).items():
+            inner = entries.key_of(text, name)
+            if not text.startswith(LINK) and inner in entries.snapshots and inner not in seen:
+                seen.add(inner)
+                left.append(inner)
+    return left
+
+
+def unreached(entries: Entries, reached: List[str]) -> Iterator[Package]:
+    """Yields the packages to which nothing leads."""
+    there = {it for key in reached for it in (key, key.partition("(")[0])}
+    for key in entries.packages:
+        if key not in there:
+            name, version = called_by(key) or (key, "")
+            yield Package(name, version or None, key, ("packages", key))
+
+
+def missing_entries(entries: Entries, reached: List[str]) -> Iterator[Finding]:
+    """Yields the findings about packages without an entry, or with only one of its two halves,
+    among those that are reached."""
+    for key in reached:
         own = key.partition("(")[0]
         name, version = called_by(key) or (own, "")
         if own not in entries.packages and key not in entries.packages:
@@ -89,10 +109,5 @@ def missing_entries(entries: Entries, tops: List[str]) -> Iterator[Finding]:
         at = ("snapshots" if entries.form == "9" else "packages", key)
         for dependency, text in depends_of(key, entries.snapshots[key]).items():
             inner = entries.key_of(text, dependency)
-            if text.startswith(LINK) or inner in seen:
-                continue
-            if inner in entries.snapshots:
-                seen.add(inner)
-                left.append(inner)
-            else:
+            if not text.startswith(LINK) and inner not in entries.snapshots:
                 yield Missing(Requirement(Requirer(name, version, "", at), dependency, text))

@@ -34,7 +34,15 @@ from ..node.specifiers import CATALOG, NodeScheme, may_overlap, name_and_rest, r
 from ..satisfaction import is_met, range_in
 from ..tool import Input, Offsets, Statement
 from . import settings
-from .entries import LINK, Entries, called_by, entries_of, missing_entries
+from .entries import (
+    LINK,
+    Entries,
+    called_by,
+    entries_of,
+    missing_entries,
+    reached_from,
+    unreached,
+)
 from .lock import (
     Catalogs,
     Importer,
@@ -237,15 +245,16 @@ class Reader:
             if importer.required is not None:
                 manifest = self.read(importer.directory) or {}
                 yield Node(findings=field_findings(importer, manifest))
-        tops = keys_from(importers, self.entries)
-        yield Node(findings=missing_entries(self.entries, tops))
+        reached = reached_from(self.entries, keys_from(importers, self.entries))
+        lock.unreached = list(unreached(self.entries, reached))
+        yield Node(findings=missing_entries(self.entries, reached))
         yield from self.package_nodes(lock)
 
     def lock_file(self) -> LockFile:
         """Returns the contents of the document."""
         lock = LockFile([], self.there(), self.edges, self.stated)
-        lock.package_count = len(self.packages)
         lock.nodes = list(self.nodes(lock))
+        lock.package_count = len(self.packages) - len(lock.unreached)
         return lock
 
 
@@ -276,6 +285,7 @@ class Pnpm(NodeTool):
             other = Reader(document, None, file.scope).lock_file()
             lock.nodes = [*other.nodes, *lock.nodes]
             lock.package_count += other.package_count
+            lock.unreached = [*other.unreached, *lock.unreached]
             lock.left_out += other.left_out
         return lock
 

@@ -294,7 +294,9 @@ class Reader:
         outside = [*found, *self.of_resolutions(stated, shared)]
         reached = self.reached(outside) if self.project.manifests else self.lock.packages
         lock = LockFile([], self.lock.own(), lambda: self.edges(outside, reached))
-        lock.package_count, lock.stated = len(lock.packages), lambda: compared_in(self.project.manifests.items())
+        lock.package_count, lock.stated = len(reached), lambda: compared_in(self.project.manifests.items())
+        there = {it.at for it in reached}
+        lock.unreached = [self.lock.keyed(it) for it in self.lock.packages if it.at not in there]
         shown = [it for it in stated if file.scope.has(it.kind)]
         dropped = self.dropped(shown, reached) if self.resolutions else ()
         lock.nodes = [Node(None, lock.scoped(outside, file.scope)), Node(findings=dropped)]
