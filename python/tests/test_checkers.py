@@ -12,6 +12,7 @@ from semver_parser.checks import judge, repository, tools
 from semver_parser.checks.cargo.demands import is_reached
 from semver_parser.checks.cargo.sources import GIT, Source, is_other_commit
 from semver_parser.checks.cargo.validity import is_target, refuse_invalid
+from semver_parser.checks.causes import REPAIRED, advise, untried
 from semver_parser.checks.files import WrongShape, toml_object
 from semver_parser.checks.findings import (
     CLASSES,
@@ -171,6 +172,24 @@ class Locating(unittest.TestCase):
         wanted = {("a",), ("b",)}
         found = lines_at(text, toml_offsets(text, wanted, DEPENDENCIES), wanted)
         self.assertEqual(found, {("a",): 4, ("b",): 5})
+
+
+class Repairs(unittest.TestCase):
+    """A command is named only for what it has repaired."""
+
+    def test_the_record(self) -> None:
+        there = os.path.dirname(os.path.dirname(os.path.dirname(os.path.abspath(__file__))))
+        record = os.path.join(there, "tools", "comparisons", "managers", "repaired")
+        with open(record, encoding="utf-8") as file:
+            lines = file.read().splitlines()
+        table = [f"{tool} {it.__name__}" for tool, each in REPAIRED.items() for it in each]
+        self.assertEqual(sorted(table), sorted(lines))
+
+    def test_what_was_not_tried(self) -> None:
+        for tool, is_named in ((tools.NPM, True), (tools.PNPM, False), (tools.METADATA, True)):
+            finding = Unsatisfied(required("1", "2.0.0"), None, "1")
+            advise(finding, tool)
+            self.assertEqual(finding.advice, "" if is_named else untried(tool))
 
 
 class Commits(unittest.TestCase):

@@ -185,6 +185,10 @@ advised() {
     printf "to repair cases/$file, %s\n" "$@" | diff -u - "$work/errors"
     echo "what to change for $file: passed"
 }
+# untried FILE TOOL COMMAND: compares the line for a file of a tool whose command wasn't run.
+untried() {
+    ! may_read "$1" || advised "$1" "have $2 write it anew; whether $3 does that was not tried"
+}
 advised monorepo/package-lock.json 'change the version of the package, or what is required of it'
 advised overrides-conflict/package-lock.json 'have the override and the requirement say the same'
 advised hiding/newer/package-lock.json 'remove it, and have npm write it without the old one'
@@ -198,10 +202,10 @@ advised yarn/classic/yarn.lock 'run yarn install in cases/yarn/classic' \
     'remove the entry, and have it written anew' 'correct the version of the package'
 advised yarn/contradicted/yarn.lock 'have the resolution and the requirement say the same'
 advised yarn/gone/yarn.lock 'put the directory there, or remove what requires it'
-repaired yarn/stale-berry/yarn.lock 'yarn install'
-repaired pnpm/stale/pnpm-lock.yaml 'pnpm install'
-repaired bun/beside/bun.lock 'bun install'
-repaired deno/beside/deno.lock 'deno install'
+untried yarn/stale-berry/yarn.lock yarn 'yarn install'
+untried pnpm/stale/pnpm-lock.yaml pnpm 'pnpm install'
+untried bun/beside/bun.lock Bun 'bun install'
+untried deno/beside/deno.lock Deno 'deno install'
 repaired cargo-lock/no-source/Cargo.lock 'cargo update --workspace'
 echo 'checked 1 requirement of 1 package in Cargo.lock (Cargo)
 to repair Cargo.lock, run cargo update --workspace' > "$work/told"

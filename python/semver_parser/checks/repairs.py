@@ -3,6 +3,7 @@
 import os
 from typing import Iterator, Optional
 
+from .causes import untried
 from .files import STANDARD_INPUT
 from .reports import Report
 from .wording import quoted
@@ -32,5 +33,6 @@ def repair_lines(report: Report) -> Iterator[str]:
         wrong = [it for it in report.listed if not (it.is_note or it.excuse)]
         is_blocked = any(it.is_blocking for it in wrong)
         for advice in dict.fromkeys(it.advice for it in wrong if it.advice):
-            if not (is_blocked and advice.startswith(COMMAND)):
+            is_command = advice.startswith(COMMAND) or advice == untried(report.tool)
+            if not (is_blocked and is_command):
                 yield f"to repair {report.name}, {advice}"

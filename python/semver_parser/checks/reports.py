@@ -3,6 +3,7 @@
 from dataclasses import dataclass, field
 from typing import Dict, List, NamedTuple, Optional, Set, Tuple
 
+from .causes import advise
 from .duplicates import duplicates_in
 from .files import STANDARD_INPUT, Refusal, bytes_of, name_of, taking
 from .findings import Finding, Missing
@@ -159,7 +160,7 @@ def check(report: Report, tool: Tool, lock: LockFile) -> None:
     judgement = judge(lock, lock.scheme or tool.scheme)
     report.findings, report.requirements = judgement
     for finding in report.findings:
-        tool.advise(finding)
+        advise(finding, tool)
     report.packages = lock.package_count
     report.left_out, report.from_lock = lock.left_out, lock.from_lock
 

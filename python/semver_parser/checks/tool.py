@@ -55,12 +55,13 @@ class Tool:
     """A tool that writes lock files.
 
     - `name` is its printed name, and `repair` is the command that writes a lock file anew.
+    - `kind` is its name in the table of what commands repair, if that isn't its printed one.
     - `lock_files` has the names of its lock files, and `manifests` the names of the files that
       belong to them.
     - `scheme` is how it reads versions and specifiers.
     """
 
-    name = ""
+    name = kind = ""
     lock_files: Tuple[str, ...] = ()
     manifests: Tuple[str, ...] = ()
     repair = ""

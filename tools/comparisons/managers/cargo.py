@@ -145,7 +145,7 @@ def change_graph(top: Path, graph: str, world: World, maker: Maker, found: Diffe
 
 def run(top: Path, count: int, seed: int) -> Differences:
     """Compares `count` worlds."""
-    found, made = Differences("cargo"), 0
+    found, made = Differences("Cargo"), 0
     for number in range(count * 20):
         if made == count:
             break

@@ -20,6 +20,9 @@ from semver_parser.checks.findings import (  # noqa: E402
 from semver_parser.checks.model import PROJECT, Scope  # noqa: E402
 from semver_parser.checks.reports import Wanted, report_on  # noqa: E402
 
+RECORD = Path(__file__).with_name("repaired")
+"""The record of what commands repaired: a tool and a kind of findings on each line."""
+
 Edge = Tuple[str, str]
 """The package that requires something (empty for the project), and the name that it requires."""
 
@@ -81,6 +84,12 @@ def is_refused(path: Path) -> bool:
     return bool(listed_in(path))
 
 
+def recorded(tool: str) -> Set[str]:
+    """Returns the kinds of findings that the command of a tool has repaired, by the record."""
+    lines = (line.rpartition(" ") for line in RECORD.read_text().splitlines())
+    return {cause for name, _, cause in lines if name == tool}
+
+
 class Differences:
     """How much was compared; the differences by kind, and those that a choice of the README names;
     and the smallest world for each."""
@@ -89,6 +98,7 @@ class Differences:
         self.tool = tool
         self.counts: Dict[str, int] = {}
         self.smallest: Dict[str, str] = {}
+        self.repaired: Set[str] = set()
         self.is_same = True
 
     def count(self, what: str) -> None:
@@ -113,6 +123,8 @@ class Differences:
 
     def report(self) -> bool:
         """Prints everything. Returns whether all differences are choices."""
+        for cause in sorted(self.repaired - recorded(self.tool)):
+            self.add(f"a repair that {RECORD.name} lacks", f"{self.tool} {cause}")
         print(f"{self.tool}:")
         for what, count in sorted(self.counts.items()):
             print(f"  {what}: {count}")

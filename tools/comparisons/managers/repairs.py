@@ -4,11 +4,11 @@ import os
 import re
 import subprocess
 from pathlib import Path
-from typing import Callable, Dict, List, NamedTuple, Optional
+from typing import Callable, Dict, List, NamedTuple, Optional, Set
 
 from differences import Differences, listed_in
+from semver_parser.checks.causes import untried
 from semver_parser.checks.model import Scope
-from semver_parser.checks.repairs import command_for
 from semver_parser.checks.reports import Wanted, report_on
 
 WAITING = 120
@@ -33,12 +33,25 @@ class Repairs(NamedTuple):
     is_rejected: Callable[[], bool] = lambda: False
 
 
-def proposed(path: Path) -> Optional[str]:
-    """Returns the command that the checker proposes for a lock file, if it lists something that the
-    command repairs."""
+class Proposal(NamedTuple):
+    """A command, and the kinds of findings that it is to repair: those for which the checker names
+    it, and those for which it doesn't, since it wasn't tried."""
+
+    command: str
+    causes: Set[str]
+    untried: Set[str]
+
+
+def proposed(path: Path) -> Optional[Proposal]:
+    """Returns the command that the checker proposes for a lock file, or would if it had been tried,
+    if it lists something that the command may repair."""
     report = report_on(str(path), None, Wanted(Scope()))
-    report.listed = [it for it in report.findings if not it.excuse]
-    return None if report.refusal is not None else command_for(report)
+    listed = [it for it in report.findings if not it.excuse]
+    if report.refusal is not None or report.tool is None or any(it.is_blocking for it in listed):
+        return None
+    causes = {type(it).__name__ for it in listed if not it.advice}
+    others = {type(it).__name__ for it in listed if it.advice == untried(report.tool)}
+    return Proposal(report.tool.repair, causes, others) if causes or others else None
 
 
 def reason_of(failures: Dict[str, str], printed: str) -> Optional[str]:
@@ -51,10 +64,10 @@ def repair(path: Path, tool: Repairs, found: Differences, shown: Dict[str, objec
     """Runs the command that is proposed for a lock file, if there is one. The command may fail for a
     reason that files can't tell. Afterwards, the tool has to accept the lock file, and what is listed
     has to be something that the checker says the command doesn't repair."""
-    command = proposed(path)
-    if command is None:
+    proposal = proposed(path)
+    if proposal is None:
         return
-    causes = {type(it).__name__ for it in listed_in(path) if not it.advice}
+    command = proposal.command
     ended = subprocess.run(
         [tool.program, *command.split()[1:], *tool.flags],
         cwd=path.parent, env={**os.environ, **tool.environment},
@@ -64,12 +77,16 @@ def repair(path: Path, tool: Repairs, found: Differences, shown: Dict[str, objec
     listed = [it for it in everything if not it.advice]
     if ended.returncode:
         reason = reason_of(tool.failures, ended.stdout + ended.stderr)
-        if reason is None:
+        if reason is None and not proposal.causes:
+            found.count("commands that fail, and weren't proposed")
+        elif reason is None:
             found.add("a repair that fails", {**shown, "printed": ended.stdout + ended.stderr})
         else:
             found.choose(f"a repair that fails since {reason}", shown)
     elif everything and not listed:
         found.count("repairs that leave only what the command doesn't repair")
+    elif not proposal.causes and (listed or everything):
+        found.count("commands that repair nothing, and weren't proposed")
     elif not tool.is_taken():
         if tool.is_rejected():
             found.choose("a repair that the tool itself rejects afterwards", shown)
@@ -79,5 +96,6 @@ def repair(path: Path, tool: Repairs, found: Differences, shown: Dict[str, objec
         found.add("a repair that repairs nothing", {**shown, "left": [it.record for it in listed]})
     else:
         found.count("repairs that repair")
-        for cause in causes:
+        for cause in proposal.causes | proposal.untried:
+            found.repaired.add(cause)
             found.count(f"a repair of {cause}")

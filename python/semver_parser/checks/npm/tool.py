@@ -25,6 +25,7 @@ from typing import Dict, Iterable, Iterator, List, Optional, Set, Tuple
 
 from ..files import STANDARD_INPUT, Entry, bytes_of, json_object, taking, text_at
 from ..findings import (
+    AnotherPackage,
     Conflict,
     Finding,
     Missing,
@@ -266,8 +267,10 @@ class Npm(NodeTool):
 
     def advise(self, finding: Finding) -> None:
         """Adds advice to a finding if the command doesn't repair it: npm leaves out an optional
-        dependency that can't be installed."""
+        dependency that can't be installed, and doesn't compare names."""
         super().advise(finding)
+        if isinstance(finding, (AnotherPackage, TwoPackages)):
+            finding.advised(TwoVersions.advice, False)
         is_unmet = isinstance(finding, (Missing, Unsatisfied))
         if is_unmet and isinstance(finding, OfRequirement) and finding.requirement.kind == OPTIONAL:
             finding.advised("install it, or remove it, if it can't be installed", False)

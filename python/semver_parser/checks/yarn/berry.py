@@ -176,6 +176,7 @@ BERRY_SCHEME = BerryScheme()
 class Berry(YarnTool):
     """yarn 2 and later."""
 
+    kind = "yarn 2"
     scheme = BERRY_SCHEME
     is_berry = True
 

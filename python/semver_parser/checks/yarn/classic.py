@@ -357,6 +357,7 @@ def archive_findings(package: Package) -> Iterator[Finding]:
 class Classic(YarnTool):
     """yarn 1."""
 
+    kind = "yarn 1"
     scheme = ClassicScheme()
 
     def read(self, file: Input) -> LockFile:
