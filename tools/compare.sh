@@ -43,6 +43,8 @@
 #   that they write for COUNT random projects, and for projects with edited manifests and damaged
 #   lock files, compared with whether the tool's own frozen install accepts these (npm, yarnpkg,
 #   cargo, python3, and the library as for locks)
+# - as-written: the same tools, whether check-lock-file lists anything for the lock files that they
+#   write for COUNT random projects, and for the projects in python/cases/judged (the same)
 # - judged [CASE]..: npm, Debian's yarn 1 and Cargo themselves, whether their frozen installs accept
 #   the projects in python/cases/judged, and whether the commands that check-lock-file proposes
 #   repair them (the same as for managers)
@@ -124,7 +126,13 @@ targets)
     ;;
 managers)
     shift
-    exec python3 -B tools/comparisons/managers/run.py "${1:-100}" "${2:-1}"
+    python3 -B tools/comparisons/managers/run.py "${1:-100}" "${2:-1}" 5
+    exit
+    ;;
+as-written)
+    shift
+    python3 -B tools/comparisons/managers/run.py "${1:-200}" "${2:-1}" 0
+    exec python3 -B tools/comparisons/managers/judged.py --as-written
     ;;
 judged)
     shift
@@ -163,7 +171,7 @@ order)
 crate | cargo | node | npm | versions | real | grid | lines | places | version-places | erased) ;;
 *)
     kinds='crate|cargo|node|npm|versions|real|grid|lines|places|version-places|js|npm-on-it'
-    kinds="$kinds|managers|damaged-locks|erased|order|raise"
+    kinds="$kinds|managers|as-written|damaged-locks|erased|order|raise"
     echo "usage: tools/compare.sh $kinds [COUNT] [SEED], or locks FILE.., or real-locks [NAME..]," >&2
     echo '       or judged [CASE..], or node-suite [--show], or semver-suite, crate-tests or targets' >&2
     exit 2

@@ -2,6 +2,7 @@
 functions of each tool."""
 
 import os
+import re
 import tempfile
 import unittest
 from typing import List, Optional
@@ -174,14 +175,35 @@ class Locating(unittest.TestCase):
         self.assertEqual(found, {("a",): 4, ("b",): 5})
 
 
+TOP = os.path.dirname(os.path.dirname(os.path.dirname(os.path.abspath(__file__))))
+
+
+def text_at(*path: str) -> str:
+    """Returns the text of a file of the repository."""
+    with open(os.path.join(TOP, *path), encoding="utf-8") as file:
+        return file.read()
+
+
+class Differences(unittest.TestCase):
+    """The README has each case on which a tool and the checker disagree, and no other."""
+
+    def test_the_table(self) -> None:
+        lines = text_at("python", "cases", "judged", "table").splitlines()
+        cases = [it.split() for it in lines if it and not it.startswith("#")]
+        right = {"accepts": ("0",), "rejects": ("1", "2"), "not-run": ("0", "1", "2")}
+        wrong = [name for name, verdict, status in cases if status not in right[verdict]]
+        page = text_at("python", "semver_parser", "checks", "README.md")
+        rows = page.partition("## Known differences")[2].partition("\n## ")[0]
+        self.assertEqual(sorted(wrong), sorted(re.findall(r"judged/([\w-]+)\)", rows)))
+        there = os.listdir(os.path.join(TOP, "python", "cases", "judged"))
+        self.assertEqual(sorted(name for name, _, _ in cases), sorted({*there} - {"table"}))
+
+
 class Repairs(unittest.TestCase):
     """A command is named only for what it has repaired."""
 
     def test_the_record(self) -> None:
-        there = os.path.dirname(os.path.dirname(os.path.dirname(os.path.abspath(__file__))))
-        record = os.path.join(there, "tools", "comparisons", "managers", "repaired")
-        with open(record, encoding="utf-8") as file:
-            lines = file.read().splitlines()
+        lines = text_at("tools", "comparisons", "managers", "repaired").splitlines()
         table = [f"{tool} {it.__name__}" for tool, each in REPAIRED.items() for it in each]
         self.assertEqual(sorted(table), sorted(lines))
 

@@ -21,11 +21,9 @@ from cargo_worlds import (
     write_package,
     write_world,
 )
-from differences import Differences, Missing, is_refused, listed_in
+from differences import AS_WRITTEN, Differences, Missing, is_refused, listed_in
 from repairs import Repairs, repair
 from semver_parser.checks.findings import MissingMember
-
-CHANGES = 5
 
 # What Cargo prints if it can't repair a lock file. It also reads the manifests at paths that the
 # lock file lacks, which the checker doesn't.
@@ -34,6 +32,13 @@ FAILURES = {
     "a checksum isn't that of the registry": "checksum for .* changed between lock files",
 }
 OF_UNREAD = {"a manifest that isn't read is invalid": "failed to parse manifest|duplicate key"}
+
+
+def compare_as_written(top: Path, name: str, found: Differences, shown: object) -> None:
+    """Compares a file that Cargo wrote, for which the checker has to list nothing."""
+    found.count(f"{name} as written")
+    if is_refused(top / name):
+        found.add(AS_WRITTEN, shown)
 
 
 def compare(what: str, is_taken: bool, path: Path, found: Differences, shown: object) -> None:
@@ -49,10 +54,12 @@ def shown_of(world: World, lock: str, **more: Any) -> Dict[str, Any]:
     return {**more, "manifests": texts_of(world), "lock": lock}
 
 
-def edit_manifests(top: Path, world: World, maker: Maker, found: Differences) -> None:
+def edit_manifests(
+    top: Path, world: World, maker: Maker, found: Differences, changes: int
+) -> None:
     """Edits the manifests, one at a time."""
     lock = (top / "Cargo.lock").read_text()
-    for _ in range(CHANGES):
+    for _ in range(changes):
         what, other = edited(world, maker)
         write_manifests(top, other)
         taken = graph_at(top) is not None
@@ -81,7 +88,9 @@ def mend(top: Path, world: World, lock: str, found: Differences) -> None:
     path.write_text(before)
 
 
-def damage_lock(top: Path, world: World, maker: Maker, found: Differences) -> None:
+def damage_lock(
+    top: Path, world: World, maker: Maker, found: Differences, changes: int
+) -> None:
     """Damages the Cargo.lock, in one place at a time.
 
     Cargo also knows what crates of the registry require, which isn't in the file. It rejects a
@@ -90,7 +99,7 @@ def damage_lock(top: Path, world: World, maker: Maker, found: Differences) -> No
     """
     path = top / "Cargo.lock"
     lock = path.read_text()
-    for _ in range(CHANGES):
+    for _ in range(changes):
         what, text, is_of_registry = damaged(lock, maker)
         path.write_text(text)
         taken, refused = graph_at(top) is not None, is_refused(path)
@@ -120,11 +129,13 @@ def crates_in(graph: Dict[str, List[Dict[str, object]]]) -> Iterator[Crate]:
     yield from ((str(it["name"]), str(it["version"])) for it in graph["packages"])
 
 
-def change_graph(top: Path, graph: str, world: World, maker: Maker, found: Differences) -> None:
+def change_graph(
+    top: Path, graph: str, world: World, maker: Maker, found: Differences, changes: int
+) -> None:
     """Changes requirements of crates of the registry, one at a time, in their manifests and in the
     graph."""
     known = [it for it in crates_in(json.loads(graph)) if world.crates.get(it)]
-    for crate in maker.chance.sample(known, min(len(known), CHANGES)):
+    for crate in maker.chance.sample(known, min(len(known), changes)):
         needs = world.crates[crate]
         index, others = needs_changed(needs, maker)
         write_package(crate_folder(top, crate), manifest_of(*crate, others))
@@ -143,8 +154,8 @@ def change_graph(top: Path, graph: str, world: World, maker: Maker, found: Diffe
         write_package(crate_folder(top, crate), manifest_of(*crate, needs))
 
 
-def run(top: Path, count: int, seed: int) -> Differences:
-    """Compares `count` worlds."""
+def run(top: Path, count: int, seed: int, changes: int) -> Differences:
+    """Compares `count` worlds, each with some edits, damages and changes of its graph."""
     found, made = Differences("Cargo"), 0
     for number in range(count * 20):
         if made == count:
@@ -162,10 +173,10 @@ def run(top: Path, count: int, seed: int) -> Differences:
         assert graph is not None
         (folder / "graph.json").write_text(graph)
         shown = shown_of(world, (folder / "Cargo.lock").read_text())
-        compare("a lock file as written", True, folder / "Cargo.lock", found, shown)
-        compare("a graph as written", True, folder / "graph.json", found, shown)
-        edit_manifests(folder, world, maker, found)
-        damage_lock(folder, world, maker, found)
-        change_graph(folder, graph, world, maker, found)
+        for name in ("Cargo.lock", "graph.json"):
+            compare_as_written(folder, name, found, shown)
+        edit_manifests(folder, world, maker, found, changes)
+        damage_lock(folder, world, maker, found, changes)
+        change_graph(folder, graph, world, maker, found, changes)
     found.counts["worlds"] = made
     return found

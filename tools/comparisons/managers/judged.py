@@ -1,8 +1,12 @@
-"""Has npm, yarn 1 and Cargo judge the projects in python/cases/judged: judged.py [CASE]...
+"""Has npm, yarn 1 and Cargo judge the projects in python/cases/judged: judged.py [--as-written]
+[CASE]...
 
 For each case, the tool's frozen install has to end as the table there says, and check-lock-file has
 to agree, unless the README of the checkers names the case as a known difference. If
 check-lock-file proposes a command, it is run, and has to repair the project.
+
+With `--as-written`, the tool writes each lock file anew. If it accepts that, check-lock-file may
+list nothing.
 """
 
 import json
@@ -30,6 +34,14 @@ HERE, REPOSITORY = "http://registry.example", "http://git.example"
 
 AT = "2026-01-01T00:00:00Z"
 """The time of each commit of that repository, so that they are always the same."""
+
+# The commands that write lock files, and the names of these.
+WRITING = {
+    "npm": ["npm", "install"],
+    "yarn": ["yarn", "install"],
+    "cargo": ["cargo", "generate-lockfile"],
+}
+LOCK_FILES = ("package-lock.json", "npm-shrinkwrap.json", "yarn.lock", "Cargo.lock")
 
 WAITING = 300
 ACCEPTS, REJECTS, NOT_RUN = "accepts", "rejects", "not-run"
@@ -203,18 +215,38 @@ def wrong_in(case: Case, folder: Path, tools: Tools, known: str) -> Iterator[str
             yield f"check-lock-file lists something after {command}"
 
 
+def wrong_as_written(case: Case, folder: Path, tools: Tools) -> Iterator[str]:
+    """Yields what is wrong about the lock file that the tool of a case writes."""
+    place = place_of(folder)
+    frozen = tools.frozen(place)
+    if not frozen or case.verdict == NOT_RUN:
+        return
+    for name in LOCK_FILES:
+        (place / name).unlink(missing_ok=True)
+    is_taken = tools.run(WRITING[frozen[0]], place)[0] and tools.run(frozen, place)[0]
+    if is_taken and status_at(folder)[0] == 1:
+        yield f"check-lock-file lists something in what {frozen[0]} wrote"
+
+
 def main(names: List[str]) -> int:
     """Judges the cases with these names, or all. Returns 1 if something is wrong."""
     registry, known, failed = Registry(), README.read_text(), 0
+    is_written = "--as-written" in names
+    names = [it for it in names if it != "--as-written"]
     for case in cases_in(CASES / "table"):
         if names and case.name not in names:
             continue
         with tempfile.TemporaryDirectory() as top:
             folder = Path(top, "project")
             put(case.name, folder, registry)
-            wrong = list(wrong_in(case, folder, Tools(Path(top), registry), known))
+            tools = Tools(Path(top), registry)
+            if is_written:
+                wrong = list(wrong_as_written(case, folder, tools))
+            else:
+                wrong = list(wrong_in(case, folder, tools, known))
             os.chdir(TOP)
-        print(f"{case.name}: {'; '.join(wrong) or 'as the table says'}", flush=True)
+        right = "nothing is listed as written" if is_written else "as the table says"
+        print(f"{case.name}: {'; '.join(wrong) or right}", flush=True)
         failed += bool(wrong)
     return int(bool(failed))
 

@@ -10,7 +10,15 @@ import subprocess
 from pathlib import Path
 from typing import Any, Iterator, List, NamedTuple, Optional
 
-from differences import PROJECT, Differences, Finding, Unsatisfied, findings_in, listed_in
+from differences import (
+    AS_WRITTEN,
+    PROJECT,
+    Differences,
+    Finding,
+    Unsatisfied,
+    findings_in,
+    listed_in,
+)
 from npm_edits import Edited, edited, kinds_of
 from projects import environment, write_project
 from registry import Json, Registry, in_order
@@ -35,7 +43,6 @@ from worlds import Maker, World
 
 HERE = os.path.dirname(os.path.abspath(__file__))
 LOCK = "package-lock.json"
-EDITS = 5
 WAITING = 60
 FLAGS = ["--package-lock-only", "--no-audit", "--no-fund", "--ignore-scripts"]
 
@@ -106,11 +113,11 @@ def lock_by_npm(folder: Path, version: int, registry: Registry, top: Path) -> Op
 
 
 def cases_of(
-    folder: Path, lock: Json, world: World, registry: Registry, maker: Maker
+    folder: Path, lock: Json, world: World, registry: Registry, maker: Maker, edits: int
 ) -> List[Case]:
     """Returns the project as it is written, and edited copies of it."""
     cases = [Case(folder, "", world, lock)]
-    for number in range(EDITS):
+    for number in range(edits):
         it: Edited = edited(lock, world, registry, maker)
         other = folder.with_name(f"{folder.name}-{number}")
         write_project(other, it.world)
@@ -294,7 +301,9 @@ def compare(it: Case, answer: Answer, as_written: Answer, found: Differences) ->
     before the edit."""
     listed = listed_in(it.folder / LOCK)
     found.count(f"projects with {it.edit}" if it.edit else "projects as npm wrote them")
-    if bool(answer.refused) == bool(listed):
+    if not it.edit and listed and not answer.refused:
+        found.add(AS_WRITTEN, shown(it, [[each.kind, *each.record] for each in listed]))
+    elif bool(answer.refused) == bool(listed):
         found.count("both reject" if listed else "both accept")
     elif answer.refused:
         choice = choice_of_refusal(it, answer, as_written)
@@ -334,8 +343,8 @@ def shown(it: Case, why: Any) -> Json:
     return {"why": why, "edit": it.edit, "manifests": projects, "packages": packages}
 
 
-def run(top: Path, count: int, seed: int) -> Differences:
-    """Compares `count` worlds."""
+def run(top: Path, count: int, seed: int, edits: int) -> Differences:
+    """Compares `count` worlds, each with some edited copies."""
     found, registry = Differences("npm"), Registry()
     npm = Npm(registry, top)
     made = 0
@@ -352,7 +361,7 @@ def run(top: Path, count: int, seed: int) -> Differences:
             found.count("worlds that npm rejects")
             continue
         made += 1
-        cases = cases_of(folder, lock, world, registry, maker)
+        cases = cases_of(folder, lock, world, registry, maker, edits)
         answers = [npm.answer(it.folder) for it in cases]
         for it, answer in zip(cases, answers):
             compare(it, answer, answers[0], found)

@@ -10,7 +10,7 @@ import subprocess
 from pathlib import Path
 from typing import Any, Dict, List, Optional, Set, Tuple
 
-from differences import PROJECT, Differences, Finding, Missing, Unsatisfied, findings_in
+from differences import AS_WRITTEN, PROJECT, Differences, Finding, Missing, Unsatisfied, findings_in
 from projects import environment, write_project
 from registry import Registry
 from repairs import Repairs, repair
@@ -22,7 +22,7 @@ from yarn_edits import ANOTHER_ARCHIVE, damaged, edited
 
 LOCK = "yarn.lock"
 PROGRAM = "yarnpkg"
-CHANGES = 5
+WRITTEN = "as written"
 WAITING = 120
 
 # What yarn prints if it can't repair a lock file.
@@ -124,7 +124,9 @@ def compare(
     findings = findings_in(folder / LOCK)
     listed = [it for it in findings if not it.excuse]
     choices = {choice_of(what, it, world) for it in listed}
-    if taken and listed and None not in choices:
+    if what == WRITTEN and taken and listed:
+        found.add(AS_WRITTEN, shown_of(world, lock))
+    elif taken and listed and None not in choices:
         for choice in sorted(it for it in choices if it is not None):
             found.choose(choice, shown_of(world, lock))
     elif not taken and not listed and any(is_nowhere(it, world) for it in findings):
@@ -160,8 +162,8 @@ def lock_of(folder: Path, world: World, yarn: Yarn) -> Optional[str]:
     return path.read_text() if path.exists() else None
 
 
-def run(top: Path, count: int, seed: int) -> Differences:
-    """Compares `count` worlds."""
+def run(top: Path, count: int, seed: int, changes: int) -> Differences:
+    """Compares `count` worlds, each with some edits and some damages."""
     found, registry, made = Differences("yarn 1"), Registry(), 0
     for number in range(count * 10):
         if made == count:
@@ -178,8 +180,8 @@ def run(top: Path, count: int, seed: int) -> Differences:
             continue
         made += 1
         other = folder / "other"
-        compare("as written", other, world, lock, yarn, found)
-        for _ in range(CHANGES):
+        compare(WRITTEN, other, world, lock, yarn, found)
+        for _ in range(changes):
             what, changed = edited(world, maker)
             compare(what, other, changed, lock, yarn, found)
             what, text = damaged(lock, maker)

@@ -4,10 +4,12 @@ have by paths, and the patches of the workspace."""
 import os
 from typing import Dict, Iterator, List, NamedTuple, Optional
 
-from ..files import Refusal, taking
+from ..files import Entry, Refusal, taking
 from .manifests import (
     MANIFEST,
+    NOTHING_INHERITED,
     Dependency,
+    Inherited,
     Manifest,
     dependency_of,
     inherited_of,
@@ -18,6 +20,9 @@ from .members import manifest_at, members_at
 from .sources import PATH, Source, patched_source
 
 OF_PATCH, REPLACE = "patch.", "replace"
+
+# The files with Cargo's settings of a project. They may have patches.
+SETTINGS = ((".cargo", "config.toml"), (".cargo", "config"))
 
 
 class Patch(NamedTuple):
@@ -87,11 +92,20 @@ class Workspace:
 
 
 def patches_at(folder: str) -> Iterator[Patch]:
-    """Yields the patches and replacements of the workspace or the package in a directory."""
+    """Yields the patches and replacements of the workspace or the package in a directory, and the
+    patches of Cargo's settings there."""
     path = os.path.join(folder, MANIFEST)
     top = read(path)
-    with taking(path, MANIFEST):
-        inherited = inherited_of(top, folder)
+    yield from patches_in(top, path, inherited_of(top, folder), folder)
+    for settings in (os.path.join(folder, *it) for it in SETTINGS):
+        if os.path.isfile(settings):
+            own = {OF_PATCH[:-1]: read(settings).get(OF_PATCH[:-1], {})}
+            yield from patches_in(own, settings, NOTHING_INHERITED, folder)
+
+
+def patches_in(top: Entry, path: str, inherited: Inherited, folder: str) -> Iterator[Patch]:
+    """Yields the patches and replacements in a file, whose paths begin at a directory."""
+    with taking(path, os.path.basename(path)):
         for table, values in patches_of(top):
             source = patched_source(table[len(OF_PATCH) :] if table != REPLACE else "")
             for key, value in values.items():

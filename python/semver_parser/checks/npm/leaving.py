@@ -22,7 +22,7 @@ from ..model import PEERS, Requirement
 from ..node.specifiers import is_fetched
 from ..satisfaction import is_met, range_in
 from .lock import Packages, folder_round, folders, inside, is_outside, is_top, locked_in
-from .overrides import Rule
+from .overrides import Rule, names_by_range
 from .peers import Peers
 
 UNMET = (Unsatisfied, Overridden)
@@ -34,6 +34,9 @@ ANEW = "remove it, and have npm write it without the old one"
 
 # The advice for a mismatched peer that npm may keep.
 PEER = "run npm install; if npm keeps a mismatched peer, change what requires the package"
+
+# The advice if an override whose key has a range applies: npm may reject what it then writes.
+WITHOUT_RANGE = "give the override a key without a range, and have npm write it anew"
 
 # The advice if no version satisfies both a peer and what the project requires.
 AGREE = "have the requirement and the peer agree, or set legacy-peer-deps=true in .npmrc"
@@ -54,6 +57,7 @@ class Leaving:
     ) -> None:
         self.packages, self.peers, self.locked = packages, peers, locked_in(packages)
         self.rules, self.look = rules, look
+        self.by_range = names_by_range(rules)
         self.apart, self.names_apart = {place for place, _ in apart}, {name for _, name in apart}
 
     @cached_property
@@ -83,6 +87,8 @@ class Leaving:
     def excuse_of_version(self, finding: OfFound) -> str:
         """Returns why npm leaves a package with the wrong version; an empty text if it doesn't."""
         it = finding.requirement
+        if it.name in self.by_range:
+            finding.advised(WITHOUT_RANGE, False)
         if self.may_stay(finding) or self.is_hiding(finding):
             if isinstance(finding, Overridden):
                 return "override"

@@ -389,6 +389,12 @@ def names_in(rule: Rule) -> Set[str]:
     return {it.name for it in rule.inner}.union(*(names_in(it) for it in rule.inner))
 
 
+def names_by_range(rule: Rule) -> Set[str]:
+    """Returns the names of the rules inside a rule whose keys have a range."""
+    own = {it.name for it in rule.inner if it.within != ANY}
+    return own.union(*(names_by_range(it) for it in rule.inner))
+
+
 def reading_of(
     packages: Packages,
     found: Dict[str, Package],
