@@ -46,6 +46,9 @@ LOCK = "package-lock.json"
 WAITING = 60
 FLAGS = ["--package-lock-only", "--no-audit", "--no-fund", "--ignore-scripts"]
 
+# The only choice that counts for a lock file as npm wrote it, since only the registry has the reason.
+LEFT_OUT = "what is optional and can't be installed"
+
 # What npm prints if it can't repair a lock file.
 FAILURES = {
     "the registry doesn't have what is required": "code (E404|ETARGET)",
@@ -140,7 +143,7 @@ def choice_of(finding: Finding, it: Case, answer: Answer) -> Optional[str]:
     if requirer not in answer.looked:
         return "what is required below workspaces"
     if [requirer, name] in answer.left_out:
-        return "what is optional and can't be installed"
+        return LEFT_OUT
     releases = it.world.releases.get(name, {})
     if not any(is_met(wanted, version, Dialect.NPM) for version in releases):
         return "what no registry has"
@@ -301,9 +304,7 @@ def compare(it: Case, answer: Answer, as_written: Answer, found: Differences) ->
     before the edit."""
     listed = listed_in(it.folder / LOCK)
     found.count(f"projects with {it.edit}" if it.edit else "projects as npm wrote them")
-    if not it.edit and listed and not answer.refused:
-        found.add(AS_WRITTEN, shown(it, [[each.kind, *each.record] for each in listed]))
-    elif bool(answer.refused) == bool(listed):
+    if bool(answer.refused) == bool(listed):
         found.count("both reject" if listed else "both accept")
     elif answer.refused:
         choice = choice_of_refusal(it, answer, as_written)
@@ -315,7 +316,9 @@ def compare(it: Case, answer: Answer, as_written: Answer, found: Differences) ->
         choices = {choice_of(each, it, answer) for each in listed}
         why = shown(it, [[each.kind, *each.record] for each in listed])
         for choice in choices:
-            if choice is None:
+            if not it.edit and choice != LEFT_OUT:
+                found.add(AS_WRITTEN, why)
+            elif choice is None:
                 found.add("only the checker rejects", why)
             else:
                 found.choose(choice, why)
