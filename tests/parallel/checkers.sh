@@ -283,6 +283,18 @@ if python3 -c 'import yaml' 2> /dev/null; then
     sed 's/^importers:/x: \&anchor {}\ny: *anchor\nimporters:/' cases/pnpm/wrong-9.yaml > "$work/lock"
     same 'a file of pnpm with an alias' 1 "$work/lock" cases/pnpm/wrong-9.expected /dev/null $fields -
 fi
+# What would take very long is rejected: a path, a key and nested lists that are too long, and a pipe.
+python3 -c 'print("{\"lockfileVersion\": 3, \"packages\": {\"" + "/".join(["node_modules/a"] * 100000) + "\": {}}}")' > "$work/wrong"
+refused "$told standard input: it is no lock file: a path in it has more than 4,096 characters" "$work/wrong" $check -
+if python3 -c 'import tomllib' 2> /dev/null; then
+    { printf '[[package]]\n[' && python3 -c 'print(".".join(["a"] * 100000) + "]")'; } > "$work/wrong"
+    refused "$told standard input: it isn't TOML: a key has more than 1,000 parts" "$work/wrong" $check -
+    mkdir "$work/long" && cp cases/cargo-lock/package/Cargo.lock "$work/long"
+    python3 -c 'print("[package]\nname = \"a\"\n[target.\"cfg(" + "all(" * 4000 + "unix" + ")" * 4001 + "\".dependencies]")' > "$work/long/Cargo.toml"
+    refused "$told $work/long/Cargo.toml: it is no Cargo.toml: a target has more than 100 lists" /dev/null $check "$work/long/Cargo.lock"
+fi
+mkdir "$work/waiting" && cp cases/nothing-wrong.json "$work/waiting/package-lock.json" && mkfifo "$work/waiting/package.json"
+refused "$told $work/waiting/package.json: it can't be read: it is a pipe" /dev/null $check "$work/waiting/package-lock.json"
 refused "$told nowhere: it can't be read: No such file or directory" /dev/null $check nowhere
 refused "$told standard input: it is no lock file that is known" /dev/null $check -
 for option in --npm --strict=yes --stric -s; do

@@ -34,7 +34,7 @@ def short(path: str) -> str:
 def lines_of(path: str) -> List[Line]:
     """Returns the lines of a file of known findings. A line without a reason is rejected."""
     with taking(path, "list of known findings"):
-        text = utf8(bytes_of(path))
+        text = utf8(bytes_of(path, True))
     found = []
     for number, line in enumerate(text.splitlines(), 1):
         bare = line.strip()

@@ -4,6 +4,7 @@ import errno
 import json
 import os
 import re
+import stat
 import sys
 from contextlib import contextmanager
 from typing import Any, Dict, Iterator, List, NoReturn
@@ -20,6 +21,11 @@ CONFLICT = re.compile(rb"(?:\A|\n)<<<<<<< ")
 
 # The errors for a path at which there is nothing.
 NOWHERE = (errno.ENOENT, errno.ENOTDIR, errno.ENAMETOOLONG)
+
+# A key or a header of TOML with very many parts, for which Python's reader takes very long.
+MOST_PARTS = 1000
+PART = r"""[ \t]*(?:[\w-]+|"[^"\n]*"|'[^'\n]*')[ \t]*"""
+LONG_KEY = re.compile(rf"^[ \t]*\[{{0,2}}(?:{PART}\.){{{MOST_PARTS}}}", re.M)
 
 BYTE_ORDER_MARK = b"\xef\xbb\xbf"
 
@@ -52,10 +58,13 @@ class WrongShape(Exception):
     """The content of a file doesn't have the shape that it must have, and where."""
 
 
-def bytes_of(path: str) -> bytes:
-    """Returns the content of a file, or of standard input, without a byte order mark."""
+def bytes_of(path: str, is_named: bool = False) -> bytes:
+    """Returns the content of a file, or of standard input, without a byte order mark. Only a file
+    that was named on the command line may be a pipe, since reading one may wait forever."""
     if path != STANDARD_INPUT:
         try:
+            if not is_named and stat.S_ISFIFO(os.stat(path).st_mode):
+                raise Refusal(path, "it can't be read: it is a pipe")
             with open(path, "rb") as file:
                 return unmarked(file.read())
         except ValueError:
@@ -137,6 +146,8 @@ def toml_object(text: bytes) -> Entry:
     except ImportError:
         raise Unreadable("it is TOML, which Python reads from 3.11 on") from None
     whole, why = utf8(text), ""
+    if LONG_KEY.search(whole):
+        raise Unreadable(f"it isn't TOML: a key has more than {MOST_PARTS:,} parts")
     for is_1_1 in (False, True):
         try:
             return tomllib.loads(toml_1_0(whole) if is_1_1 else whole)

@@ -139,7 +139,7 @@ def report_on(path: str, named: Optional[str], wanted: Wanted) -> Report:
     report = Report(path)
     try:
         with taking(path, "lock file"):
-            file = Input(path, bytes_of(path), named, wanted.scope)
+            file = Input(path, bytes_of(path, True), named, wanted.scope)
             report.tool = tool_for(file)
             lock = report.tool.read(file)
             check(report, report.tool, lock)

@@ -24,6 +24,10 @@ SETTINGS = rf"(?:{SETTING}(?:, *{SETTING})*(?:, *)?)?"
 EXPRESSION = re.compile(
     rf"(?<![\w#])(?:(?:all|any) *\( *{SETTINGS}|not *\( *{SETTING})\)", re.ASCII
 )
+
+# How many lists an expression may have, since each may be inside of another one.
+MOST_LISTS = 100
+
 ONE_SETTING = re.compile(f" *{SETTING}", re.ASCII)
 
 # The tables that a manifest without a package may not have.
@@ -78,7 +82,9 @@ def wrong_in_workspace(entry: Entry, package: Entry) -> Iterator[str]:
     if "replace" in entry and "patch" in entry:
         yield "replace and patch are both there"
     for target in entry.get("target", {}):
-        if not is_target(target):
+        if target.count("(") > MOST_LISTS:
+            yield f"a target has more than {MOST_LISTS} lists"
+        elif not is_target(target):
             yield f"target {target} is invalid"
 
 

@@ -6,6 +6,7 @@ from typing import Dict, Iterable, Iterator, List, NamedTuple, Optional, Tuple
 from ..files import (
     STANDARD_INPUT,
     Entry,
+    Refusal,
     Unreadable,
     WrongShape,
     bytes_of,
@@ -102,9 +103,8 @@ def manifest_in(directory: str) -> Optional[Entry]:
 def unchecked_manifest(directory: str) -> Entry:
     """Returns the package.json in a directory; an empty one if it isn't there or isn't valid."""
     try:
-        with open(os.path.join(directory, MANIFEST), "rb") as file:
-            return json_object(file.read())
-    except (OSError, Unreadable, WrongShape, RecursionError):
+        return json_object(bytes_of(os.path.join(directory, MANIFEST)))
+    except (OSError, Refusal, Unreadable, WrongShape, RecursionError):
         return {}
 
 
@@ -132,12 +132,12 @@ def manifest_path(file: Input, directory: Optional[str]) -> Optional[str]:
     return beside if os.path.exists(beside) else None
 
 
-def project_in(directory: Optional[str], path: Optional[str]) -> Project:
+def project_in(directory: Optional[str], path: Optional[str], is_named: bool = False) -> Project:
     """Returns the package.json files of a project. `path` is that of the project's own."""
     if path is None:
         return Project(directory, {})
     with taking(path, MANIFEST):
-        manifest = checked(json_object(bytes_of(path)))
+        manifest = checked(json_object(bytes_of(path, is_named)))
         patterns = patterns_in(manifest.get("workspaces", []), "workspaces")
         below = os.path.dirname(path) if path != STANDARD_INPUT else None
         places = [] if below is None else directories_of(patterns, below)
@@ -148,7 +148,8 @@ def project_in(directory: Optional[str], path: Optional[str]) -> Project:
 
 def project_beside(file: Input) -> Project:
     """Returns the package.json files of the project of a lock file, if they are there."""
-    return project_in(file.directory, manifest_path(file, file.directory))
+    path = manifest_path(file, file.directory)
+    return project_in(file.directory, path, file.named is not None)
 
 
 def missing_workspace(

@@ -21,6 +21,9 @@ KINDS_OF_EACH = (PEERS, "dependencies", "optionalDependencies")
 KINDS_OF_TOPS = (*KINDS_OF_EACH, "devDependencies")
 ACCEPTED = "acceptDependencies"
 
+# How long a path may be. Linux has no longer ones.
+LONGEST = 4096
+
 # A lockfileVersion, which may be a text. npm has written 1 to 3, and reads the others as 3.
 VERSION = re.compile(r"[1-9][0-9]?")
 WORKSPACES = "workspaces"
@@ -97,6 +100,8 @@ def packages_of(lock: Entry, manifest: Optional[Entry]) -> Packages:
         packages = {"": project, **dict(packages_inside(lock, ""))}
     else:
         packages = dict(objects_at(lock.get("packages", {"": {}}), "packages"))
+    if max(map(len, packages), default=0) > LONGEST:
+        raise WrongShape(f": a path in it has more than {LONGEST:,} characters")
     if manifest is not None:
         packages[""] = with_manifest(packages.get("", {}), manifest)
     return packages

@@ -256,7 +256,7 @@ class Npm(NodeTool):
         directory = beside
         if beside is None and file.named not in (None, STANDARD_INPUT):
             directory = os.path.dirname(file.named or "")
-        manifest, rules = manifest_and_rules(manifest_path(file, beside))
+        manifest, rules = manifest_and_rules(manifest_path(file, beside), file.named is not None)
         has_peers = file.scope.has_peers and not is_set(directory, LEGACY_PEERS)
         scope = file.scope._replace(has_peers=has_peers)
         return Reader(lock_of(file), directory, manifest, rules, scope).lock_file()
@@ -301,12 +301,12 @@ def lock_of(file: Input) -> Entry:
     return {"lockfileVersion": 1, **lock} if is_named else lock
 
 
-def manifest_and_rules(path: Optional[str]) -> Tuple[Optional[Entry], Rule]:
+def manifest_and_rules(path: Optional[str], is_named: bool) -> Tuple[Optional[Entry], Rule]:
     """Returns the project's package.json, if there is one, and the rules of its overrides."""
     if path is None:
         return None, rules_of({})
     with taking(path, MANIFEST):
-        manifest = json_object(bytes_of(path))
+        manifest = json_object(bytes_of(path, is_named))
         check_manifest(manifest)
         return manifest, rules_of(manifest)
 

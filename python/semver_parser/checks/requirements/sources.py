@@ -33,7 +33,7 @@ class Side(NamedTuple):
         if (self.may_lack or place) and not os.path.lexists(path):
             return None
         with taking(path, WHAT):
-            return bytes_of(path)
+            return bytes_of(path, True)
 
     def manifest(self, place: str, text: Optional[bytes]) -> Manifest:
         """Returns the manifest in the text of the file at a place."""

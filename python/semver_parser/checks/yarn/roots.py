@@ -4,7 +4,7 @@ project."""
 import os
 from typing import Optional
 
-from ..files import Entry, WrongShape
+from ..files import Entry, Refusal, Unreadable, WrongShape, bytes_of
 from ..node.package_json import unchecked_manifest
 from ..node.workspaces import directories_around, directories_of, patterns_in, place_in
 
@@ -46,7 +46,6 @@ def has_workspace(manifest: Entry, outer: str, inner: str) -> bool:
 def is_of_yarn_1(path: str) -> bool:
     """Returns whether a file is a yarn.lock of yarn 1."""
     try:
-        with open(path, "rb") as file:
-            return OF_BERRY not in file.read()
-    except OSError:
+        return OF_BERRY not in bytes_of(path)
+    except (OSError, Refusal, Unreadable):
         return False
