@@ -21,23 +21,23 @@ def several_versions(packages: Iterable[Package]) -> Iterator[Finding]:
             yield Duplicate(name, tuple(versions), list(versions.values())[-1])
 
 
-def is_same(one: str, other: str) -> bool:
+def is_same(one: str, other: str, dialect: Dialect) -> bool:
     """Returns whether two requirements are for the same versions."""
-    first, second = range_in(one, Dialect.NPM), range_in(other, Dialect.NPM)
+    first, second = range_in(one, dialect), range_in(other, dialect)
     return one == other if first is None or second is None else first == second
 
 
-def different_ranges(required: Iterable[Requirement]) -> Iterator[Finding]:
+def different_ranges(required: Iterable[Requirement], dialect: Dialect) -> Iterator[Finding]:
     """Yields the findings about requirements whose range differs from the first one for the same
     name."""
     firsts: Dict[str, Requirement] = {}
     for it in required:
         first = firsts.setdefault(it.name, it)
         is_other = it.requirer.name != first.requirer.name
-        if is_other and not is_same(it.specifier, first.specifier):
+        if is_other and not is_same(it.specifier, first.specifier, dialect):
             yield DifferentRange(it, first)
 
 
-def duplicates_in(lock: LockFile) -> List[Finding]:
-    """Returns the findings about duplicates in a lock file."""
-    return [*several_versions(lock.packages), *different_ranges(lock.stated())]
+def duplicates_in(lock: LockFile, dialect: Dialect) -> List[Finding]:
+    """Returns the findings about duplicates in a lock file, whose ranges are in a dialect."""
+    return [*several_versions(lock.packages), *different_ranges(lock.stated(), dialect)]

@@ -64,20 +64,20 @@ class Scheme:
             return INVALID_RANGE
         return RIGHT if met else UNSATISFIED if version is not None else NO_VERSION
 
+    def is_plainly_met(self, it: Requirement) -> bool:
+        """Returns whether a requirement is a range, as nearly always, and the package that is found
+        has a version in it and no other name. Then the verdict isn't asked for. A scheme whose
+        verdict may differ for such a requirement overrides this."""
+        found, specifier = it.found, it.specifier.removeprefix(self.protocol)
+        if found is None or found.version is None or ":" in specifier:
+            return False
+        if it.replaced_by or it.locked is not None or found.name not in (None, it.name):
+            return False
+        return is_met(specifier, found.version, self.dialect) is True
+
     def missing(self, requirement: Requirement) -> Finding:
         """Returns the finding about a requirement for which nothing is found."""
         return Missing(requirement).excused(requirement.excuse)
-
-
-def is_plainly_met(it: Requirement, scheme: Scheme) -> bool:
-    """Returns whether a requirement is a range, as nearly always, and the package that is found has
-    a version in it and no other name. Then nothing else has to be checked."""
-    found, specifier = it.found, it.specifier.removeprefix(scheme.protocol)
-    if found is None or found.version is None or ":" in specifier or it.stated is not None:
-        return False
-    if it.replaced_by or it.locked is not None or found.name not in (None, it.name):
-        return False
-    return is_met(specifier, found.version, scheme.dialect) is True
 
 
 def best_of(it: Requirement, scheme: Scheme) -> Tuple[str, Optional[Verdict]]:
@@ -133,7 +133,7 @@ def judged(node: Node, scheme: Scheme) -> Iterator[Finding]:
         yield InvalidVersion(node.package)
     yield from node.findings
     for it in node.requirements:
-        if is_plainly_met(it, scheme):
+        if scheme.is_plainly_met(it):
             continue
         found = [] if it.is_gone else list(findings_of(it, scheme))
         yield from found
@@ -155,7 +155,10 @@ def judge(lock: LockFile, scheme: Scheme) -> Judgement:
     for node in lock.nodes:
         for finding in judged(node, scheme):
             if not finding.excuse:
-                finding.excused(lock.excuse(finding))
+                left = lock.left(finding)
+                finding.excused(left.excuse)
+                if left.advice:
+                    finding.advised(left.advice, left.is_blocking)
             findings.append(finding)
         requirements += sum(it.found is not None or it.is_counted for it in node.requirements)
     is_right = not findings

@@ -19,6 +19,7 @@ from typing import (
 )
 
 if TYPE_CHECKING:
+    from .cargo.manifests import Dependency
     from .findings import Finding
 
 NOT_REACHED = "not reached"
@@ -123,7 +124,9 @@ class Requirement(NamedTuple):
     - `accepted` is another specifier that is right.
     - `alias` is the name that the manifest gives to the package.
     - `locked` is what the lock file was written for, if it has that.
-    - `stated` is what else the manifest states, for the scheme of its tool.
+    - `advice` is what to change if it isn't satisfied, if no command repairs that.
+    - `dependency` is what the Cargo.toml of a Cargo.lock states. If `is_anywhere`, a dependency of
+      `cargo metadata` is at a path or in git, where `*` accepts every version.
     """
 
     requirer: Requirer
@@ -138,7 +141,9 @@ class Requirement(NamedTuple):
     accepted: Optional[str] = None
     alias: str = ""
     locked: Optional[Locked] = None
-    stated: Any = None
+    advice: str = ""
+    dependency: Optional["Dependency"] = None
+    is_anywhere: bool = False
 
     def written_as(self, specifier: str) -> "Requirement":
         """Returns a requirement of a manifest with the specifier for which the lock file was
@@ -170,9 +175,18 @@ class Node:
     findings: Iterable["Finding"] = ()
 
 
-def no_excuse(_: "Finding") -> str:
-    """Returns no excuse for any finding."""
-    return ""
+class Left(NamedTuple):
+    """What a tool does about a finding: an excuse, if it leaves that as it is; and an advice, if its
+    command doesn't repair it, with whether that makes the command fail."""
+
+    excuse: str = ""
+    advice: str = ""
+    is_blocking: bool = False
+
+
+def nothing_left(_: "Finding") -> Left:
+    """Returns neither an excuse nor an advice for any finding."""
+    return Left()
 
 
 @dataclass
@@ -183,7 +197,7 @@ class LockFile:
     - `packages` are all packages of the file except those of the project itself.
     - `edges` returns who leads to what, if to anything, by labels, for the paths of `--why`.
     - `stated` returns what the project and its workspaces require, for `--duplicates`.
-    - `excuse` returns why the tool leaves what a finding is about as it is, if it does.
+    - `left` returns why the tool leaves what a finding is about as it is, if it does, and an advice.
     - `if_right` returns findings that count only if nothing else is listed. Otherwise they are about
       packages that aren't reached.
     - `unreached` are packages to which nothing leads, and which the tool ignores.
@@ -196,7 +210,7 @@ class LockFile:
     packages: List[Package] = field(default_factory=list)
     edges: Callable[[], Iterable[Tuple[str, Optional[str]]]] = tuple
     stated: Callable[[], Iterable[Requirement]] = tuple
-    excuse: Callable[["Finding"], str] = no_excuse
+    left: Callable[["Finding"], Left] = nothing_left
     if_right: Callable[[], Iterable["Finding"]] = tuple
     unreached: Sequence[Package] = ()
     left_out: int = 0

@@ -144,7 +144,8 @@ def report_on(path: str, named: Optional[str], wanted: Wanted) -> Report:
             lock = report.tool.read(file)
             check(report, report.tool, lock)
             if wanted.has_duplicates:
-                report.duplicates = duplicates_in(lock)
+                scheme = lock.scheme or report.tool.scheme
+                report.duplicates = duplicates_in(lock, scheme.dialect)
             if wanted.has_paths:
                 report.paths = Paths(lock.graph())
     except Refusal as error:

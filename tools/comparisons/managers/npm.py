@@ -140,10 +140,10 @@ def choice_of(finding: Finding, it: Case, answer: Answer) -> Optional[str]:
     wanted, name = record.range or "", record.dependency or ""
     if finding.kind in (AnotherPackage.kind, TwoVersions.kind):
         return "names and archives"
-    if requirer not in answer.looked:
-        return "what is required below workspaces"
     if [requirer, name] in answer.left_out:
         return LEFT_OUT
+    if requirer not in answer.looked:
+        return "what is required below workspaces"
     releases = it.world.releases.get(name, {})
     if not any(is_met(wanted, version, Dialect.NPM) for version in releases):
         return "what no registry has"

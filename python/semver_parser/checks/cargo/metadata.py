@@ -208,7 +208,7 @@ class MetadataScheme(CargoScheme):
 
     def verdict(self, specifier: str, requirement: Requirement) -> Optional[Verdict]:
         """Returns the verdict on what is found. A path or git without a version lets each in."""
-        if specifier == "*" and requirement.stated is not None:
+        if specifier == "*" and requirement.is_anywhere:
             return RIGHT
         return super().verdict(specifier, requirement)
 
@@ -225,8 +225,7 @@ class Reader:
     def required(
         self, it: Dependency, package: GraphPackage, requirer: Requirer
     ) -> Iterator[Requirement]:
-        """Yields what a package requires, for each edge that is for it. What comes from a path or
-        from git is stated."""
+        """Yields what a package requires, for each edge that is for it."""
         edges = [edge for edge in package.edges if is_edge_for(edge, it, package)]
         is_required = bool(edges) or has_to_be_there(it, package, self.targets)
         is_strict = not is_required and has_to_be_there(it, package, self.every_target)
@@ -241,7 +240,7 @@ class Reader:
                 is_required or is_strict,
                 "platform" if is_strict else "",
                 alias=it.other_name or "",
-                stated=None if it.has_registry else it,
+                is_anywhere=not it.has_registry,
             )
 
     def nodes(self, package: GraphPackage, lock: LockFile) -> Iterator[Node]:

@@ -61,10 +61,15 @@ class CargoScheme(Scheme):
     def __init__(self, resolution: Optional[Resolution] = None) -> None:
         self.resolution = resolution
 
+    def is_plainly_met(self, it: Requirement) -> bool:
+        """Returns whether a range is met and nothing else counts: in a Cargo.lock, the source
+        does."""
+        return it.dependency is None and super().is_plainly_met(it)
+
     def verdict(self, specifier: str, requirement: Requirement) -> Optional[Verdict]:
         """Returns the verdict on the package that is found. It has to come from the right source,
         too."""
-        dependency, found = requirement.stated, requirement.found
+        dependency, found = requirement.dependency, requirement.found
         if self.resolution is None or dependency is None or found is None:
             return super().verdict(specifier, requirement)
         met = self.resolution.is_met(dependency, found)
@@ -111,8 +116,9 @@ class Reader:
         it = match.dependency
         requirer = requirer_of(package)
         alias = it.other_name or ""
-        made = Requirement(requirer, it.name, it.requirement, match.found, alias=alias, stated=it)
-        made = made._replace(kind="dev-dependencies" if it.is_development else "dependencies")
+        kind = "dev-dependencies" if it.is_development else "dependencies"
+        made = Requirement(requirer, it.name, it.requirement, match.found, kind, alias=alias)
+        made = made._replace(dependency=it)
         others = [] if match.found else self.candidates(it, package)
         yield from (made._replace(found=other) for other in others)
         if not others:

@@ -29,6 +29,11 @@ USUAL, USUAL_LENGTH = "sha512-", 95
 ADVICE = "remove the entry, and have it written anew"
 
 
+def is_usual(value: object) -> bool:
+    """Returns whether a checksum has the form of nearly all."""
+    return isinstance(value, str) and len(value) == USUAL_LENGTH and value.startswith(USUAL)
+
+
 def checksum_findings(package: Package, value: object, has_to_be: bool) -> Iterator[Finding]:
     """Yields the finding about a package whose checksum can't be right. `has_to_be` says whether a
     text without any checksum is wrong, too."""
@@ -38,7 +43,7 @@ def checksum_findings(package: Package, value: object, has_to_be: bool) -> Itera
 
 def may_be_right(text: str, has_to_be: bool) -> bool:
     """Returns whether an archive may have a checksum. Its algorithm has to be known."""
-    if text.startswith(USUAL) and len(text) == USUAL_LENGTH:
+    if is_usual(text):
         return True
     found = (SUM.match(it) for it in text.split())
     sums = [it.groups() for it in found if it is not None]

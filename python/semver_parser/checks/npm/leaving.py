@@ -18,7 +18,7 @@ from ..findings import (
     TwoVersions,
     Unsatisfied,
 )
-from ..model import PEERS, Requirement
+from ..model import PEERS, Left, Requirement
 from ..node.specifiers import is_fetched
 from ..satisfaction import is_met, range_in
 from .lock import Packages, folder_round, folders, inside, is_outside, is_top, locked_in
@@ -43,9 +43,9 @@ AGREE = "have the requirement and the peer agree, or set legacy-peer-deps=true i
 
 
 class Leaving:
-    """Decides which findings are about something that npm leaves as it is. Without `peers`, npm
-    leaves no peer. `apart` has the places and names of peers that contradict what the project
-    requires."""
+    """Decides which findings are about something that npm leaves as it is, and what to change.
+    Without `peers`, npm leaves no peer. `apart` has the places and names of peers that contradict
+    what the project requires."""
 
     def __init__(
         self,
@@ -65,42 +65,41 @@ class Leaving:
         """The places whose requirements npm checks."""
         return self.look()
 
-    def excuse(self, finding: Finding) -> str:
-        """Returns why npm leaves what a finding is about as it is; an empty text if it doesn't."""
+    def left(self, finding: Finding) -> Left:
+        """Returns why npm leaves what a finding is about as it is, if it does, and an advice."""
         if isinstance(finding, MissingMember) and finding.about in self.apart:
-            finding.advised(AGREE, True)
+            return Left("", AGREE, True)
         if not isinstance(finding, (*UNMET, Missing, InvalidRange, NoVersion)):
-            return ""
+            return Left()
         assert isinstance(finding, OfRequirement)
         it = finding.requirement
         if is_outside(it.requirer.place):
-            return "outside"
+            return Left("outside")
         if self.is_brought_along(it):
-            return "bundled"
-        if not is_top(it.requirer.place) and it.requirer.place not in self.looked:
-            finding.advised(ANEW, False)
-        why = self.excuse_of_version(finding) if isinstance(finding, UNMET) else ""
-        if not why and it.name in self.names_apart and (it.kind == PEERS or not it.requirer.place):
-            finding.advised(AGREE, True)
-        return why
+            return Left("bundled")
+        found = self.left_with_version(finding) if isinstance(finding, UNMET) else Left()
+        is_apart = it.name in self.names_apart and (it.kind == PEERS or not it.requirer.place)
+        if is_apart and not found.excuse:
+            return Left("", AGREE, True)
+        is_below = not is_top(it.requirer.place) and it.requirer.place not in self.looked
+        return found._replace(advice=ANEW) if is_below and not found.advice else found
 
-    def excuse_of_version(self, finding: OfFound) -> str:
-        """Returns why npm leaves a package with the wrong version; an empty text if it doesn't."""
+    def left_with_version(self, finding: OfFound) -> Left:
+        """Returns why npm leaves a package with the wrong version, if it does, and an advice."""
         it = finding.requirement
-        if it.name in self.by_range:
-            finding.advised(WITHOUT_RANGE, False)
+        advice = WITHOUT_RANGE if it.name in self.by_range else ""
         if self.may_stay(finding) or self.is_hiding(finding):
             if isinstance(finding, Overridden):
-                return "override"
-            finding.advised(ANEW, False)
+                return Left("override", advice)
+            advice = ANEW
         # If there are overrides, npm also leaves what has the version of the one that it fetches.
         if self.rules.inner and is_fetched(finding.specifier):
-            finding.advised(TwoVersions.advice, False)
+            advice = TwoVersions.advice
         if self.peers is None:
-            return ""
+            return Left("", advice)
         if self.peers.may_be_left(it):
-            finding.advised(PEER, False)
-        return "conflicting peer" if self.peers.is_left(it) else ""
+            advice = PEER
+        return Left("conflicting peer" if self.peers.is_left(it) else "", advice)
 
     def may_stay(self, finding: OfFound) -> bool:
         """Returns whether npm may leave the package that a finding is about: a package of the name

@@ -21,6 +21,7 @@ a requirement, the override is what has to be satisfied.
 """
 
 import os
+from functools import cached_property
 from typing import Dict, Iterable, Iterator, List, Optional, Set, Tuple
 
 from ..files import STANDARD_INPUT, Entry, bytes_of, json_object, taking, text_at
@@ -50,7 +51,7 @@ from ..model import (
 )
 from ..node.archives import archive_at
 from ..node.integrity import FIELD as INTEGRITY
-from ..node.integrity import checksum_findings
+from ..node.integrity import checksum_findings, is_usual
 from ..node.npmrc import LEGACY_PEERS, STRICT_PEERS, is_set
 from ..node.package_json import (
     MANIFEST,
@@ -347,11 +348,11 @@ class Reader:
         checked = [it for it in places if not is_left_out(places[it], self.scope)]
         if self.manifest is None:
             return checked
-        there = self.reached()
-        return [it for it in checked if it in there]
+        return [it for it in checked if it in self.reached]
 
+    @cached_property
     def reached(self) -> Set[str]:
-        """Returns the places to which something leads from the project and its workspaces."""
+        """The places to which something leads from the project and its workspaces."""
         return reached(self.required, ["", *self.workspaces.values()])
 
     def unreached(self) -> List[Package]:
@@ -359,9 +360,8 @@ class Reader:
         project's package.json, or if requirements are left out."""
         if self.manifest is None or self.scope != Scope():
             return []
-        there = self.reached()
-        entries = self.packages.items()
-        return [self.found[it] for it, entry in entries if it not in there and not entry.get("link")]
+        own = (it for it, entry in self.packages.items() if not entry.get("link"))
+        return [self.found[it] for it in own if it not in self.reached]
 
     def nodes(self, checked: List[str], first: List[Finding]) -> Iterator[Node]:
         """Yields a node for the project as a whole, and one for each place that is checked."""
@@ -372,8 +372,9 @@ class Reader:
             resolved = entry.get("resolved")
             is_plain = package is None or is_own_archive(package, resolved)
             own = [] if package is None or is_plain else list(archive_findings(package, resolved))
-            if package is not None:
-                own += checksum_findings(package, entry.get(INTEGRITY), False)
+            checksum = entry.get(INTEGRITY)
+            if package is not None and checksum is not None and not is_usual(checksum):
+                own += checksum_findings(package, checksum, False)
             required = self.required[place]
             if not place:
                 required = [it for it in required if it.kind != WORKSPACES]
@@ -416,7 +417,7 @@ class Reader:
             [found[it] for it in there],
             lambda: edges_of(plain),
             lambda: compared_in((it, packages[it]) for it in packages if is_top(it)),
-            self.leaving(reading).excuse,
+            self.leaving(reading).left,
             left_out=self.left_out,
             unreached=self.unreached(),
             from_lock=len(self.from_lock.intersection(checked)),

@@ -215,21 +215,21 @@ class Reader:
         for it in stated:
             is_shared = it.requirer.name == PROJECT and (it.name, it.specifier) in shared
             is_wrong = is_shared and self.has_other_resolution(it)
-            yield it._replace(stated=AGREE) if is_wrong else it
+            yield it._replace(advice=AGREE) if is_wrong else it
 
     def of_resolutions(self, stated: List[Requirement], shared: Shared) -> Iterator[Requirement]:
         """Yields what the project requires by resolutions, with what is found for it. If one is a
         tag, yarn warns and ignores it. If the entry of one is missing, yarn asks the registry,
         unless it then drops an entry that the project itself requires."""
         found_for = [(it[0], self.lock.found(*it)) for it in shared if it[0] in self.resolutions]
-        contradicted = {it.name for it in stated if it.stated}
+        contradicted = {it.name for it in stated if it.advice}
         for name, groups in self.resolutions.items():
             versions = [it.version for known, it in found_for if known == name and it is not None]
             for spec in dict.fromkeys(it.spec for group in groups.values() for it in group):
                 if is_taken(spec):
                     is_dropped = any(verdict_on(it, spec) == UNSATISFIED for it in versions)
                     found = self.own_found(Requirement(Requirer(PROJECT), name, spec))
-                    found = found._replace(stated=AGREE if name in contradicted else None)
+                    found = found._replace(advice=AGREE if name in contradicted else "")
                     yield found._replace(excuse="" if is_dropped else FROM_REGISTRY)
 
     def of_keys(self) -> Iterator[Requirement]:
@@ -370,8 +370,8 @@ class Classic(YarnTool):
         """Adds advice to a finding that the command doesn't repair: yarn doesn't compare what is
         found for an alias, and it uses a resolution even if that contradicts a requirement."""
         super().advise(finding)
-        if isinstance(finding, (Missing, Unsatisfied, Overridden)) and finding.requirement.stated:
-            finding.advised(finding.requirement.stated, False)
+        if isinstance(finding, (Missing, Unsatisfied, Overridden)) and finding.requirement.advice:
+            finding.advised(finding.requirement.advice, False)
         if isinstance(finding, (AnotherPackage, Unsatisfied)) and alias_of(finding.specifier):
             finding.advised(TwoVersions.advice, False)
 
