@@ -14,6 +14,7 @@ from .findings import (
     Missing,
     MissingEntry,
     MissingMember,
+    NotPatched,
     NotReplaced,
     NotRequired,
     Overridden,
@@ -27,8 +28,8 @@ REPAIRED: Dict[str, Tuple[Type[Finding], ...]] = {
     "npm": (Missing, MissingMember, Overridden, Unsatisfied),
     "yarn 1": (Missing, Unsatisfied),
     "Cargo": (
-        AnotherSource, ManifestVersion, Missing, MissingEntry, MissingMember, NotReplaced,
-        NotRequired, Unreached, Unsatisfied, WrongChecksum,
+        AnotherSource, ManifestVersion, Missing, MissingEntry, MissingMember, NotPatched,
+        NotReplaced, NotRequired, Unreached, Unsatisfied, WrongChecksum,
     ),
 }  # fmt: skip
 """The kinds of findings that the command of a tool repairs, unless they have an advice."""

@@ -22,7 +22,7 @@ from semver_parser.checks.reports import Wanted, report_on  # noqa: E402
 
 AS_WRITTEN = "a finding for a lock file as the tool wrote it"
 """A difference that the README doesn't excuse: the tool wrote the file, and accepts it. The only
-exception is what npm left out of it, since the registry doesn't have it."""
+exceptions are what npm left out, and peers that it kept, by what the registry has."""
 
 RECORD = Path(__file__).with_name("repaired")
 """The record of what commands repaired: a tool and a kind of findings on each line."""

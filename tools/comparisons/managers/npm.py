@@ -24,7 +24,7 @@ from projects import environment, write_project
 from registry import Json, Registry, in_order
 from repairs import Repairs, repair
 from semver_parser import Dialect, Version
-from semver_parser.checks.findings import AnotherPackage, TwoVersions
+from semver_parser.checks.findings import AnotherPackage, OfRequirement, TwoVersions
 from semver_parser.checks.model import PEERS
 from semver_parser.checks.npm import NPM
 from semver_parser.checks.node.specifiers import range_of
@@ -46,7 +46,7 @@ LOCK = "package-lock.json"
 WAITING = 60
 FLAGS = ["--package-lock-only", "--no-audit", "--no-fund", "--ignore-scripts"]
 
-# The only choice that counts for a lock file as npm wrote it, since only the registry has the reason.
+# A choice that counts also for a lock file as npm wrote it, since only the registry has the reason.
 LEFT_OUT = "what is optional and can't be installed"
 
 # What npm prints if it can't repair a lock file.
@@ -152,6 +152,17 @@ def choice_of(finding: Finding, it: Case, answer: Answer) -> Optional[str]:
     if finding.kind == Unsatisfied.kind and is_hiding(finding, it):
         return "a package that hides the one that npm would add"
     return "a peer whose newest version has no place" if is_left_peer(finding, it) else None
+
+
+def choice_as_written(finding: Finding, _: Case, answer: Answer) -> Optional[str]:
+    """Returns why a finding is listed for a lock file as npm wrote it and accepts it, if only the
+    registry has the reason. No other choice counts there."""
+    record = finding.record
+    requirer = "" if record.requirer in (PROJECT, None) else record.requirer
+    if [requirer, record.dependency or ""] in answer.left_out:
+        return LEFT_OUT
+    is_peer = isinstance(finding, OfRequirement) and finding.requirement.kind == PEERS
+    return "a peer that npm keeps by what the registry has" if is_peer else None
 
 
 def is_hiding(finding: Finding, it: Case) -> bool:
@@ -313,13 +324,12 @@ def compare(it: Case, answer: Answer, as_written: Answer, found: Differences) ->
         else:
             found.choose(choice, shown(it, answer.refused))
     else:
-        choices = {choice_of(each, it, answer) for each in listed}
+        reason = choice_of if it.edit else choice_as_written
+        choices = {reason(each, it, answer) for each in listed}
         why = shown(it, [[each.kind, *each.record] for each in listed])
         for choice in choices:
-            if not it.edit and choice != LEFT_OUT:
-                found.add(AS_WRITTEN, why)
-            elif choice is None:
-                found.add("only the checker rejects", why)
+            if choice is None:
+                found.add("only the checker rejects" if it.edit else AS_WRITTEN, why)
             else:
                 found.choose(choice, why)
 
