@@ -72,7 +72,7 @@ def is_elsewhere(root: Optional[str], folder: str) -> bool:
 def has_member(root: str, folder: str) -> bool:
     """Returns whether the workspace in a directory has the package in another one as a member."""
     members = entries_of(root, read(os.path.join(root, MANIFEST)))
-    return os.path.abspath(folder) in map(os.path.abspath, members)
+    return os.path.abspath(folder) in [os.path.abspath(it) for it in members]
 
 
 def refuse_stray(folder: str, entry: Entry) -> None:

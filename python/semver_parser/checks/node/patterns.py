@@ -68,7 +68,7 @@ def sequence(first: str, last: str, step: str = "1") -> List[str]:
     if max(map(len, (first, last, step))) > LONGEST:
         refuse_more()
     is_of_letters = first.isalpha()
-    begin, end = map(ord if is_of_letters else int, (first, last))
+    begin, end = (ord(it) if is_of_letters else int(it) for it in (first, last))
     by = abs(int(step))
     if by == 0 or abs(end - begin) // by >= MOST:
         refuse_more()

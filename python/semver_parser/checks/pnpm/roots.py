@@ -38,4 +38,4 @@ def has_workspace(outer: str, inner: str) -> bool:
 def is_shared(top: str) -> bool:
     """Returns whether the workspaces of a project share its lock file, as they do by default."""
     in_npmrc = npmrc_of(top).get(SHARED_IN_NPMRC, "true")
-    return (workspace_file(top) or {}).get(SHARED, in_npmrc) != "false"
+    return str((workspace_file(top) or {}).get(SHARED, in_npmrc)) != "false"
