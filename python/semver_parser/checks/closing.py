@@ -91,7 +91,13 @@ def error_of(report: Report) -> Optional[Refusal]:
 
 def unchecked_line(report: Report) -> str:
     """Returns why it is an error that nothing was checked."""
+    not_reached = report.not_reached()
+    if not_reached and not report.requirements:
+        packages = counted(not_reached, "package", "packages")
+        them = "it" if not_reached == 1 else "them"
+        why = f"since no manifest, workspace or requirement leads to {them}"
+        return f"checked nothing of {packages}, {why}"
     requirements = counted(report.requirements, "requirement", "requirements")
-    packages = counted(report.packages + report.not_reached(), "package", "packages")
+    packages = counted(report.packages + not_reached, "package", "packages")
     first = f"nothing was checked of {requirements} and {packages} ({report.tool_name})"
     return "; ".join([first, *parts_of(report)])

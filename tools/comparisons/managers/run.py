@@ -21,4 +21,5 @@ def main(count: int, seed: int, changes: int, tools: List[str]) -> int:
     return int(not is_same)
 
 
-sys.exit(main(*map(int, sys.argv[1:4]), sys.argv[4:] or ["npm", "yarn", "cargo"]))
+COUNT, SEED, CHANGES = map(int, sys.argv[1:4])
+sys.exit(main(COUNT, SEED, CHANGES, sys.argv[4:] or ["npm", "yarn", "cargo"]))
