@@ -38,12 +38,13 @@ class Contradictions:
         peers = list(self.peers_of(["", *self.workspaces]))
         brought = (it.found.place for it in own if it.found is not None and self.fits(it))
         peers += self.peers_of(it for it in brought if not is_top(it))
-        needed = [it for it in peers if self.is_needed(it)]
+        by_name: Dict[str, Set[str]] = {}
+        for it in (*own, *filter(self.is_needed, peers)):
+            by_name.setdefault(it.name, set()).add(it.specifier)
         return {
             (peer.requirer.place, peer.name)
             for peer in peers
-            for it in (*own, *needed)
-            if it.name == peer.name and are_apart(it.specifier, peer.specifier)
+            if any(are_apart(it, peer.specifier) for it in by_name.get(peer.name, ()))
         }
 
     def peers_of(self, places: Iterable[str]) -> Iterator[Requirement]:
