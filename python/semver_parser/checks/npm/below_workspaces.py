@@ -1,4 +1,5 @@
-"""The overrides inside of one whose key is a workspace, such as `{"w": {"b": "2.0.0"}}`.
+"""The overrides below workspaces, also those inside of one whose key is a workspace, such as
+`{"w": {"b": "2.0.0"}}`.
 
 `npm install` applies them to everything below the workspace, and `npm ci` doesn't look there. So a
 package there is right if it satisfies either the requirement or the override.
@@ -21,11 +22,10 @@ def put_below_workspaces(
     `npm ci` looks. `workspaces` has their places by their names."""
     for name, place in workspaces.items():
         rule = rule_for(outermost, name, f"file:{place}")
-        if rule is not outermost:
-            for at, number, spec in replaced_below(asks, place, rule):
-                if at not in looked:
-                    it = asks[at][number]
-                    asks[at][number] = it._replace(replaced_by=(*it.replaced_by, spec))
+        for at, number, spec in replaced_below(asks, place, rule):
+            if at not in looked:
+                it = asks[at][number]
+                asks[at][number] = it._replace(replaced_by=(*it.replaced_by, spec))
 
 
 def replaced_below(

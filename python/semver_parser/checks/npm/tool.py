@@ -408,7 +408,7 @@ class Reader:
         first += [Conflict(it, override) for it, override in refused(reading)]
         checked, plain = self.checked(), dict(required)
         put_overrides(packages, required, reading)
-        if not reading.named.isdisjoint(self.workspaces):
+        if reading.named and self.workspaces:
             put_below_workspaces(required, self.workspaces, self.rules, looked_at(required))
         own = (it for it, each in packages.items() if not each.get("link"))
         there = [it for it in own if not found[it].is_own]
