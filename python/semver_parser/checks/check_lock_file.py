@@ -43,7 +43,8 @@ standard input. The content of a file shows which tool wrote it:
     --no-peers           leave out peers
     --package-json FILE  use this package.json instead of the one next to the
                          lock file of npm or yarn
-    --strict             also list what is not checked, such as tags and URLs
+    --strict             also list what is not checked, such as tags and URLs,
+                         and packages that nothing requires
     --why                below each finding, print the path from the project
     --duplicates         also list packages in several versions, and ranges that
                          differ between workspaces; the status stays the same
@@ -53,8 +54,8 @@ standard input. The content of a file shows which tool wrote it:
     -h, --help           print this
     --                   end the options
 
-On standard error, lines for each file say how much was checked, and which
-command repairs what is listed.
+On standard error, lines for each file say how much was checked, and how to
+repair what is listed.
 The status is 0 if nothing is listed, except by --duplicates, 1 if something
 else is, and 2 after an error, which standard error reports."""
 
