@@ -140,7 +140,8 @@ def choice_of(finding: Finding, it: Case, answer: Answer) -> Optional[str]:
     wanted, name = record.range or "", record.dependency or ""
     if finding.kind in (AnotherPackage.kind, TwoVersions.kind):
         return "names and archives"
-    if [requirer, name] in answer.left_out:
+    is_optional = packages_of(it.lock, None).get(requirer, {}).get("optional") is True
+    if [requirer, name] in answer.left_out or is_optional:
         return LEFT_OUT
     if requirer not in answer.looked:
         return "what is required below workspaces"
