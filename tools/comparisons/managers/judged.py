@@ -246,7 +246,7 @@ def main(names: List[str]) -> int:
             else:
                 wrong = list(wrong_in(case, folder, tools, known))
             os.chdir(TOP)
-        right = "nothing is listed as written" if is_written else "as the table says"
+        right = "nothing new is listed as written" if is_written else "as the table says"
         print(f"{case.name}: {'; '.join(wrong) or right}", flush=True)
         failed += bool(wrong)
     return int(bool(failed))
