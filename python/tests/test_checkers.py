@@ -1,6 +1,7 @@
 """Tests of the modules of the checkers: the judge, findings, what tools share, and the small
 functions of each tool."""
 
+import json
 import os
 import re
 import tempfile
@@ -46,6 +47,7 @@ from semver_parser.checks.node.specifiers import NodeScheme, reason_of
 from semver_parser.checks.node.workspaces import directories_of, is_workspace, patterns_of
 from semver_parser.checks.npm.lock import folders, name_by_place
 from semver_parser.checks.npm.overrides import have_in_common
+from semver_parser.checks.output.pieces import filled, lines_of
 from semver_parser.checks.paths import Paths
 from semver_parser.checks.tool import Input
 from semver_parser.checks.yarn.lock import tree_of
@@ -173,6 +175,24 @@ class Locating(unittest.TestCase):
         wanted = {("a",), ("b",)}
         found = lines_at(text, toml_offsets(text, wanted, DEPENDENCIES), wanted)
         self.assertEqual(found, {("a",): 4, ("b",): 5})
+
+
+class Pieces(unittest.TestCase):
+    """JSON piece by piece has the bytes that `json.dumps` returns for the whole."""
+
+    def test_lines(self) -> None:
+        for value in ({}, [], "\u00e9\n", None, {"a": [], "b": {"c": [1, {"d": True}], "e": {}}}):
+            whole = json.dumps(value, indent=2, ensure_ascii=False)
+            self.assertEqual("\n".join(lines_of(value)), whole)
+        self.assertEqual(lines_of("\u2028"), ['"\\u2028"'])
+
+    def test_filled(self) -> None:
+        for items in ([], [{"a": 1}], [{"a": 1, "b": []}, {"c": "["}]):
+            for after in ({}, {"after": []}):
+                value = {"before": [], "within": [{"items": [], **after}]}
+                whole = {"before": [], "within": [{"items": items, **after}]}
+                lines = filled(value, "items", map(lines_of, items))
+                self.assertEqual("\n".join(lines), json.dumps(whole, indent=2))
 
 
 TOP = os.path.dirname(os.path.dirname(os.path.dirname(os.path.abspath(__file__))))

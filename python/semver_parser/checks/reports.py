@@ -1,7 +1,7 @@
 """The report on the check of one lock file."""
 
 from dataclasses import dataclass, field
-from typing import Dict, List, NamedTuple, Optional, Set, Tuple
+from typing import Dict, List, NamedTuple, Optional, Set
 
 from .causes import advise
 from .duplicates import duplicates_in
@@ -9,9 +9,9 @@ from .files import STANDARD_INPUT, Refusal, bytes_of, name_of, taking
 from .findings import Finding, Missing
 from .judge import judge
 from .locating import lines_at, statement_lines
-from .model import NOT_REACHED, Keys, LockFile, Scope
+from .model import NOT_REACHED, Keys, Scope
 from .paths import Paths
-from .tool import Input, Statement, Tool
+from .tool import Input, Tool
 from .tools import tool_for
 from .wording import quoted
 
@@ -141,13 +141,7 @@ def report_on(path: str, named: Optional[str], wanted: Wanted) -> Report:
         with taking(path, "lock file"):
             file = Input(path, bytes_of(path, True), named, wanted.scope)
             report.tool = tool_for(file)
-            lock = report.tool.read(file)
-            check(report, report.tool, lock)
-            if wanted.has_duplicates:
-                scheme = lock.scheme or report.tool.scheme
-                report.duplicates = duplicates_in(lock, scheme.dialect)
-            if wanted.has_paths:
-                report.paths = Paths(lock.graph())
+            check(report, report.tool, file, wanted)
     except Refusal as error:
         report.refusal = error
         return report
@@ -156,31 +150,39 @@ def report_on(path: str, named: Optional[str], wanted: Wanted) -> Report:
     return report
 
 
-def check(report: Report, tool: Tool, lock: LockFile) -> None:
-    """Has the judge check a lock file, and counts its contents."""
-    judgement = judge(lock, lock.scheme or tool.scheme)
-    report.findings, report.requirements = judgement
+def check(report: Report, tool: Tool, file: Input, wanted: Wanted) -> None:
+    """Has the judge check a lock file, and counts its contents. The model of the lock file is
+    referenced only here, so that it is freed before anything is located or printed."""
+    lock = tool.read(file)
+    scheme = lock.scheme or tool.scheme
+    report.findings, report.requirements = judge(lock, scheme)
     for finding in report.findings:
         advise(finding, tool)
     report.packages = lock.package_count
     report.left_out, report.from_lock = lock.left_out, lock.from_lock
+    if wanted.has_duplicates:
+        report.duplicates = duplicates_in(lock, scheme.dialect)
+    if wanted.has_paths:
+        report.paths = Paths(lock.graph())
 
 
 def locate(report: Report, tool: Tool, file: Input) -> None:
-    """Finds the lines of findings, in the lock file and in manifests."""
+    """Finds the lines of findings, in the lock file and in manifests. Each finding is asked twice
+    where it is stated, since a list of all statements would take much memory."""
     listed = [*report.findings, *report.duplicates]
     wanted = {it.at for it in listed if it.at}
     if wanted:
         report.lines = lines_at(file.text, tool.offsets(file.text, wanted), wanted)
-    stated: Dict[str, List[Tuple[Finding, Statement]]] = {}
+    keys: Dict[str, Set[Keys]] = {}
     for finding in listed:
         statement = tool.statement(finding, file)
         if statement is not None:
-            stated.setdefault(statement.path, []).append((finding, statement))
-    for path, several in stated.items():
-        keys: Set[Keys] = {it for _, statement in several for it in statement.keys}
-        lines = statement_lines(path, keys)
-        for finding, statement in several:
-            line = next((lines[it] for it in statement.keys if it in lines), None)
+            keys.setdefault(statement.path, set()).update(statement.keys)
+    lines = {path: statement_lines(path, each) for path, each in keys.items()}
+    for finding in listed:
+        statement = tool.statement(finding, file)
+        if statement is not None:
+            of_path = lines[statement.path]
+            line = next((of_path[it] for it in statement.keys if it in of_path), None)
             if line is not None:
-                report.positions[id(finding)] = Position(path, line)
+                report.positions[id(finding)] = Position(statement.path, line)

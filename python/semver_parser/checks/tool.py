@@ -14,6 +14,7 @@ from .model import Keys, LockFile, Scope
 Offsets = Iterator[Tuple[Keys, int]]
 """The keys of entries of a file, each with the offset where the entry begins."""
 
+Argument = TypeVar("Argument")
 Value = TypeVar("Value")
 
 
@@ -23,14 +24,18 @@ class Input:
 
     def __init__(self, path: str, text: bytes, named: Optional[str], scope: Scope) -> None:
         self.path, self.text, self.named, self.scope = path, text, named, scope
-        self.known: Dict[Callable[[bytes], Any], Any] = {}
+        self.known: Dict[Callable[..., Any], Any] = {}
+
+    def once(self, function: Callable[[Argument], Value], argument: Argument) -> Value:
+        """Returns what a function returns. It is called only once for the file."""
+        if function not in self.known:
+            self.known[function] = function(argument)
+        value: Value = self.known[function]
+        return value
 
     def parsed(self, parse: Callable[[bytes], Value]) -> Value:
-        """Returns the content as a function parses it. Each function is called only once."""
-        if parse not in self.known:
-            self.known[parse] = parse(self.text)
-        value: Value = self.known[parse]
-        return value
+        """Returns the content as a function parses it."""
+        return self.once(parse, self.text)
 
     @property
     def json(self) -> Entry:

@@ -211,15 +211,17 @@ def requirer_of(package: Package) -> Requirer:
     return Requirer(package.name or "", package.version or "", "", package.at)
 
 
-def crates_below(directory: str) -> Iterator[Tuple[str, str]]:
-    """Yields the names of packages below a directory, each with its Cargo.toml."""
+def crates_below(directory: str) -> Dict[str, str]:
+    """Returns the names of packages below a directory, each with its Cargo.toml."""
+    crates: Dict[str, str] = {}
     for place in named_below(directory, (MANIFEST,)):
         path = os.path.join(directory, place)
         text = text_at_path(path).decode("utf-8", "replace")
         for table, key, line in toml_lines(text):
             found = NAME.match(line)
             if table == "package" and key == "name" and found is not None:
-                yield found.group(1), path
+                crates[found.group(1)] = path
+    return crates
 
 
 class Cargo(Tool):
@@ -261,7 +263,7 @@ class Cargo(Tool):
         """Returns where the Cargo.toml of a package below the directory states a requirement."""
         if not isinstance(finding, OfRequirement) or file.directory is None:
             return None
-        crates = file.parsed(lambda _: dict(crates_below(file.directory or "")))
+        crates = file.once(crates_below, file.directory)
         it = finding.requirement
         path = crates.get(it.requirer.name)
         return None if path is None else Statement(path, [(it.alias or it.name,)])

@@ -1,31 +1,28 @@
 """The format `json`: one object with all that is known."""
 
-import json
-from typing import Any, Dict, Iterator
+from typing import Iterator
 
 from ..closing import error_of
 from ..findings import Finding
-from ..program import visible
 from ..repairs import command_for
 from ..reports import Report, Results
-
-Object = Dict[str, Any]
+from .pieces import Object, filled, lines_of
 
 
 def lines(results: Results) -> Iterator[str]:
     """Yields the lines of the object."""
-    whole = {
-        "files": [report_object(it) for it in results.reports],
+    whole: Object = {
+        "files": [],
         "errors": [{"file": it.path, "error": it.why} for it in results.refusals],
         "allow": [it._asdict() for it in results.unused],
     }
-    yield from map(visible, json.dumps(whole, indent=2, ensure_ascii=False).split("\n"))
+    yield from filled(whole, "files", map(report_lines, results.reports))
 
 
-def report_object(report: Report) -> Object:
-    """Returns what is known of a lock file. A file that was rejected has no tool."""
+def report_lines(report: Report) -> Iterator[str]:
+    """Yields the lines of what is known of a lock file. A file that was rejected has no tool."""
     error = error_of(report)
-    return {
+    known: Object = {
         "file": report.name,
         "tool": report.tool_name or None,
         "error": None if error is None else error.why,
@@ -37,8 +34,10 @@ def report_object(report: Report) -> Object:
         "left_out": report.left_out,
         "allowed": report.allowed,
         "from_lock": report.from_lock,
-        "findings": [finding_object(it, report) for it in report.listed],
+        "findings": [],
     }
+    findings = (lines_of(finding_object(it, report)) for it in report.listed)
+    yield from filled(known, "findings", findings)
 
 
 def finding_object(it: Finding, report: Report) -> Object:

@@ -1,25 +1,21 @@
 """The format `sarif`: SARIF 2.1.0, with what GitHub's code scanning requires."""
 
 import hashlib
-import json
 from itertools import islice
-from typing import Any, Dict, Iterator, List, Optional
+from typing import Iterator, List, Optional
 from urllib.parse import quote
 
 from ... import __version__
 from ..closing import error_of
 from ..findings import CLASSES
-from ..program import visible
 from ..reports import Results
 from ..repository import in_repository
+from .pieces import Object, filled, lines_of
 from .text import grouped, told
 
-Object = Dict[str, Any]
-
 SCHEMA = "https://json.schemastore.org/sarif-2.1.0.json"
-# How many results of a run GitHub accepts, and how far they are indented.
+# How many results of a run GitHub accepts.
 MOST = 25000
-INDENT = " " * 8
 
 REFUSED, NO_LONGER_APPLIES = "refused", "no-longer-applies"
 
@@ -34,8 +30,8 @@ RULES = list(DESCRIPTIONS)
 
 
 def lines(results: Results) -> Iterator[str]:
-    """Yields the lines of the object, one result after the other, since there may be many. Results
-    beyond the number that GitHub accepts are left out, and a notification says so."""
+    """Yields the lines of the object. Results beyond the number that GitHub accepts are left out, and
+    a notification says so."""
     count = count_of(results)
     has_errors = bool(results.refusals) or any(map(error_of, results.reports))
     invocation: Object = {"executionSuccessful": not has_errors}
@@ -50,25 +46,8 @@ def lines(results: Results) -> Iterator[str]:
     }
     run = {"tool": {"driver": driver}, "invocations": [invocation], "results": []}
     whole = {"$schema": SCHEMA, "version": "2.1.0", "runs": [run]}
-    *before, last, third, second, first = text_of(whole).split("\n")
-    yield from before
-    yield last[:-1] if count else last
-    for number, it in enumerate(islice(all_results(results), MOST), 1):
-        comma = "," if number < min(count, MOST) else ""
-        yield from (INDENT + line for line in f"{text_of(it)}{comma}".split("\n"))
-    if count:
-        yield f"{INDENT[2:]}]"
-    yield from (third, second, first)
-
-
-def text_of(value: Object) -> str:
-    """Returns an object as it is printed."""
-    return visible_lines(json.dumps(value, indent=2, ensure_ascii=False))
-
-
-def visible_lines(text: str) -> str:
-    """Returns lines in which control characters are JSON escapes."""
-    return "\n".join(map(visible, text.split("\n")))
+    listed = map(lines_of, islice(all_results(results), MOST))
+    yield from filled(whole, "results", listed)
 
 
 def count_of(results: Results) -> int:
