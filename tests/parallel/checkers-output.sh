@@ -187,19 +187,19 @@ advised() {
 }
 # untried FILE TOOL COMMAND: compares the line for a file of a tool whose command wasn't run.
 untried() {
-    ! may_read "$1" || advised "$1" "have $2 write it anew; whether $3 does that was not tried"
+    ! may_read "$1" || advised "$1" "have $2 write it anew; $3 may do that, but was not tried"
 }
-advised monorepo/package-lock.json 'change the version of the package, or what is required of it'
+advised monorepo/package-lock.json 'change the version in the manifest of the package, or the requirement'
 advised overrides-conflict/package-lock.json 'have the override and the requirement say the same'
-advised hiding/newer/package-lock.json 'remove it, and have npm write it without the old one'
-advised peers-conflict/package-lock.json 'have the requirement and the peer agree, or set legacy-peer-deps=true in .npmrc'
+advised hiding/newer/package-lock.json 'remove the lock file and node_modules, and have npm write a new lock file'
+advised peers-conflict/package-lock.json 'have the requirement and the peer dependency agree, or set legacy-peer-deps=true in .npmrc'
 ! has_toml || advised cargo-lock/conflicts/Cargo.lock 'correct the manifests: no lock file is right for them'
-! has_toml || advised cargo-lock/checksums/Cargo.lock 'remove the checksum, and have it written anew'
+! has_toml || advised cargo-lock/checksums/Cargo.lock 'remove the checksum from the lock file, and have Cargo write it anew'
 repaired monorepo/web/yarn.lock 'yarn install'
 advised yarn/stale/yarn.lock 'have the resolution and the requirement say the same' \
     'correct the manifests: no lock file is right for them'
 advised yarn/classic/yarn.lock 'run yarn install in cases/yarn/classic' \
-    'remove the entry, and have it written anew' 'correct the version of the package'
+    'remove the entry from the lock file, and have the tool write it anew' 'correct the version of the package'
 advised yarn/contradicted/yarn.lock 'have the resolution and the requirement say the same'
 advised yarn/gone/yarn.lock 'put the directory there, or remove what requires it'
 untried yarn/stale-berry/yarn.lock yarn 'yarn install'
@@ -207,7 +207,7 @@ untried pnpm/stale/pnpm-lock.yaml pnpm 'pnpm install'
 untried bun/beside/bun.lock Bun 'bun install'
 untried deno/beside/deno.lock Deno 'deno install'
 repaired cargo-lock/no-source/Cargo.lock 'cargo update --workspace'
-echo 'checked 1 requirement of 1 package in Cargo.lock (Cargo)
+echo 'checked 1 requirement and 1 package in Cargo.lock (Cargo)
 to repair Cargo.lock, run cargo update --workspace' > "$work/told"
 echo 'itoa 1.0.4 does not satisfy 1.0.10, required by app 0.1.0' > "$work/lines"
 ! has_toml || same 'how to repair a file here' 1 /dev/null "$work/lines" "$work/told" \
@@ -216,7 +216,7 @@ for name in cargo/made.json nothing-wrong.json; do
     ! $check cases/$name 2>&1 > /dev/null | grep '^to repair' || exit 1
 done
 $check cases/monorepo cases/cut-off.json 2>&1 > /dev/null | tail -n 1 > "$work/output" || :
-echo 'total: 4 requirements of 2 packages in 3 files; 1 not reached; 4 findings; 1 error' | diff -u - "$work/output"
+echo 'total: 4 requirements and 2 packages in 3 files; 1 not reached; 4 findings; 1 error' | diff -u - "$work/output"
 ! $check --quiet cases/monorepo 2>&1 > /dev/null | grep . || exit 1
 echo 'sums: passed'
 
@@ -328,27 +328,27 @@ unchecked() {
     for option in --strict '--strict --quiet'; do
         same "nothing is checked in $2 $option" 2 /dev/null "$3" "$work/told" $check $option "cases/unchecked/$2"
     done
-    echo "checked 0 requirements of $4" > "$work/told"
+    echo "checked 0 requirements and $4" > "$work/told"
     same "nothing is checked in $2" 0 /dev/null /dev/null "$work/told" $check "cases/unchecked/$2"
 }
 printf '%s 1.0.0 is not checked against %s (%s), required by the project\n' part user/part git tool latest tag > "$work/unchecked"
 unchecked '2 requirements and 2 packages (npm); 2 not checked: 1 git, 1 tag' package-lock.json "$work/unchecked" \
     '2 packages in cases/unchecked/package-lock.json (npm); 2 not checked: 1 git, 1 tag'
-echo "checked 1 requirement of 0 packages in cases/unchecked/paths/package-lock.json (npm)" > "$work/told"
+echo "checked 1 requirement and 0 packages in cases/unchecked/paths/package-lock.json (npm)" > "$work/told"
 same 'only paths' 0 /dev/null /dev/null "$work/told" $check cases/unchecked/paths/package-lock.json
 $check cases/unchecked/package-lock.json cases/unchecked/paths 2>&1 | tail -n 1 > "$work/output"
-echo 'total: 1 requirement of 2 packages in 2 files; 2 not checked; 0 findings' | diff -u - "$work/output"
+echo 'total: 1 requirement and 2 packages in 2 files; 2 not checked; 0 findings' | diff -u - "$work/output"
 unchecked '0 requirements and 1 package (npm)' npm-shrinkwrap.json /dev/null '1 package in cases/unchecked/npm-shrinkwrap.json (npm)'
 echo 'check-lock-file: cases/unchecked/npm-shrinkwrap.json: nothing was checked of 0 requirements and 1 package (npm)' > "$work/told"
 same 'nothing is checked, in JSON' 2 /dev/null cases/object-unchecked.json "$work/told" $check --strict --json cases/unchecked/npm-shrinkwrap.json
 echo "::error file=cases/unchecked/npm-shrinkwrap.json::nothing was checked of 0 requirements and 1 package (npm)" > "$work/lines"
 same 'nothing is checked, an annotation' 2 /dev/null "$work/lines" "$work/told" $check --strict --format github cases/unchecked/npm-shrinkwrap.json
 sed 's/"latest"/"^1.0.0"/' cases/unchecked/package-lock.json > "$work/lock"
-echo 'checked 1 requirement of 2 packages in standard input (npm); 1 not checked: 1 git' > "$work/told"
+echo 'checked 1 requirement and 2 packages in standard input (npm); 1 not checked: 1 git' > "$work/told"
 same 'one requirement is checked' 0 "$work/lock" /dev/null "$work/told" $check -
 
 sed 's/"dependencies"/"devDependencies"/' cases/unchecked/package-lock.json > "$work/lock"
-echo 'checked 0 requirements of 2 packages in standard input (npm); 2 left out' > "$work/told"
+echo 'checked 0 requirements and 2 packages in standard input (npm); 2 left out' > "$work/told"
 same 'all is left out' 0 "$work/lock" /dev/null "$work/told" $check --no-dev -
 
 # ---- files and directories
@@ -510,7 +510,7 @@ tool 1 has an invalid version, in node_modules/tool
 part 2.0.0 does not satisfy ^1.0.0, required by node_modules/tool
 END
 same 'packages that npm marks' 1 /dev/null "$work/lines" /dev/null $check --quiet cases/no-dev/marked.json
-echo 'checked 2 requirements of 1 package in cases/no-dev/marked.json (npm); 2 left out' > "$work/told"
+echo 'checked 2 requirements and 1 package in cases/no-dev/marked.json (npm); 2 left out' > "$work/told"
 same 'without the packages that npm marks' 0 /dev/null /dev/null "$work/told" $check --no-dev cases/no-dev/marked.json
 sed -f cases/cargo/workspace-broken.sed cases/cargo/workspace.json > "$work/graph"
 sed '/missing$/d' cases/cargo/workspace-broken.expected > "$work/fields"
@@ -551,8 +551,8 @@ echo '{"lockfileVersion": 3, "packages": {"": {"dependencies": {"x": "1 # 2"}}, 
 echo 'x 1.0.0 cannot be checked: "1 # 2" is an invalid range, required by the project # known # so far' > "$work/known.txt"
 same 'a known finding with a mark in it' 0 "$work/lock" /dev/null /dev/null $check --quiet --allow "$work/known.txt" -
 printf '%s # later\n' "$lodash" > "$work/known.txt"
-echo 'checked 2 requirements of 1 package in cases/monorepo/package-lock.json (npm); 1 allowed
-to repair cases/monorepo/package-lock.json, change the version of the package, or what is required of it' > "$work/told"
+echo 'checked 2 requirements and 1 package in cases/monorepo/package-lock.json (npm); 1 allowed
+to repair cases/monorepo/package-lock.json, change the version in the manifest of the package, or the requirement' > "$work/told"
 echo "$a" > "$work/lines"
 same 'known findings are counted' 1 /dev/null "$work/lines" "$work/told" \
     $check --allow "$work/known.txt" cases/monorepo/package-lock.json

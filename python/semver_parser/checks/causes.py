@@ -37,7 +37,7 @@ REPAIRED: Dict[str, Tuple[Type[Finding], ...]] = {
 
 def untried(tool: Tool) -> str:
     """Returns the advice for a finding for which the command of a tool wasn't run."""
-    return f"have {tool.name} write it anew; whether {tool.repair} does that was not tried"
+    return f"have {tool.name} write it anew; {tool.repair} may do that, but was not tried"
 
 
 def advise(finding: Finding, tool: Tool) -> None:

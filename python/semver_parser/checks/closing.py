@@ -58,7 +58,7 @@ def closing_line(report: Report) -> str:
     """Returns the closing line of a lock file."""
     requirements = counted(report.checked(), "requirement", "requirements")
     packages = counted(report.packages, "package", "packages")
-    first = f"checked {requirements} of {packages} in {report.name} ({report.tool_name})"
+    first = f"checked {requirements} and {packages} in {report.name} ({report.tool_name})"
     return "; ".join([first, *parts_of(report)])
 
 
@@ -70,7 +70,7 @@ def total_line(results: Results) -> str:
     packages = counted(sum(it.packages for it in reports), "package", "packages")
     files = counted(len(reports), "file", "files")
     listed = sum(len(it.listed) for it in reports) + len(results.unused)
-    parts = [f"total: {checked} of {packages} in {files}"]
+    parts = [f"total: {checked} and {packages} in {files}"]
     not_checked = sum(sum(it.not_checked().values()) for it in reports)
     parts += [f"{not_checked:,} not checked"] if not_checked else []
     not_reached = sum(it.not_reached() for it in reports)

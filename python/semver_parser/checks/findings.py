@@ -386,7 +386,7 @@ class TwoVersions(OfPackage):
 
     kind, title = "another-version", "An entry has two versions"
     text = "{found} does not match {other} of the same entry{inside}"
-    advice = "remove the entry, and have it written anew"
+    advice = "remove the entry from the lock file, and have the tool write it anew"
 
 
 class ManifestVersion(TwoVersions):

@@ -16,7 +16,7 @@ CHECKSUM = re.compile(r"[0-9a-f]{64}")
 FIELD = "checksum"
 
 # The advice for a wrong checksum. Cargo only writes those that are missing.
-ADVICE = "remove the checksum, and have it written anew"
+ADVICE = "remove the checksum from the lock file, and have Cargo write it anew"
 
 
 def checksum_findings(lock: Lock) -> Iterator[Finding]:

@@ -257,7 +257,8 @@ class Cargo(Tool):
         if isinstance(finding, AnotherCommit):
             finding.advised(f"run cargo update {finding.requirement.name}", False)
         if isinstance(finding, Unsatisfied) and finding.found and not finding.found.source:
-            finding.advised("change the version of the package, or what is required of it", True)
+            advice = "change the version in the manifest of the package, or the requirement"
+            finding.advised(advice, True)
 
     def statement(self, finding: Finding, file: Input) -> Optional[Statement]:
         """Returns where the Cargo.toml of a package below the directory states a requirement."""

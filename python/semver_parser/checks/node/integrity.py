@@ -26,7 +26,7 @@ LENGTHS = {
 USUAL, USUAL_LENGTH = "sha512-", 95
 
 # The advice for a wrong checksum, which the tools keep.
-ADVICE = "remove the entry, and have it written anew"
+ADVICE = "remove the entry from the lock file, and have the tool write it anew"
 
 
 def is_usual(value: object) -> bool:

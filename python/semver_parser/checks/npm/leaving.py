@@ -30,16 +30,16 @@ UNMET = (Unsatisfied, Overridden)
 # The advice for what npm install doesn't repair: what is required below workspaces, since npm
 # doesn't check it; a package that npm only leaves out, since one further up satisfies the
 # requirement; and a package that hides the one that npm would add.
-ANEW = "remove it, and have npm write it without the old one"
+ANEW = "remove the lock file and node_modules, and have npm write a new lock file"
 
 # The advice for a mismatched peer that npm may keep.
 PEER = "run npm install; if npm keeps a mismatched peer, change what requires the package"
 
 # The advice if an override whose key has a range applies: npm may reject what it then writes.
-WITHOUT_RANGE = "give the override a key without a range, and have npm write it anew"
+WITHOUT_RANGE = "give the override a key without a range, and have npm write the lock file anew"
 
 # The advice if no version satisfies both a peer and what the project requires.
-AGREE = "have the requirement and the peer agree, or set legacy-peer-deps=true in .npmrc"
+AGREE = "have the requirement and the peer dependency agree, or set legacy-peer-deps=true in .npmrc"
 
 
 class Leaving:

@@ -274,7 +274,8 @@ class Npm(NodeTool):
             finding.advised(TwoVersions.advice, False)
         is_unmet = isinstance(finding, (Missing, Unsatisfied))
         if is_unmet and isinstance(finding, OfRequirement) and finding.requirement.kind == OPTIONAL:
-            finding.advised("install it, or remove it, if it can't be installed", False)
+            advice = "install the optional dependency, or remove it from the manifest"
+            finding.advised(f"{advice} if it can't be installed", False)
 
     def statement(self, finding: Finding, file: Input) -> Optional[Statement]:
         """Returns where a package.json states a requirement."""
