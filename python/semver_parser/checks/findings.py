@@ -419,10 +419,10 @@ class NotPatched(OfPackage):
 
 
 class NotReplaced(OfPackage):
-    """A package that is replaced by another one, though nothing requires that any more."""
+    """A package that a lock file of Cargo has as replaced, though no `[replace]` names it."""
 
     kind, title = NotRequired.kind, NotRequired.title
-    text = "{found} is replaced, but nothing requires that"
+    text = "{found} is replaced, but no [replace] names it"
 
 
 class WrongChecksum(OfPackage):

@@ -1,5 +1,5 @@
-"""The checksums of archives in lock files of npm and yarn 1, as ssri reads them: `sha512-..`, and
-perhaps several of these, separated by blanks.
+"""The `integrity` of archives in lock files of npm and yarn 1, as ssri reads it: checksums such as
+`sha512-..`, of which there may be several, separated by blanks.
 
 Whether a checksum is that of the archive isn't in the files, but whether it can be one is.
 """
@@ -34,11 +34,11 @@ def is_usual(value: object) -> bool:
     return isinstance(value, str) and len(value) == USUAL_LENGTH and value.startswith(USUAL)
 
 
-def checksum_findings(package: Package, value: object, has_to_be: bool) -> Iterator[Finding]:
-    """Yields the finding about a package whose checksum can't be right. `has_to_be` says whether a
+def integrity_findings(package: Package, value: object, has_to_be: bool) -> Iterator[Finding]:
+    """Yields the finding about a package whose `integrity` can't be right. `has_to_be` says whether a
     text without any checksum is wrong, too."""
     if isinstance(value, str) and not may_be_right(value, has_to_be):
-        yield WrongChecksum(package, "", f"the invalid checksum {value}").advised(ADVICE, False)
+        yield WrongChecksum(package, "", f"the invalid integrity {value}").advised(ADVICE, False)
 
 
 def may_be_right(text: str, has_to_be: bool) -> bool:

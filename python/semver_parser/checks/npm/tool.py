@@ -51,7 +51,7 @@ from ..model import (
 )
 from ..node.archives import archive_at
 from ..node.integrity import FIELD as INTEGRITY
-from ..node.integrity import checksum_findings, is_usual
+from ..node.integrity import integrity_findings, is_usual
 from ..node.npmrc import LEGACY_PEERS, STRICT_PEERS, is_set
 from ..node.package_json import (
     MANIFEST,
@@ -373,9 +373,9 @@ class Reader:
             resolved = entry.get("resolved")
             is_plain = package is None or is_own_archive(package, resolved)
             own = [] if package is None or is_plain else list(archive_findings(package, resolved))
-            checksum = entry.get(INTEGRITY)
-            if package is not None and checksum is not None and not is_usual(checksum):
-                own += checksum_findings(package, checksum, False)
+            integrity = entry.get(INTEGRITY)
+            if package is not None and integrity is not None and not is_usual(integrity):
+                own += integrity_findings(package, integrity, False)
             required = self.required[place]
             if not place:
                 required = [it for it in required if it.kind != WORKSPACES]

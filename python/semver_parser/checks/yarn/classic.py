@@ -36,7 +36,7 @@ from ..judge import INVALID_RANGE, RIGHT, UNSATISFIED, Verdict
 from ..model import PEERS, PROJECT, LockFile, Node, Package, Requirement, Requirer
 from ..node.archives import archive_at, without_build
 from ..node.integrity import FIELD as INTEGRITY
-from ..node.integrity import checksum_findings
+from ..node.integrity import integrity_findings
 from ..node.package_json import (
     KINDS,
     MANIFEST,
@@ -346,7 +346,7 @@ def is_taken(spec: str) -> bool:
 def archive_findings(package: Package) -> Iterator[Finding]:
     """Yields the findings about a package whose archive at a registry is that of another version,
     or whose checksum can't be right."""
-    yield from checksum_findings(package, package.entry.get(INTEGRITY), True)
+    yield from integrity_findings(package, package.entry.get(INTEGRITY), True)
     url = package.source.partition("#")[0]
     archive = archive_at(url) if own_name(package.entry) is not None else None
     version = without_build(package.version or "")
