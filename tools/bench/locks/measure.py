@@ -2,7 +2,7 @@
 that is named, they have the CPU seconds of the best of three runs, and the most memory of these
 runs.
 
-- In the files of the first table nothing is wrong.
+- In the files of the first table nothing is wrong, and each package is required.
 - In the files of the second table some versions are wrong; the table has each format.
 - The files of the third table are made to take long.
 
@@ -16,11 +16,13 @@ import sys
 import tempfile
 from multiprocessing import Pool
 from pathlib import Path
-from typing import Callable, Iterable, List, NamedTuple, Optional, Sequence, Tuple
+from typing import Callable, Iterable, List, NamedTuple, Optional, Sequence, Tuple, TypeVar
 
 import files
 import hostile
 from world import Shape, World, rooted, world_of
+
+Value = TypeVar("Value")
 
 SEED = 1
 RUNS = 3
@@ -47,14 +49,14 @@ def count_of(world: World) -> int:
 
 def of_npm(folder: Path) -> Lock:
     """Makes a large package-lock.json."""
-    packages = files.write_npm(folder, world_of(105000, SEED), {})
+    packages = files.write_npm(folder, rooted(world_of(105000, SEED)), {})
     return Lock("package-lock.json", folder / "package-lock.json", packages)
 
 
 def of_overrides(folder: Path) -> Lock:
     """Makes a package-lock.json next to a package.json with 50 overrides, none of them for a
     dependency of the project itself."""
-    world = world_of(2000, SEED, Shape((10, 20), 0.0, (0.1,)))
+    world = rooted(world_of(2000, SEED, Shape((10, 20), 0.0, (0.1,))))
     names = [name for name in world.releases if name not in world.needs][-50:]
     overrides = {name: world.releases[name][0].version for name in names}
     packages = files.write_npm(folder, world, {"overrides": overrides})
@@ -63,7 +65,7 @@ def of_overrides(folder: Path) -> Lock:
 
 def of_yarn(folder: Path, lines_of: Callable[[World], Iterable[str]], what: str) -> Lock:
     """Makes a large yarn.lock."""
-    world = world_of(140000, SEED)
+    world = rooted(world_of(140000, SEED))
     files.write_manifest(folder, world, {})
     path = write_lines(folder / "yarn.lock", lines_of(world))
     return Lock(what, path, len(files.keys_of(world, "")))
@@ -81,7 +83,7 @@ def of_yarn_4(folder: Path) -> Lock:
 
 def of_pnpm(folder: Path) -> Lock:
     """Makes a large pnpm-lock.yaml."""
-    world = world_of(12000, SEED)
+    world = rooted(world_of(22000, SEED))
     files.write_manifest(folder, world, {})
     path = write_lines(folder / "pnpm-lock.yaml", files.pnpm_lines(world))
     return Lock("pnpm-lock.yaml", path, count_of(world))
@@ -158,12 +160,17 @@ def main(checkouts: List[str]) -> None:
         print_hostile(programs, Path(top))
 
 
-def made(make: Callable[[Path], Lock], folder: Path) -> Lock:
-    """Returns a lock file that is made in a directory. It is made in another process, since a
-    program begins with as much memory as the process that starts it."""
-    folder.mkdir()
+def apart(function: Callable[[Path], Value], path: Path) -> Value:
+    """Calls a function in another process, since a program begins with as much memory as the
+    process that starts it."""
     with Pool(1) as other_process:
-        return other_process.apply(make, (folder,))
+        return other_process.apply(function, (path,))
+
+
+def made(make: Callable[[Path], Lock], folder: Path) -> Lock:
+    """Returns a lock file that is made in a directory."""
+    folder.mkdir()
+    return apart(make, folder)
 
 
 def print_head(first: str, programs: List[str]) -> None:
@@ -192,7 +199,7 @@ def print_by_format(programs: List[str], locks: List[Lock]) -> None:
     """Prints the table of the same files with something wrong, by format."""
     print_head("| file, ten versions wrong | format |", programs)
     for lock in locks:
-        change(lock.path)
+        apart(change, lock.path)
         for name in FORMATS:
             print(f"| {lock.what} | {name} |", end="", flush=True)
             for program in programs:
