@@ -1,3 +1,4 @@
+pub mod OneRefusal
 mod Places
 mod RangeErrors
 mod RangeReasons

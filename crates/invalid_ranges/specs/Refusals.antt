@@ -1,5 +1,5 @@
 -- Where and why a text is invalid as a range.
-use Rattle.std.specs.Prelude.{◌≡◌, ◌≢◌, ◌↔◌, Option, None, IfSome, drop, take}
+use Rattle.std.specs.Prelude.{◌≡◌, ◌≢◌, ◌≤◌, ◌↔◌, Option, None, IfSome, drop, length, take}
 use Rattle.semver_texts.specs.Texts.{Text}
 use Rattle.semver_ranges.specs.declared.range_set.RangeError.TheVariants.{NotARange}
 use Rattle.semver_ranges.specs.declared.range_set.RangeError.TheVariants.{NumberTooLarge}
@@ -20,6 +20,7 @@ pub record IsRefusalAs (d : Dialect) (text : Text) (found : Option Refusal) : Ty
   pub not_a_range : IfSome found (λ r. (r.error ≡ NotARange) ↔ ¬ (IsTextAs d text))
   pub too_large : IfSome found (λ r. (r.error ≡ NumberTooLarge) ↔ IsTooLargeAs d text)
   pub no_memory : IfSome found (λ r. r.error ≢ OutOfMemory)
+  pub within : IfSome found (λ r. r.offset ≤ length text)
   -- some range text begins with the bytes before the offset, and none with a longer prefix
   pub offset : IfSome found (λ r.
       r.error ≡ NotARange → IsLongestPrefix (BeginsAs d) text r.offset)

@@ -1,6 +1,6 @@
 //! Where and why a string is not a valid range.
 
-ghost use Rattle.std.specs.Prelude.{◌≡◌, ◌≢◌, IfErr, IfOk, drop, take};
+ghost use Rattle.std.specs.Prelude.{◌≡◌, ◌≢◌, ◌≤◌, IfErr, IfOk, drop, length, take};
 ghost use Rattle.semver_ranges.specs.declared.range_set.RangeError.TheVariants.{NotARange};
 ghost use Rattle.semver_ranges.specs.declared.range_set.RangeError.TheVariants.{NumberTooLarge};
 ghost use Rattle.invalid_strings.specs.Prefixes.{IsLongestPrefix};
@@ -89,6 +89,7 @@ fn explained(
         → r.0 ≡ limit_offset dialect tree text.now spelled) }
     ensures limit_reason { IfOk result (λ r. error.now ≡ NumberTooLarge
         → r.1 ≡ limit_reason dialect (drop r.0 text.now)) }
+    ensures within { IfOk result (λ r. r.0 ≤ length text.now) }
     ensures out_of_memory { IfErr result (λ _. error.now ≢ NumberTooLarge) }
 {
     match error {

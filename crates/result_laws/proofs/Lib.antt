@@ -3,4 +3,3 @@ pub mod SameSets
 pub mod LowestVersions
 pub mod RangeResults
 pub mod VersionResults
-pub mod OneRefusal

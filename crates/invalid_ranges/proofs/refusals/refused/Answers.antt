@@ -11,6 +11,7 @@ returns-clause-refused c =
       not_a_range = error.not_a_range;
       too_large = error.too_large;
       no_memory = error.kept;
+      within = told.within;
       offset = told.offset;
       reason = told.reason;
       limit = λ is.

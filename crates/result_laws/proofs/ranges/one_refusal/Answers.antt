@@ -2,7 +2,7 @@ use Rattle.std.proofs.Common.{take}
 use Rattle.invalid_strings.specs.Reasons.{byte_at}
 use Rattle.result_laws.specs.OneResult.{itself}
 use Rattle.result_laws.proofs.OneResult.{one_made, of_ok}
-use Rattle.result_laws.proofs.OneRefusal.{one_refused}
+use Rattle.invalid_ranges.proofs.OneRefusal.{one_refused}
 use Rattle.result_laws.proofs.ranges.one_refusal.Goals as goal
 
 pub returns : goal.returns

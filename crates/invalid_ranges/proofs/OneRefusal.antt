@@ -1,8 +1,8 @@
 -- A range text has at most one error, with one offset and one reason.
 use Rattle.std.proofs.Common.{◌≡◌, ◌∙◌, ℕ, Option, Some, None, refl, subst, sym, ap, drop, take}
 use Rattle.semver_texts.specs.Texts.{Text}
-use Rattle.semver_parser.specs.declared.RangeError.{RangeError}
-use Rattle.semver_parser.specs.declared.RangeError.TheVariants.{NotARange, NumberTooLarge, OutOfMemory}
+use Rattle.semver_ranges.specs.declared.range_set.RangeError.{RangeError}
+use Rattle.semver_ranges.specs.declared.range_set.RangeError.TheVariants.{NotARange, NumberTooLarge, OutOfMemory}
 use Rattle.invalid_strings.specs.Prefixes.{IsLongestPrefix}
 use Rattle.invalid_strings.specs.Reasons.{byte_at}
 use Rattle.invalid_strings.specs.declared.reasons.Reason.{Reason}

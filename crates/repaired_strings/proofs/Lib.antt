@@ -1,0 +1,4 @@
+pub mod Runs
+pub mod Chains
+pub mod OneError
+pub mod OneRepair
