@@ -55,7 +55,7 @@ clean:
 # rebuild.
 $(built)/semver-parser: FORCE
 	$(begin)
-	build -p semver-parser-proved --bins
+	build -p semver-parser-programs --bins
 $(built)/libsemver_parser.a: FORCE
 	$(begin)
 	build -p semver-parser-capi --no-default-features

@@ -11,7 +11,7 @@ export interface Options<D extends Dialect = 'npm'> {
   /** Whether all pre-releases within the bounds satisfy a range. This is node-semver's option; `true` means `preReleases: 'included'`. */
   includePrerelease?: boolean | undefined
   /** Which pre-releases satisfy a range: those that the tool accepts by default, all within the bounds, or none. */
-  preReleases?: 'default' | 'included' | 'excluded' | undefined
+  preReleases?: 'by-dialect' | 'included' | 'excluded' | undefined
   /** Has no effect, unless `rejectLoose` is true: versions and ranges are always read strictly. */
   loose?: boolean | undefined
   /** Whether the call throws a `TypeError` if `loose` is true. */

@@ -7,7 +7,7 @@ repository or a copy of it. tests/crates-apart.sh says what is tested with the w
   dependencies of crates.txt. The package rattle_std has rust/src/rattle_std.rs.
 - A function or trait that only its `requires` makes `pub(crate)` (rule 8 of docs/ERASURE.md) is as
   public as its source says, since other crates call it.
-- The package `programs` has the programs of rust/src/bin, and the package `tests`, in the directory
+- The package `programs` has the programs of rust/programs, and the package `tests`, in the directory
   rust, has the test rust/tests/proved.rs. They use these packages instead of the modules."""
 import re
 import shutil
@@ -81,7 +81,8 @@ def write_std(top, directory):
     """Writes the package of the functions of std."""
     text = (top / 'rust/src/rattle_std.rs').read_text(encoding='utf-8')
     text = changed(text, r'\$crate::rattle_std::', '$crate::')
-    text = changed(text, r'^pub use crate::\{fallible_\w+(, fallible_\w+)*\};\n', '')
+    text = changed(text, r'^(?=macro_rules! fallible_)', '#[macro_export]\n')
+    text = changed(text, r'^pub\(crate\) use \{fallible_\w+(, fallible_\w+)*\};\n', '')
     text = changed(text, r'^pub use alloc::vec;\n', 'extern crate alloc;\nextern crate std;\n'
                    'pub use alloc::vec;\n')
     write(directory / 'rattle_std/src/lib.rs', text)
@@ -90,14 +91,15 @@ def write_std(top, directory):
 
 def write_programs(top, directory, crates, modules):
     """Writes the package of the programs."""
-    for path in sorted((top / 'rust/src/bin').glob('*.rs')):
-        text = path.read_text(encoding='utf-8')
-        text = changed(text, r'^use semver_parser::rattle_std::\{self, HostRuntime\};\n',
-                       'use rattle_std::HostRuntime;\n')
-        text = changed(text, r'^#\[path = "../proved"\]\nmod proved \{.*?^\}\n', modules)
-        write(directory / 'programs/src/bin' / path.name, text)
-    manifest = (top / 'rust/Cargo.toml').read_text(encoding='utf-8')
-    version = re.search('^version = "(.*)"$', manifest, re.M)[1]
+    source = top / 'rust/programs'
+    shutil.copytree(source / 'src', directory / 'programs/src')
+    text = (source / 'src/lib.rs').read_text(encoding='utf-8')
+    text = changed(text, r'^#\[path = "[^\n]*\nmod erased;\n', '')
+    text = changed(text, r'^#\[path = "[^\n]*\n#\[allow[^\n]*\nmod rattle_std;\n', '')
+    text = changed(text, r'^#\[path = "../../src/proved"\]\n.*?^mod proved \{.*?^\}\n', modules)
+    text = changed(text, r'^#\[cfg\(not\(feature = "std"\)\)\]\nuse erased as proved;\n', '')
+    write(directory / 'programs/src/lib.rs', text)
+    version = re.search('^version = "(.*)"$', (source / 'Cargo.toml').read_text('utf-8'), re.M)[1]
     write_manifest(directory / 'programs', 'programs', ['rattle_std', *crates], version)
 
 

@@ -13,8 +13,6 @@ import pathlib
 import re
 import sys
 
-HIDDEN = {'layers', 'proved', 'rattle_std'}
-
 FILES = re.compile(r'\b(?:crates|docs|js|python|rust|specs|tests|tools)/[\w*.]|\b\w+\.(?:antt|md|rt|sh|svg)\b')
 
 LINKS = (
@@ -25,8 +23,7 @@ LINKS = (
 
 def errors(top):
     pages = {path: path.read_text(encoding='utf-8') for path in sorted(top.rglob('*.html'))}
-    shown = {path: page for path, page in pages.items()
-             if HIDDEN.isdisjoint(path.relative_to(top).parts) and 'http-equiv="refresh"' not in page}
+    shown = {path: page for path, page in pages.items() if 'http-equiv="refresh"' not in page}
     if not shown:
         yield f'{top} has no page'
         return

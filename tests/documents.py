@@ -453,7 +453,7 @@ EDITS = [
     ('README.md', '("1.9.0", "^1.2"', '("1.9.0", "^1.3"'),
     ('rust/docs/MEANING.md', '## Terms', '## Words'),
     ('docs/ERASURE.md', 'tests/erased.py', 'tests/erases.py'),
-    ('rust/src/sets.rs', 'use crate::', 'use core::fmt;\nuse crate::'),
+    ('rust/src/terms.rs', 'use crate::', 'use core::fmt;\nuse crate::'),
     ('rust/docs/MEANING.md', ': RANGES.md#pre-releases', ': RANGES.md#prereleases'),
     ('rust/docs/MEANING.md', '][written terms]', '][terms as written]'),
     ('docs/manual/release-filter.1.md', '](../../rust/docs/RANGES.md)', '](../../rust/docs/RANGE.md)'),

@@ -115,7 +115,10 @@ def arguments(work, name, std):
 def compile_base(top, work, std):
     """Compiles rust/src/rattle_std.rs as a crate of its own, in a new directory."""
     os.makedirs(work)
-    shutil.copy(f'{top}/rust/src/rattle_std.rs', work)
+    # Its macros are for one crate, and the code that uses them is another one here.
+    text = read(f'{top}/rust/src/rattle_std.rs')
+    text = text.replace('\nmacro_rules! ', '\n#[macro_export]\nmacro_rules! ')
+    write(f'{work}/rattle_std.rs', text.replace('pub(crate) use {fallible', 'pub use crate::{fallible'))
     write(f'{work}/base.rs', ROOT + 'pub mod rattle_std;\n')
     subprocess.run([tool('rustc'), *arguments(work, 'base', std)], check=True, capture_output=True)
 

@@ -14,11 +14,6 @@ import tempfile
 
 TOP = pathlib.Path(__file__).resolve().parent.parent
 
-# These modules are hidden, and these methods are for other crates of this repository.
-HIDDEN = {'layers', 'proved', 'rattle_std'}
-INTERNAL = {f'{name}::{method}' for name in ('VersionRef', 'version::VersionRef')
-            for method in ('compared_pre', 'pre_bytes')}
-
 METHOD = re.compile(r'<section id="method\.(\w+)[-\d]*" class="method">')
 EXAMPLE = '<div class="example-wrap"><pre class="rust rust-example-rendered">'
 
@@ -32,7 +27,7 @@ def items(pages):
     for path in sorted(pages.rglob('*.*.html')):
         *modules, file = path.relative_to(pages).parts
         page = path.read_text()
-        if not HIDDEN.isdisjoint(modules) or 'http-equiv="refresh"' in page:
+        if 'http-equiv="refresh"' in page:
             continue
         name = '::'.join([*modules, file.split('.')[1]])
         yield name, up_to_end(page.partition('<details class="toggle top-doc"')[2])
@@ -47,7 +42,7 @@ with tempfile.TemporaryDirectory() as made:
     if not sys.argv[1:]:
         subprocess.run(['cargo', 'doc', '--quiet', '--offline', '--no-deps', '--target-dir', made],
                        cwd=TOP, check=True)
-    found = {name: text for name, text in items(pages) if name not in INTERNAL}
+    found = dict(items(pages))
 
 lacking = [name for name, text in found.items() if EXAMPLE not in text]
 if lacking or not found:

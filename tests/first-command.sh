@@ -118,7 +118,7 @@ grep -qx 'cargo <a b>' '$work/stdout' && $proves"
     has 'proving: crate 1 of 2 (a), N, 0 to 25 % of all
 proving: crate 2 of 2 (semver_parser_main), N, 25 to 100 % of all' lines
     says "$then_proved" 'proved, in N'
-    grep -q -- '-p semver-parser-proved --bin semver-parser$' "$work/builds" ||
+    grep -q -- '-p semver-parser-programs --bin semver-parser$' "$work/builds" ||
         fail 'cargo builds something else'
     stub rt "$proves"
     answers 7

@@ -167,7 +167,7 @@ for_python_by_a_sum() {
 
 # The programs, and a crate that depends on this one, each by the URL.
 for_cargo() {
-    command=$(as_written 'cargo install --git URL semver-parser-proved')
+    command=$(as_written 'cargo install --git URL semver-parser-programs')
     ends 0 sh -c "$command --root '$work/programs'"
     ends 0 "$work/programs/bin/compare-ranges" 1.2
     block_after 'compare-ranges 1.2' > "$work/wanted"

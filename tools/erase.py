@@ -216,12 +216,38 @@ def laws(code, files):
         code.drop_lines(begin, end + 1)
 
 
-def visible(code):
-    """Rule 8: makes a function with a `requires` `pub(crate)`. Rule 17: makes `main` callable from
-    another file."""
+def listed(top):
+    """Returns the functions of rust/private.txt, as pairs of a type and a name."""
+    path = f'{top}/rust/private.txt'
+    lines = open(path).read().splitlines() if os.path.exists(path) else []
+    return {tuple(line.split('::')) for line in lines if line and not line.startswith('#')}
+
+
+def type_with(code, i):
+    """Returns the type whose functions are in the block with the function at `i`, or None: the
+    block of `impl TYPE`, but not that of a trait."""
+    block = code.around(i)
+    for (at,) in code.find('impl'):
+        name = code.after(at)
+        name = code.after(code.close(name)) if code.text(name) == '<' else name
+        end = code.after(name)
+        end = code.after(code.close(end)) if code.text(end) == '<' else end
+        if block is not None and end == block:
+            return code.text(name)
+    return None
+
+
+def visible(code, private, seen):
+    """Rule 8: makes a function with a `requires`, and one that rust/private.txt lists,
+    `pub(crate)`. Rule 17: makes `main` callable from another file."""
     for (i,) in code.find('fn'):
         before = code.before(i)
-        if code.t[i].owes and code.text(before) == 'pub':
+        if code.text(before) == 'const':
+            before = code.before(before)
+        name = (type_with(code, i), code.text(code.after(i)))
+        if name in private and code.text(before) == 'pub':
+            seen.add(name)
+        if (code.t[i].owes or name in private) and code.text(before) == 'pub':
             code.t[before].text = 'pub(crate)'
         if code.text(code.after(i)) == 'main':
             code.t[i].text = 'pub fn'
@@ -434,13 +460,14 @@ def erase():
     copied = {'u8', 'u32', 'u64', 'usize', 'bool', 'char'}
     copied |= {name for code in codes for name in copied_types(code)}
     needing = of_std(codes)
+    private, seen = listed(TOP), set()
     yield 'mod.rs', root_of(crates)
     for code in codes:
         attributes(code, copied)
         models(code)
         laws(code, of_laws)
         uses(code, crates)
-        visible(code)
+        visible(code, private, seen)
         bounds(code)
         formatters(code)
         calls(code, names, defined, methods)
@@ -449,6 +476,8 @@ def erase():
         check(code)
         inner = 'mod' if code.module in ('lib', 'main') else code.module
         yield f'{code.crate}/{inner}.rs', layout(code, (code.crate, code.module) in needing)
+    for owner, name in sorted(private - seen):
+        sys.exit(f'rust/private.txt: {owner}::{name}, which is no public function of a type')
 
 
 if __name__ == '__main__':

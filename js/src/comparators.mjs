@@ -41,7 +41,7 @@ export class Comparator {
     const [, operator, version] = PARTS.exec(comparator.trim())
     const isAny = operator === '' && version === ''
     // As node-semver, which hands on the other options alone: a version has no rule for ranges.
-    const semver = isAny ? ANY : parse(version.trim(), this.#meaning.with('default'))
+    const semver = isAny ? ANY : parse(version.trim(), this.#meaning.with('by-dialect'))
     if (semver === null) throw new TypeError(`Invalid comparator: ${comparator}`)
     this.#operator = operator === '=' ? '' : operator
     this.#semver = semver

@@ -9,14 +9,14 @@ class Meaning {
   constructor(options, dialect, preReleases) {
     this.options = options
     this.name = dialect ?? 'npm'
-    this.preReleases = preReleases ?? 'default'
+    this.preReleases = preReleases ?? 'by-dialect'
     this.dialect = numberOr('dialect_name', this.name, 'dialect')
     this.rule = numberOr('rule_name', this.preReleases, 'rule for pre-releases')
     this.hasDialect = typeof dialect === 'string'
     this.hasRule = typeof preReleases === 'string'
     this.isOfNpm = this.name === 'npm'
     this.isIncluded = this.preReleases === 'included'
-    this.isDefault = this.isOfNpm && this.preReleases === 'default'
+    this.isDefault = this.isOfNpm && this.preReleases === 'by-dialect'
   }
 
   /** The same dialect with a rule for pre-releases. */
@@ -62,7 +62,7 @@ export function meaningOf(options) {
     throw new TypeError('includePrerelease contradicts preReleases')
   }
   const isSaid = includePrerelease !== undefined && includePrerelease !== null
-  const rule = includePrerelease ? 'included' : isSaid ? 'default' : null
+  const rule = includePrerelease ? 'included' : isSaid ? 'by-dialect' : null
   return new Meaning(options, dialect, preReleases ?? rule)
 }
 

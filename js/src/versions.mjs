@@ -77,7 +77,7 @@ export class SemVer {
   }
 
   // A version has a dialect, and no rule for ranges.
-  get [MEANING]() { return this.#meaning.with('default') }
+  get [MEANING]() { return this.#meaning.with('by-dialect') }
   get options() { return this.#meaning.options }
   get loose() { return Boolean(this.#meaning.options.loose) }
   get includePrerelease() { return this.#meaning.isIncluded }

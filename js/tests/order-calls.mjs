@@ -92,7 +92,7 @@ function rangeText(random) {
 // ---- options
 
 const DIALECTS = ['npm', 'cargo', 'crate-npm', 'crate-cargo']
-const RULES = ['default', 'included', 'excluded']
+const RULES = ['by-dialect', 'included', 'excluded']
 const OTHER_OPTIONS = [
   null, true, false, 5, { loose: true }, { loose: true, rejectLoose: true },
   { includePrerelease: true }, { includePrerelease: false },

@@ -68,7 +68,7 @@ test("Cargo's dialect", () => {
 
 test('rules for pre-releases', () => {
   const by = (preReleases) => semver.satisfies('1.3.0-rc.1', '^1.2', { preReleases })
-  assert.deepEqual(['default', 'included', 'excluded'].map(by), [false, true, false])
+  assert.deepEqual(['by-dialect', 'included', 'excluded'].map(by), [false, true, false])
   assert.equal(semver.satisfies('1.2.3-rc.1', '=1.2.3-rc.1', { preReleases: 'excluded' }), false)
   assert.equal(semver.satisfies('1.3.0-rc.1', '^1.2', { includePrerelease: true }), true)
 })
@@ -276,7 +276,7 @@ test('without options an object keeps its dialect and its rule', () => {
   assert.equal(semver.satisfies('1.2.3', new semver.Comparator('', cargo)), true)
   const releases = new semver.Range('>=1.0.0-rc.1', { ...cargo, preReleases: 'excluded' })
   assert.equal(semver.satisfies('1.0.0-rc.2', releases), false)
-  assert.equal(semver.satisfies('1.0.0-rc.2', releases, { preReleases: 'default' }), true)
+  assert.equal(semver.satisfies('1.0.0-rc.2', releases, { preReleases: 'by-dialect' }), true)
   assert.equal(semver.minVersion(releases).version, '1.0.0')
   assert.equal(semver.compareRanges(new semver.Range('>=1.0.0-rc.1', cargo), releases).lost.lowest, '1.0.0-rc.1')
   const [low, high] = ['9007199254740993.0.0', '9007199254740994.0.0'].map((it) => new semver.SemVer(it, cargo))

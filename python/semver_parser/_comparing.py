@@ -42,7 +42,7 @@ def compare_ranges(
     new: String,
     *,
     dialect: AnyDialect,
-    pre_releases: AnyPreReleases = "default",
+    pre_releases: AnyPreReleases = "by-dialect",
 ) -> Comparison:
     """Returns which versions are lost, gained and shared if a new range replaces an old one.
 

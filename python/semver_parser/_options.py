@@ -40,7 +40,7 @@ class PreReleases(enum.Enum):
     <PreReleases.INCLUDED: 'included'>
     """
 
-    DEFAULT = "default"
+    BY_DIALECT = "by-dialect"
     """Those that Cargo and npm match by default: `^1.2.3-rc` contains 1.2.3-rc.1, not
     1.3.0-rc."""
     INCLUDED = "included"
@@ -54,7 +54,7 @@ class PreReleases(enum.Enum):
 AnyDialect = Union[Dialect, Literal["cargo", "npm", "crate-cargo", "crate-npm"]]
 """A dialect, or the value of one."""
 
-AnyPreReleases = Union[PreReleases, Literal["default", "included", "excluded"]]
+AnyPreReleases = Union[PreReleases, Literal["by-dialect", "included", "excluded"]]
 """Which pre-releases satisfy a range: a member, or the value of one."""
 
 _Option = TypeVar("_Option", Dialect, PreReleases)

@@ -69,7 +69,7 @@ class Range(Printed):
     _origin: Origin
 
     def __new__(
-        cls, range: String, *, dialect: AnyDialect, pre_releases: AnyPreReleases = "default"
+        cls, range: String, *, dialect: AnyDialect, pre_releases: AnyPreReleases = "by-dialect"
     ) -> "Range":
         chosen, rule = dialect_of(dialect), pre_releases_of(pre_releases)
         handle = handles.parsed(range, chosen, rule)
@@ -366,7 +366,7 @@ def _unpickled_range(
 def _options_text(range: Range) -> str:
     """Returns the options of a range, as they are written in a call."""
     dialect = f"dialect={range.dialect.value!r}"
-    if range.pre_releases is PreReleases.DEFAULT:
+    if range.pre_releases is PreReleases.BY_DIALECT:
         return dialect
     return f"{dialect}, pre_releases={range.pre_releases.value!r}"
 

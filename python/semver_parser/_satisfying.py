@@ -15,7 +15,7 @@ def satisfies(
     range: String,
     *,
     dialect: AnyDialect,
-    pre_releases: AnyPreReleases = "default",
+    pre_releases: AnyPreReleases = "by-dialect",
 ) -> bool:
     """Returns whether a version satisfies a range. Build metadata is ignored.
 

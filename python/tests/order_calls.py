@@ -57,7 +57,7 @@ LONG_RANGES: List[str] = [
 ]
 
 DIALECTS = ["npm", "cargo", "crate-npm", "crate-cargo"]
-RULES = ["default", "included", "excluded"]
+RULES = ["by-dialect", "included", "excluded"]
 OTHERS = ["None", "5", "[]", "object"]
 
 

@@ -46,14 +46,14 @@ _WORDS = {False: "not-a-range", True: "number-too-large"}
 # Which pre-releases are included by the functions for which versions satisfy a range.
 _RULES = {
     "releases": PreReleases.EXCLUDED,
-    "stated": PreReleases.DEFAULT,
+    "stated": PreReleases.BY_DIALECT,
     "mean": PreReleases.INCLUDED,
 }
 
 # The same for the functions that return the highest version, in the crate's npm mode.
 _RULES_OF_HIGHEST = {
     "greatest-release": PreReleases.EXCLUDED,
-    "greatest-stated": PreReleases.DEFAULT,
+    "greatest-stated": PreReleases.BY_DIALECT,
     "greatest-of-all": PreReleases.INCLUDED,
 }
 

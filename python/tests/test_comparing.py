@@ -14,7 +14,7 @@ from semver_parser import (
     compare_ranges,
 )
 
-OF_CRATE = (PreReleases.EXCLUDED, PreReleases.DEFAULT, PreReleases.INCLUDED)
+OF_CRATE = (PreReleases.EXCLUDED, PreReleases.BY_DIALECT, PreReleases.INCLUDED)
 CRATE = (Dialect.CRATE_CARGO, Dialect.CRATE_NPM)
 
 # A range in the crate's npm mode, and its lowest version by each rule: without pre-releases, by
@@ -159,7 +159,7 @@ class Comparing(unittest.TestCase):
     def test_dialects(self) -> None:
         for dialect, old, new, (alone, default) in COMPARED_BY_DIALECT:
             self.compares(old, new, dialect, PreReleases.EXCLUDED, alone)
-            self.compares(old, new, dialect, PreReleases.DEFAULT, default)
+            self.compares(old, new, dialect, PreReleases.BY_DIALECT, default)
 
     def test_defaults(self) -> None:
         cargo = compare_ranges("1.2.3", b"^1.2.3", dialect="cargo")
@@ -238,7 +238,7 @@ class LowestVersion(unittest.TestCase):
     def test_dialects(self) -> None:
         for dialect, string, (alone, default) in LOWEST_BY_DIALECT:
             self.has_lowest(string, dialect, PreReleases.EXCLUDED, alone)
-            self.has_lowest(string, dialect, PreReleases.DEFAULT, default)
+            self.has_lowest(string, dialect, PreReleases.BY_DIALECT, default)
 
     def test_is_a_version(self) -> None:
         one = Range(b"^1.2.3-rc", dialect="cargo")

@@ -9,7 +9,7 @@ from semver_parser import Dialect, PreReleases, Range, RangeError, Version, Vers
 
 MANUAL = Path(__file__).resolve().parents[2] / "rust" / "docs" / "RANGES.md"
 DIALECTS = (Dialect.CARGO, Dialect.NPM, Dialect.CRATE_CARGO, Dialect.CRATE_NPM)
-RULES = (PreReleases.DEFAULT, PreReleases.INCLUDED)
+RULES = (PreReleases.BY_DIALECT, PreReleases.INCLUDED)
 
 
 def table(head: str) -> List[List[str]]:

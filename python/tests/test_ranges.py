@@ -290,7 +290,7 @@ class Keeping(unittest.TestCase):
     def test_other_pickles(self) -> None:
         load, arguments = Range("^1.2", dialect="npm").__reduce__()
         self.assertEqual(str(load(*arguments)), "^1.2")
-        for wrong in (("npm", "default", ("v",)), ("nmp", "default", ("1",))):
+        for wrong in (("npm", "by-dialect", ("v",)), ("nmp", "by-dialect", ("1",))):
             with self.assertRaises(ValueError):
                 load(*wrong)
 

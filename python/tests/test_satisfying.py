@@ -45,7 +45,7 @@ ORDERED = [
 
 # In the order of the columns in the tables below.
 DIALECTS = (Dialect.CARGO, Dialect.NPM, Dialect.CRATE_CARGO, Dialect.CRATE_NPM)
-RULES = (PreReleases.EXCLUDED, PreReleases.DEFAULT, PreReleases.INCLUDED)
+RULES = (PreReleases.EXCLUDED, PreReleases.BY_DIALECT, PreReleases.INCLUDED)
 
 # From rust/docs/RANGES.md and rust/docs/MEANING.md: a range, a version, and whether it satisfies
 # the range in each dialect, in the order above, by the default rule. None if the string isn't a
@@ -112,8 +112,8 @@ class Satisfying(unittest.TestCase):
         self.assertIs(satisfies(version, string, dialect=dialect), wanted)
         for chosen in (
             Range(string, dialect=dialect),
-            Range(string, dialect=dialect, pre_releases=PreReleases.DEFAULT),
-            Range(string, dialect=dialect.value, pre_releases="default"),
+            Range(string, dialect=dialect, pre_releases=PreReleases.BY_DIALECT),
+            Range(string, dialect=dialect.value, pre_releases="by-dialect"),
         ):
             self.assertIs(version in chosen, wanted)
             self.assertEqual(chosen.filter([version, version]), 2 * [version] if wanted else [])
@@ -190,14 +190,14 @@ class Options(unittest.TestCase):
                     self.assertEqual(one, call(dialect=dialect.value, pre_releases=rule.value))
         values = ["cargo", "npm", "crate-cargo", "crate-npm"]
         self.assertEqual([it.value for it in Dialect], values)
-        self.assertEqual([it.value for it in PreReleases], ["default", "included", "excluded"])
+        self.assertEqual([it.value for it in PreReleases], ["by-dialect", "included", "excluded"])
 
     def test_default(self) -> None:
         for dialect in Dialect:
             one = Range("1", dialect=dialect)
             self.assertIs(one.dialect, dialect)
-            self.assertIs(one.pre_releases, PreReleases.DEFAULT)
-            self.assertEqual(one, Range("1", dialect=dialect, pre_releases="default"))
+            self.assertIs(one.pre_releases, PreReleases.BY_DIALECT)
+            self.assertEqual(one, Range("1", dialect=dialect, pre_releases="by-dialect"))
         self.assertTrue(satisfies("1.2.3-rc", "^1.2.3-beta", dialect="cargo"))
         self.assertFalse(satisfies("1.3.0-rc", "^1.2.3-beta", dialect="cargo"))
 
@@ -210,7 +210,7 @@ class Options(unittest.TestCase):
 
     def test_other_dialects(self) -> None:
         for call in self.OF_DIALECT:
-            for wrong in (1, True, None, b"npm", ["npm"], PreReleases.DEFAULT):
+            for wrong in (1, True, None, b"npm", ["npm"], PreReleases.BY_DIALECT):
                 with self.assertRaisesRegex(TypeError, "^dialect is a Dialect or one of 'cargo', "):
                     call(dialect=wrong)
             for wrong in ("", "NPM", "yarn", "cargo "):
@@ -219,11 +219,11 @@ class Options(unittest.TestCase):
 
     def test_other_rules(self) -> None:
         for call in self.CALLS:
-            for wrong in (1, True, None, b"default", [], Dialect.NPM):
+            for wrong in (1, True, None, b"by-dialect", [], Dialect.NPM):
                 with self.assertRaisesRegex(TypeError, "^pre_releases is a PreReleases or one of "):
                     call(dialect="npm", pre_releases=wrong)
             for wrong in ("", "stated", "Default"):
-                with self.assertRaisesRegex(ValueError, "^pre_releases is one of 'default', "):
+                with self.assertRaisesRegex(ValueError, "^pre_releases is one of 'by-dialect', "):
                     call(dialect="npm", pre_releases=wrong)
 
     def test_numbers_of_the_library(self) -> None:

@@ -28,7 +28,7 @@ _DIALECTS_OF_CRATE = {"crate-cargo": Dialect.CRATE_CARGO, "crate-npm": Dialect.C
 _DIALECTS_OF_REFUSED = {**_DIALECTS_OF_TOOLS, "crate": Dialect.CRATE_CARGO}
 _DIALECTS_OF_RANGES = {**_DIALECTS_OF_REFUSED, **_DIALECTS_OF_CRATE}
 # Which pre-releases a row includes.
-_RULES_OF_MEANT = {"meant": PreReleases.DEFAULT, "meant-with-all": PreReleases.INCLUDED}
+_RULES_OF_MEANT = {"meant": PreReleases.BY_DIALECT, "meant-with-all": PreReleases.INCLUDED}
 # The names of the errors of ranges in the table.
 _NAMES = {False: "not-a-range", True: "number-too-large"}
 
@@ -142,7 +142,7 @@ class Tools(unittest.TestCase):
         if dialect is Dialect.NPM:
             versions, meant = ([it for it in them if fits_npm(it)] for them in (versions, meant))
         self.assertEqual(chosen.filter(versions), meant)
-        if rule is PreReleases.DEFAULT:
+        if rule is PreReleases.BY_DIALECT:
             self.assertEqual(Range(text, dialect=dialect).filter(versions), meant)
         without = [it for it in meant if not Version.parse(it, dialect=dialect).pre]
         self.assertEqual(releases.filter(versions), without)

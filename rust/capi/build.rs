@@ -1,7 +1,18 @@
 //! Writes the texts of the crate's numbers as C needs them: the table of an enumeration has the
 //! text of number N, with a zero at its end, at index N.
 
-use proved::{Dialect, Operator, PreReleases, Reason};
+extern crate alloc;
+
+#[path = "../src/proved/mod.rs"]
+mod proved;
+#[path = "../src/rattle_std.rs"]
+#[allow(dead_code, unused_imports, unused_macros)]
+mod rattle_std;
+
+use proved::invalid_strings::reasons::Reason;
+use proved::range_terms::term::Operator;
+use proved::tool_ranges::dialect::Dialect;
+use proved::version_sets::PreReleases;
 use std::{env, fs};
 
 const OPERATORS: [Operator; 9] = [
@@ -49,4 +60,5 @@ fn main() {
     let out = env::var("OUT_DIR").expect("cargo sets it");
     fs::write(out + "/texts.rs", texts.concat()).expect("it can be written");
     println!("cargo:rerun-if-changed=build.rs");
+    println!("cargo:rerun-if-changed=../src");
 }

@@ -1,14 +1,16 @@
-//! The error of a string that is an invalid version, or not a range in a dialect.
+//! The error of this crate.
 
-use crate::layers::{explain_range, explain_version, Escaped};
 use crate::original::printed;
-use crate::rattle_std::{FalliblePush, FallibleString};
-use crate::{AllocError, Dialect, RangeError, Reason};
+use crate::proved::invalid_ranges::refusals::refused;
+use crate::proved::invalid_strings::escaped::Escaped;
+use crate::proved::invalid_strings::refusals::explain;
+use crate::proved::version_sets::OperationError;
+use crate::rattle_std::{AllocError, FallibleString, FallibleToString};
+use crate::{lexer, parser, Dialect, RangeError, Reason};
 use alloc::string::String;
 use core::fmt::{self, Display, Formatter, Write as _};
-use core::str;
 
-/// The kind of an [`Error`].
+/// The kind of an [`Error`]: what a program can do about it. [`Error::reason`] says why.
 ///
 /// ```
 /// use semver_parser::{satisfies, Dialect, ErrorKind};
@@ -16,37 +18,36 @@ use core::str;
 /// let kind = |version, range| satisfies(version, range, Dialect::Cargo).unwrap_err().kind();
 /// assert_eq!(kind("1.2", "^1"), ErrorKind::InvalidVersion);
 /// assert_eq!(kind("1.2.0", "1 || 2"), ErrorKind::InvalidRange);
-/// assert_eq!(kind("1.2.0", "^18446744073709551615"), ErrorKind::NumberTooLarge);
 /// ```
 #[derive(Clone, Copy, Debug, PartialEq, Eq, Hash)]
 #[non_exhaustive]
 pub enum ErrorKind {
-    /// The string is an invalid version in the dialect.
+    /// A string is an invalid version in the dialect.
     InvalidVersion,
-    /// The string is not a range in the dialect.
+    /// A string isn't a range in the dialect, or one of its numbers is too large.
     InvalidRange,
-    /// The string is a range in the dialect, but one of its numbers, or a number that has to be
-    /// raised by one, is too large: above 2^53 - 1 in npm's dialect, and above 2^64 - 1 in the
-    /// others.
-    NumberTooLarge,
+    /// Two ranges were read by different rules, so they can't be combined or compared.
+    DifferentRules,
+    /// A string isn't the name of a dialect, or of a rule for pre-releases.
+    UnknownName,
     /// An allocation failed.
     OutOfMemory,
 }
 
 impl ErrorKind {
-    /// Returns the sentence of the kind, such as `invalid range`.
     fn sentence(self) -> &'static str {
         match self {
             ErrorKind::InvalidVersion => "invalid version",
             ErrorKind::InvalidRange => "invalid range",
-            ErrorKind::NumberTooLarge => "number too large in the range",
+            ErrorKind::DifferentRules => "the ranges were read by different rules",
+            ErrorKind::UnknownName => "unknown name",
             ErrorKind::OutOfMemory => "out of memory",
         }
     }
 }
 
-/// The error for an invalid version or an invalid range. It has the string, and says where and why
-/// it is invalid in the dialect.
+/// The error of this crate. It has the invalid string, and says where and why it is invalid. Every
+/// other error of the crate converts into it by `?`.
 ///
 /// `{}` prints one line, and `{:#}` also prints the string with a caret below the offset:
 ///
@@ -69,30 +70,39 @@ impl ErrorKind {
 pub struct Error {
     kind: ErrorKind,
     string: String,
-    found: Option<(usize, Reason)>,
+    detail: Detail,
+}
+
+/// What an error says in addition to its kind.
+#[derive(Clone, Debug, PartialEq, Eq)]
+enum Detail {
+    Found(usize, Reason),
+    Expected(&'static str),
+    Sentence(String),
+    None,
 }
 
 impl Error {
     /// Returns the kind of the error.
     ///
     /// ```
-    /// use semver_parser::{check_range, Dialect, ErrorKind};
+    /// use semver_parser::{Dialect, ErrorKind};
     ///
-    /// let error = check_range("^18446744073709551615", Dialect::Cargo).unwrap_err();
-    /// assert_eq!(error.kind(), ErrorKind::NumberTooLarge);
+    /// let error = "yarn".parse::<Dialect>().unwrap_err();
+    /// assert_eq!(error.kind(), ErrorKind::UnknownName);
     /// ```
     #[must_use]
     pub fn kind(&self) -> ErrorKind {
         self.kind
     }
 
-    /// Returns the string, or an empty one if an allocation failed. Bytes that aren't UTF-8 are
-    /// replaced.
+    /// Returns the invalid string. It is empty if the error isn't about a string, or was converted
+    /// from one that doesn't have the string.
     ///
     /// ```
-    /// use semver_parser::{check_version, Dialect};
+    /// use semver_parser::Version;
     ///
-    /// assert_eq!(check_version("1.2", Dialect::Npm).unwrap_err().string(), "1.2");
+    /// assert_eq!("1.2".parse::<Version>().unwrap_err().string(), "1.2");
     /// ```
     #[must_use]
     pub fn string(&self) -> &str {
@@ -100,117 +110,155 @@ impl Error {
     }
 
     /// Returns the byte offset of the first character that isn't allowed there, or the length of
-    /// the string if something is missing at its end. If a number of a range is too large, it is
-    /// the offset of the first such number. Returns `None` if an allocation failed.
+    /// the string if something is missing at its end. If a number is too large, it is the offset
+    /// of the first such number.
     ///
     /// ```
-    /// use semver_parser::{check_version, Dialect};
+    /// use semver_parser::Version;
     ///
-    /// assert_eq!(check_version("1.2.03", Dialect::Npm).unwrap_err().offset(), Some(5));
-    /// assert_eq!(check_version("1.2", Dialect::Npm).unwrap_err().offset(), Some(3));
+    /// assert_eq!("1.2.03".parse::<Version>().unwrap_err().offset(), Some(5));
+    /// assert_eq!("1.2".parse::<Version>().unwrap_err().offset(), Some(3));
     /// ```
     #[must_use]
     pub fn offset(&self) -> Option<usize> {
-        self.found.map(|(offset, _)| offset)
+        self.found().map(|(offset, _)| offset)
     }
 
-    /// Returns why the string is wrong, or `None` if an allocation failed.
+    /// Returns why the string is invalid.
     ///
     /// ```
-    /// use semver_parser::{check_version, Dialect, Reason};
+    /// use semver_parser::{Reason, Version};
     ///
-    /// let error = check_version("1.2.03", Dialect::Npm).unwrap_err();
+    /// let error = "1.2.03".parse::<Version>().unwrap_err();
     /// assert_eq!(error.reason(), Some(Reason::LeadingZero));
     /// ```
     #[must_use]
     pub fn reason(&self) -> Option<Reason> {
-        self.found.map(|(_, reason)| reason)
+        self.found().map(|(_, reason)| reason)
+    }
+
+    fn found(&self) -> Option<(usize, Reason)> {
+        match self.detail {
+            Detail::Found(offset, reason) => Some((offset, reason)),
+            _ => None,
+        }
     }
 
     /// Returns the error of an invalid version.
     #[cold]
-    pub(crate) fn from_version(version: &[u8], dialect: Dialect) -> Error {
-        let found = explain_version(version, dialect);
-        let found = found
-            .ok()
-            .flatten()
-            .map(|refusal| (refusal.offset, refusal.reason));
-        Error::new(ErrorKind::InvalidVersion, lossy(version), found)
+    pub(crate) fn from_version(version: &str, dialect: Dialect) -> Error {
+        let found = explain(version.as_bytes(), dialect.grammar()).ok().flatten();
+        let found = found.map(|it| Detail::Found(it.offset, it.reason));
+        Error::new(ErrorKind::InvalidVersion, version, found)
     }
 
     /// Returns the error of an invalid range.
     #[cold]
     pub(crate) fn from_range(error: RangeError, range: &str, dialect: Dialect) -> Error {
-        let kind = match error {
-            RangeError::NotARange => ErrorKind::InvalidRange,
-            RangeError::NumberTooLarge => ErrorKind::NumberTooLarge,
-            RangeError::OutOfMemory => return Error::from(AllocError),
-        };
-        let found = explain_range(range, dialect);
-        let found = found
-            .ok()
-            .flatten()
-            .map(|refusal| (refusal.offset, refusal.reason));
-        Error::new(kind, String::fallible_from_str(range), found)
+        let found = refused(dialect, range).ok().flatten();
+        let found = found.map(|it| Detail::Found(it.offset, it.reason));
+        Error::new(ErrorKind::of(error), range, found)
+    }
+
+    /// Returns the error of a name, of which one of these was expected.
+    #[cold]
+    pub(crate) fn unknown_name(name: &str, expected: &'static str) -> Error {
+        Error::new(ErrorKind::UnknownName, name, Some(Detail::Expected(expected)))
+    }
+
+    /// Returns the error for an allocation that failed.
+    pub(crate) fn out_of_memory(_: AllocError) -> Error {
+        Error::plain(ErrorKind::OutOfMemory)
+    }
+
+    fn plain(kind: ErrorKind) -> Error {
+        Error { kind, string: String::new(), detail: Detail::None }
     }
 
     /// Returns the error of a string, or the out-of-memory error if an allocation failed.
-    fn new(
-        kind: ErrorKind,
-        string: Result<String, AllocError>,
-        found: Option<(usize, Reason)>,
-    ) -> Error {
-        match string {
-            Ok(string) if found.is_some() => Error {
-                kind,
-                string,
-                found,
-            },
-            _ => Error::from(AllocError),
+    fn new(kind: ErrorKind, string: &str, detail: Option<Detail>) -> Error {
+        match (String::fallible_from_str(string), detail) {
+            (Ok(string), Some(detail)) if kind != ErrorKind::OutOfMemory => {
+                Error { kind, string, detail }
+            }
+            _ => Error::plain(ErrorKind::OutOfMemory),
+        }
+    }
+
+    /// Returns an error without its string, which says what another error says.
+    fn sentence(kind: ErrorKind, error: impl Display) -> Error {
+        match error.fallible_to_string() {
+            Ok(sentence) if kind != ErrorKind::OutOfMemory => {
+                Error { detail: Detail::Sentence(sentence), ..Error::plain(kind) }
+            }
+            _ => Error::plain(ErrorKind::OutOfMemory),
         }
     }
 }
 
-/// Returns the result of `String::from_utf8_lossy`, or an error if an allocation failed.
-fn lossy(mut bytes: &[u8]) -> Result<String, AllocError> {
-    let mut string = String::new();
-    loop {
-        let error = match str::from_utf8(bytes) {
-            Ok(rest) => return string.fallible_push_str(rest).map(|()| string),
-            Err(error) => error,
+impl ErrorKind {
+    fn of(error: RangeError) -> ErrorKind {
+        match error {
+            RangeError::OutOfMemory => ErrorKind::OutOfMemory,
+            _ => ErrorKind::InvalidRange,
+        }
+    }
+}
+
+impl From<RangeError> for Error {
+    /// Converts the error of [`RangeSet::try_parse`](crate::RangeSet::try_parse), which doesn't
+    /// have the string.
+    fn from(error: RangeError) -> Error {
+        Error::sentence(ErrorKind::of(error), error)
+    }
+}
+
+impl From<parser::Error<'_>> for Error {
+    /// Converts the error of [`version::parse`](crate::version::parse), which doesn't have the
+    /// string.
+    fn from(error: parser::Error<'_>) -> Error {
+        let kind = match error {
+            parser::Error::OutOfMemory => ErrorKind::OutOfMemory,
+            _ => ErrorKind::InvalidVersion,
         };
-        let (valid, rest) = bytes.split_at(error.valid_up_to());
-        string.fallible_push_str(str::from_utf8(valid).unwrap_or_default())?;
-        string.fallible_push(char::REPLACEMENT_CHARACTER)?;
-        bytes = &rest[error.error_len().unwrap_or(rest.len())..];
+        Error::sentence(kind, error)
     }
 }
 
-impl From<AllocError> for Error {
-    /// Returns an error of the kind [`ErrorKind::OutOfMemory`].
-    fn from(_: AllocError) -> Error {
-        Error {
-            kind: ErrorKind::OutOfMemory,
-            string: String::new(),
-            found: None,
-        }
+impl From<lexer::Error> for Error {
+    /// Converts the error of [`lexer::Lexer`], which doesn't have the string.
+    fn from(error: lexer::Error) -> Error {
+        Error::sentence(ErrorKind::InvalidVersion, error)
+    }
+}
+
+impl Error {
+    /// Returns the error of an operation on two ranges.
+    pub(crate) fn of_operation(error: OperationError) -> Error {
+        Error::plain(match error {
+            OperationError::OutOfMemory => ErrorKind::OutOfMemory,
+            _ => ErrorKind::DifferentRules,
+        })
     }
 }
 
 impl Display for Error {
     fn fmt(&self, f: &mut Formatter<'_>) -> fmt::Result {
-        let (kind, string) = (self.kind.sentence(), &self.string);
-        let Some((offset, reason)) = self.found else {
-            return f.write_str(kind);
-        };
-        let text = Escaped { text: string };
-        if f.alternate() {
-            write!(f, "{kind}: {reason}\n    {text}\n    ")?;
-            let before = string.get(..offset).unwrap_or_default();
-            write!(Blank(f), "{}", Escaped { text: before })?;
-            return f.write_char('^');
+        let (kind, text) = (self.kind.sentence(), Escaped { text: &self.string });
+        match &self.detail {
+            Detail::Found(offset, reason) if f.alternate() => {
+                write!(f, "{kind}: {reason}\n    {text}\n    ")?;
+                let before = self.string.get(..*offset).unwrap_or_default();
+                write!(Blank(f), "{}", Escaped { text: before })?;
+                f.write_char('^')
+            }
+            Detail::Found(offset, reason) => {
+                write!(f, "{kind} \"{text}\" at offset {offset}: {reason}")
+            }
+            Detail::Expected(expected) => write!(f, "{kind} \"{text}\": expected {expected}"),
+            Detail::Sentence(sentence) => write!(f, "{kind}: {sentence}"),
+            Detail::None => f.write_str(kind),
         }
-        write!(f, "{kind} \"{text}\" at offset {offset}: {reason}")
     }
 }
 

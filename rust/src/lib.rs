@@ -1,49 +1,42 @@
-//! Parses versions (`1.2.3-rc.1`) and ranges (`^1.2 || 3.x`) of Cargo and npm into plain data. It
-//! is a port of the crate [`semver-parser`](https://docs.rs/semver-parser/0.10.3) 0.10.3 with the
-//! same names, extended by what release tools need.
+//! Reads versions (`1.2.3-rc.1`) and ranges (`^1.2 || 3.x`) as Cargo and npm read them, and compares
+//! and combines ranges.
 //!
 //! ```
-//! use semver_parser::{version, Compat, RangeSet};
-//!
-//! let version = version::parse("1.2.3-rc.4")?;
-//! assert_eq!((version.major, version.minor, version.patch), (1, 2, 3));
-//! let ranges = RangeSet::parse("^1.2.3", Compat::Cargo)?;
-//! assert_eq!(ranges.to_string(), ">=1.2.3 <2.0.0");
-//! # Ok::<(), String>(())
-//! ```
-//!
-//! [`satisfies`] decides whether a version satisfies a range in Cargo or npm:
-//!
-//! ```
-//! use semver_parser::{satisfies, Dialect};
+//! use semver_parser::{satisfies, Dialect, Version, VersionRange};
 //!
 //! assert!(satisfies("1.9.0", "^1.2", Dialect::Npm)?);
-//! assert!(satisfies("1.2.4", "1.2.3", Dialect::Cargo)?); // to Cargo it is ^1.2.3
+//!
+//! let range = VersionRange::parse(">=1.2, <2", Dialect::Cargo)?;
+//! let version: Version = "1.9.0".parse()?;
+//! assert!(range.contains(&version));
+//! assert_eq!(range.highest(["1.9.0", "1.10.0", "2.0.0"]), Some("1.10.0"));
 //! # Ok::<(), semver_parser::Error>(())
 //! ```
 //!
-//! A range that is used often is read once, as a [`VersionRange`], which also has set operations:
+//! | I want to | use |
+//! |---|---|
+//! | know whether a version satisfies a range | [`satisfies`]; for many versions, [`VersionRange::contains`] |
+//! | choose from a list | [`VersionRange::highest`], [`VersionRange::lowest`] |
+//! | read, make, sort and compare versions | [`Version`]; [`VersionRef`] borrows its string and doesn't allocate |
+//! | compare and combine ranges | [`VersionRange`]: `&a & &b`, `&a \| &b`, `&a - &b`, [`is_subset`](VersionRange::is_subset) |
+//! | edit a range, and keep how it is written | [`terms`], [`PartialVersion::with_version`] |
+//! | know where and why a string is invalid | [`Error`] |
 //!
-//! ```
-//! use semver_parser::{Dialect, VersionRange};
-//!
-//! let old = VersionRange::parse("^1.2", Dialect::Cargo)?;
-//! let new = VersionRange::parse(">=1.2.1, <1.9", Dialect::Cargo)?;
-//! assert_eq!((&old - &new).to_string(), "=1.2.0 || >=1.9.0 <2.0.0");
-//! assert_eq!(new.is_subset(&old), Ok(true));
-//! assert!(old.contains("1.2.0")?);
-//! # Ok::<(), semver_parser::Error>(())
-//! ```
-//!
-//! An [`Error`] says where and why a string is invalid. [`sets`] has the sets of versions that
-//! ranges stand for, and [`filters`] selects versions and lines.
+//! A [`Dialect`] says whose grammar and semantics are meant: `^1.2 || 3.x` is a range in npm, and
+//! invalid in Cargo. If a function takes `impl Into<Rules>`, you can pass a dialect, or [`Rules`], which
+//! also say which pre-releases count: `Dialect::Npm.with(PreReleases::Included)`.
 //!
 //! # Coming from `semver-parser` 0.10
 //!
-//! Names and signatures are the original's. A `match` over [`parser::Error`] needs one more arm,
-//! for `OutOfMemory`. The results below differ; [`docs::original_crate`] lists every difference in
-//! ranges:
+//! Everything in that crate is here under the same name: [`RangeSet`], [`Range`], [`Comparator`],
+//! [`Op`], [`Compat`], [`Identifier`], and the modules [`version`], [`parser`] and [`lexer`]. They read
+//! the original's own grammar, which is neither Cargo's nor npm's. In addition,
+//! [`RangeSet::parse_exact`] returns exact bounds, and [`filters`] filters lists of versions by the
+//! comparators. New code needs none of this.
 //!
+//! - [`version::Version`] is the original's plain data, whose `<` compares field by field. It converts
+//!   from and into a [`Version`], and a [`VersionRange`] can be asked about it.
+//! - A `match` over [`parser::Error`] needs one more arm, for `OutOfMemory`.
 //! - [`RangeSet::parse`] rejects commas. The original accepts one comma after a comparator, and
 //!   `semver` 0.9 to 0.11 rely on it. Spaces instead of commas keep the original's meaning, and
 //!   [`Dialect::Cargo`] reads commas as Cargo does today, where `1.2` is `^1.2`:
@@ -61,6 +54,8 @@
 //! - A number that doesn't fit is an error, not a panic.
 //! - [`lexer::Lexer`] returns its error once, and then `None`.
 //!
+//! [`docs::original_crate`] lists every difference in ranges.
+//!
 //! # Pages
 //!
 //! - [`docs::ranges`]: the dialects, each form of range, and the rules for pre-releases
@@ -75,13 +70,18 @@
 //! [`semver`](https://docs.rs/semver), [node-semver](https://github.com/npm/node-semver), and [the
 //! original `semver-parser`](https://docs.rs/semver-parser/0.10.3).
 //!
+//! # If an allocation fails
+//!
+//! A call that returns an [`Error`] returns one of the kind [`ErrorKind::OutOfMemory`], and a call of
+//! `semver-parser` 0.10 whose error has a case for it returns that. All other calls end the process,
+//! like std.
+//!
 //! # What is proved
 //!
-//! The code is written in Rattle, which is Rust with contracts, and proved there for every input;
-//! `src/proved` is that code without its contracts. It allocates by `try_reserve`. Calls whose
-//! error has an out-of-memory case return it; all others abort the process, like std.
-//!
-//! Without the feature `std` (default) the crate needs only `alloc`, and has no programs.
+//! The code that reads, compares and matches is written in Rattle, which is Rust with contracts, and
+//! proved there for every input. This crate is that code without its contracts, below a layer that is
+//! written by hand: names, conversions, operators and the [`Error`]. The crate has no dependency and
+//! no `unsafe`. Without the feature `std` (default) it needs only `alloc`.
 #![no_std]
 #![forbid(unsafe_code)]
 #![warn(missing_docs)]
@@ -92,41 +92,62 @@ extern crate std;
 
 // rustdoc lists methods in the order of the modules, and `parse` has to come before `try_parse`.
 mod original;
-mod version_range;
 
-#[doc(hidden)]
-pub mod proved;
-#[doc(hidden)]
-pub mod rattle_std;
+mod proved;
+#[allow(dead_code, unused_imports, unused_macros)]
+mod rattle_std;
 
+mod as_version;
 #[cfg(doc)]
 pub mod docs;
 mod error;
-pub mod filters;
-#[doc(hidden)]
-pub mod layers;
-mod names;
-mod range_strings;
-pub mod sets;
+mod rules;
 mod terms;
-mod version_ref;
+mod version_range;
+mod versions;
 
-pub use proved::invalid_strings::reasons::Reason;
-pub use proved::semver_parser::version::Digits;
-pub use proved::semver_parser::{lexer, parser, version};
-pub use proved::semver_parser::{Comparator, Compat, Identifier, Op, Range, RangeError, RangeSet};
-pub use proved::tool_ranges::dialect::Dialect;
-pub use proved::tool_ranges::highest::Extreme;
-pub use proved::tool_ranges::meaning::Meaning;
-pub use proved::tool_ranges::version_range::VersionRange;
-pub use proved::version_sets::{Combination, OperationError, PreReleases};
+pub use as_version::AsVersion;
 pub use error::{Error, ErrorKind};
-pub use layers::SatisfiesError;
-pub use names::UnknownName;
-pub use range_strings::{check_range, check_version, comparators, satisfies, satisfies_bytes};
-pub use rattle_std::AllocError;
-pub use terms::{terms, Component, Operator, PartialVersion, Span, Term, Terms};
-pub use version_ref::VersionRef;
+pub use proved::invalid_strings::reasons::Reason;
+pub use proved::range_terms::term::{Component, Operator, PartialVersion, Span, Term};
+pub use proved::range_terms::terms::Terms;
+pub use proved::semver_versions::version::VersionRef;
+pub use proved::tool_ranges::dialect::Dialect;
+pub use proved::tool_ranges::meaning::Meaning as Rules;
+pub use proved::version_sets::PreReleases;
+pub use terms::terms;
+pub use version_range::{comparators, satisfies, VersionRange};
+pub use versions::Version;
+
+// Of semver-parser 0.10.
+pub use proved::semver_parser::{lexer, parser};
+pub use proved::semver_parser::{Comparator, Compat, Identifier, Op, Range, RangeError, RangeSet};
+
+/// Versions as `semver-parser` 0.10 reads them.
+///
+/// ```
+/// use semver_parser::version;
+///
+/// let version = version::parse("1.2.3-rc.4")?;
+/// assert_eq!((version.major, version.minor, version.patch), (1, 2, 3));
+/// # Ok::<(), semver_parser::parser::Error>(())
+/// ```
+pub mod version {
+    pub use crate::proved::semver_parser::version::{parse, Identifier, Version};
+}
+
+/// Filters lists of versions by plain comparators. It keeps releases only.
+///
+/// ```
+/// use semver_parser::{filters, version, Compat};
+///
+/// let versions = [version::parse("1.2.0")?, version::parse("2.0.0-alpha")?];
+/// assert_eq!(filters::filter_text("^1.2", Compat::Cargo, &versions)?, [&versions[0]]);
+/// # Ok::<(), semver_parser::Error>(())
+/// ```
+pub mod filters {
+    pub use crate::proved::release_filter::{filter_text, release_meets};
+}
 
 #[cfg(all(doctest, feature = "std"))]
 #[doc = include_str!("../README.md")]

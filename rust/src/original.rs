@@ -1,8 +1,8 @@
 //! The signatures of the Rust crate `semver-parser` 0.10.3 that the proved functions don't have.
 //! Proved functions return an error if an allocation fails; these end the process, like std.
 
-use crate::layers::Escaped;
-use crate::rattle_std::FallibleToString;
+use crate::proved::invalid_strings::escaped::Escaped;
+use crate::rattle_std::{AllocError, FallibleToString};
 use crate::version;
 use crate::{lexer, parser};
 use crate::{Compat, RangeError, RangeSet};
@@ -135,5 +135,11 @@ impl std::error::Error for parser::Error<'_> {
             Self::Lexer(error) => Some(error),
             _ => None,
         }
+    }
+}
+
+impl From<AllocError> for RangeError {
+    fn from(_: AllocError) -> RangeError {
+        RangeError::OutOfMemory
     }
 }

@@ -12,10 +12,6 @@ use alloc::string::String;
 use alloc::vec::Vec;
 
 /// An allocation failed.
-///
-/// ```
-/// assert_eq!(semver_parser::AllocError.to_string(), "out of memory");
-/// ```
 #[derive(Clone, Copy, Debug, PartialEq, Eq)]
 pub struct AllocError;
 
@@ -244,8 +240,6 @@ impl<T: FallibleClone> FallibleClone for Vec<T> {
 // ---------------------------------------------------------------- macros
 
 /// `vec![in alloc; ..]` of items, or of an item repeated a number of times.
-#[doc(hidden)]
-#[macro_export]
 macro_rules! fallible_vec {
     ($item:expr; $size:expr) => {
         <$crate::rattle_std::vec::Vec<_> as $crate::rattle_std::FallibleVec<_>>::fallible_from_elem(
@@ -265,8 +259,6 @@ macro_rules! fallible_vec {
 }
 
 /// `format!(in alloc; ..)`.
-#[doc(hidden)]
-#[macro_export]
 macro_rules! fallible_format {
     ($($part:tt)*) => {
         $crate::rattle_std::FallibleToString::fallible_to_string(&format_args!($($part)*))
@@ -274,8 +266,6 @@ macro_rules! fallible_format {
 }
 
 /// `println!(rt; ..)`.
-#[doc(hidden)]
-#[macro_export]
 macro_rules! fallible_println {
     ($rt:expr; $($part:tt)*) => {
         $rt.println(format_args!($($part)*))
@@ -283,15 +273,13 @@ macro_rules! fallible_println {
 }
 
 /// `eprintln!(rt; ..)`.
-#[doc(hidden)]
-#[macro_export]
 macro_rules! fallible_eprintln {
     ($rt:expr; $($part:tt)*) => {
         $rt.eprintln(format_args!($($part)*))
     };
 }
 
-pub use crate::{fallible_eprintln, fallible_format, fallible_println, fallible_vec};
+pub(crate) use {fallible_eprintln, fallible_format, fallible_println, fallible_vec};
 
 // ---------------------------------------------------------------- what programs are given
 

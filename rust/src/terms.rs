@@ -1,13 +1,10 @@
 //! The terms of a range, as they are written.
 
 use crate::proved::range_terms::terms::copy;
-use crate::{Dialect, Error};
+use crate::{Dialect, Error, Operator, Span, Terms};
 use core::fmt::{self, Display, Formatter};
 use core::iter::FusedIterator;
 use core::ops::Range;
-
-pub use crate::proved::range_terms::term::{Component, Operator, PartialVersion, Span, Term};
-pub use crate::proved::range_terms::terms::Terms;
 
 /// Returns an iterator over the terms of a range string in a dialect, as they are written: the
 /// operator, each version with its components, and the position of each part in the string. It
@@ -17,13 +14,13 @@ pub use crate::proved::range_terms::terms::Terms;
 /// it is:
 ///
 /// ```
-/// use semver_parser::{check_range, terms, Dialect};
+/// use semver_parser::{satisfies, terms, Dialect};
 ///
 /// let mut range = String::from("~1.2 || ^2.0.0");
 /// let span = terms(&range, Dialect::Npm)?.last().unwrap().version.span;
 /// range.replace_range(span.range(), "2.5.1");
 /// assert_eq!(range, "~1.2 || ^2.5.1");
-/// check_range(&range, Dialect::Npm)?;
+/// assert!(satisfies("2.6.0", &range, Dialect::Npm)?);
 /// # Ok::<(), semver_parser::Error>(())
 /// ```
 ///
@@ -63,7 +60,8 @@ impl From<Span> for Range<usize> {
 }
 
 impl Display for Operator {
-    /// Writes [`Operator::sign`].
+    /// Writes the operator as it is written in a range. [`Operator::Bare`] is written as nothing,
+    /// and [`Operator::Hyphen`] as `-`.
     fn fmt(&self, f: &mut Formatter<'_>) -> fmt::Result {
         f.pad(self.sign())
     }

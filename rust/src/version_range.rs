@@ -1,20 +1,93 @@
-//! Functions of ranges that only Rust has: with strings, one name for each case, and operators.
+//! Ranges that were read, and strings against strings.
 
 use crate::original::out_of_memory;
-use crate::version::Version;
-use crate::{Combination, Error, Extreme, Meaning, OperationError, VersionRange};
+use crate::proved::tool_ranges::highest::Extreme;
+use crate::proved::tool_ranges::satisfying::{self, SatisfiesError};
+use crate::proved::tool_ranges::version_range as proved;
+use crate::proved::tool_ranges::dialect::rewrite;
+use crate::proved::version_sets::{Combination, Release, VersionSet};
+use crate::{AsVersion, Dialect, Error, ErrorKind, RangeSet, Rules, Version};
+use core::fmt::{self, Debug, Display, Formatter};
 use core::hash::{Hash, Hasher};
 use core::ops::{BitAnd, BitOr, Sub};
 
+/// Returns whether a version satisfies a range. Both are read by the same rules: in a [`Dialect`],
+/// or by [`Rules`], which also say which pre-releases count. To check many versions against one
+/// range, read the range once, as a [`VersionRange`].
+///
+/// It allocates only if it returns an error.
+///
+/// # Errors
+///
+/// An [`Error`] for the version if it is invalid in the dialect, otherwise for the range if that is
+/// invalid.
+///
+/// ```
+/// use semver_parser::{satisfies, Dialect, ErrorKind, PreReleases};
+///
+/// assert!(satisfies("1.9.0", "^1.2", Dialect::Npm)?);
+/// assert!(satisfies("1.4.0", ">=1.2, <1.5", Dialect::Cargo)?);
+/// assert!(satisfies("1.3.0-rc.1", "^1.2", Dialect::Npm.with(PreReleases::Included))?);
+///
+/// let error = satisfies("1.2", "^1.2", Dialect::Npm).unwrap_err();
+/// assert_eq!(error.kind(), ErrorKind::InvalidVersion);
+/// assert_eq!(
+///     error.to_string(),
+///     "invalid version \"1.2\" at offset 3: there are fewer than three numbers"
+/// );
+/// # Ok::<(), semver_parser::Error>(())
+/// ```
+#[inline]
+pub fn satisfies(version: &str, range: &str, rules: impl Into<Rules>) -> Result<bool, Error> {
+    let rules = rules.into();
+    let result = satisfying::satisfies(version.as_bytes(), range, rules);
+    result.map_err(|error| match error {
+        SatisfiesError::InvalidVersion => Error::from_version(version, rules.dialect),
+        SatisfiesError::InvalidRange(error) => Error::from_range(error, range, rules.dialect),
+    })
+}
+
+/// Rewrites a range string into plain comparators with exact bounds, as data of `semver-parser`
+/// 0.10. A release satisfies them by precedence if and only if it satisfies the range.
+///
+/// # Errors
+///
+/// An [`Error`] if the string isn't a range in the dialect.
+///
+/// ```
+/// use semver_parser::{comparators, Dialect};
+///
+/// assert_eq!(comparators("1.2", Dialect::Cargo)?.to_string(), ">=1.2.0 <2.0.0-0");
+/// assert_eq!(comparators("1.2", Dialect::Npm)?.to_string(), ">=1.2.0 <1.3.0-0");
+/// # Ok::<(), semver_parser::Error>(())
+/// ```
+pub fn comparators(range: &str, dialect: Dialect) -> Result<RangeSet, Error> {
+    rewrite(dialect, range).map_err(|error| Error::from_range(error, range, dialect))
+}
+
+/// A range that was read: the versions that it contains, and the rules by which it was read. Two
+/// ranges are equal if both of these are.
+///
+/// ```
+/// use semver_parser::{Dialect, VersionRange};
+///
+/// let old = VersionRange::parse("^1.2", Dialect::Cargo)?;
+/// let new = VersionRange::parse(">=1.2.1, <1.9", Dialect::Cargo)?;
+/// assert!(new.is_subset(&old)? && old.contains("1.2.0")?);
+/// assert_eq!((&old - &new).to_string(), "=1.2.0 || >=1.9.0 <2.0.0");
+/// # Ok::<(), semver_parser::Error>(())
+/// ```
+#[derive(PartialEq, Eq)]
+pub struct VersionRange(pub(crate) proved::VersionRange);
+
 impl VersionRange {
-    /// Reads a range string. The second argument is a [`Dialect`](crate::Dialect), or a
-    /// [`Meaning`], which also says which pre-releases count.
+    /// Reads a range string in a [`Dialect`], or by [`Rules`], which also say which pre-releases
+    /// count.
     ///
     /// # Errors
     ///
-    /// An [`Error`], which says where and why the string isn't a range in the dialect.
-    /// [`VersionRange::try_parse`] returns an error that a program can match, and that doesn't
-    /// allocate.
+    /// An [`Error`] of the kind [`InvalidRange`](crate::ErrorKind::InvalidRange), which says where
+    /// and why the string isn't a range.
     ///
     /// ```
     /// use semver_parser::{Dialect, VersionRange};
@@ -22,74 +95,66 @@ impl VersionRange {
     /// let range = VersionRange::parse("1.x || >=2.5.0", Dialect::Npm)?;
     /// assert!(range.contains("2.6.0")?);
     /// let error = VersionRange::parse("1 || 2", Dialect::Cargo).unwrap_err();
-    /// assert_eq!(
-    ///     error.to_string(),
-    ///     "invalid range \"1 || 2\" at offset 2: Cargo takes no ||; npm does"
-    /// );
+    /// assert_eq!(error.offset(), Some(2));
     /// # Ok::<(), semver_parser::Error>(())
     /// ```
-    pub fn parse(range: &str, meaning: impl Into<Meaning>) -> Result<VersionRange, Error> {
-        let meaning = meaning.into();
-        VersionRange::try_parse(range, meaning)
-            .map_err(|error| Error::from_range(error, range, meaning.dialect))
+    pub fn parse(range: &str, rules: impl Into<Rules>) -> Result<VersionRange, Error> {
+        let rules = rules.into();
+        let read = proved::VersionRange::try_parse(range, rules).map(VersionRange);
+        read.map_err(|error| Error::from_range(error, range, rules.dialect))
     }
 
-    /// Returns whether the range contains a version, which is read in the range's dialect. Build
-    /// metadata is ignored. It allocates only if it returns an error.
-    ///
-    /// # Errors
-    ///
-    /// An [`Error`] of the kind [`InvalidVersion`](crate::ErrorKind::InvalidVersion) if the version
-    /// is invalid in the dialect.
+    /// Returns the rules by which the range was read.
     ///
     /// ```
-    /// use semver_parser::{Dialect, VersionRange};
+    /// use semver_parser::{Dialect, PreReleases, VersionRange};
     ///
     /// let range = VersionRange::parse("^1.2", Dialect::Npm)?;
-    /// assert!(range.contains("1.9.0+b5")?);
-    /// assert!(!range.contains("2.0.0-rc.1")?);
-    /// assert_eq!(range.contains("latest").unwrap_err().string(), "latest");
+    /// assert_eq!(range.rules(), Dialect::Npm.with(PreReleases::ByDialect));
     /// # Ok::<(), semver_parser::Error>(())
     /// ```
-    pub fn contains(&self, version: &str) -> Result<bool, Error> {
-        self.contains_bytes(version.as_bytes())
+    #[must_use]
+    pub fn rules(&self) -> Rules {
+        self.0.meaning()
     }
 
-    /// Returns the result of [`VersionRange::contains`] for a version in bytes, which needn't be
-    /// UTF-8. [`VersionRange::try_contains_bytes`] returns an error that doesn't allocate.
+    /// Returns whether the range contains a version. Build metadata is ignored.
     ///
-    /// # Errors
-    ///
-    /// The errors of [`VersionRange::contains`].
+    /// A string is read in the range's dialect, and the result is a `Result<bool, Error>`. For a
+    /// version that was read, the result is a `bool`. It allocates only if it returns an error.
     ///
     /// ```
-    /// use semver_parser::{Dialect, VersionRange};
+    /// use semver_parser::{Dialect, Version, VersionRange};
     ///
     /// let range = VersionRange::parse("^1.2", Dialect::Npm)?;
-    /// assert!(range.contains_bytes(b"v1.9.0")?);
-    /// assert_eq!(range.contains_bytes(b"1.9.\xff").unwrap_err().offset(), Some(4));
+    /// assert!(range.contains("v1.9.0+b5")?);
+    /// assert!(range.contains("latest").is_err());
+    /// assert!(range.contains(&Version::new(1, 9, 0)));
     /// # Ok::<(), semver_parser::Error>(())
     /// ```
-    pub fn contains_bytes(&self, version: &[u8]) -> Result<bool, Error> {
-        self.try_contains_bytes(version)
-            .map_err(|_| Error::from_version(version, self.meaning().dialect))
+    #[must_use]
+    #[inline]
+    pub fn contains<V: AsVersion>(&self, version: V) -> V::Contained {
+        version.contained(self)
     }
 
     /// Returns the highest of the given versions that the range contains, or `None` if it contains
     /// none of them. Versions are compared by precedence, and the first of equal versions is
-    /// returned. Strings that are invalid versions in the range's dialect are skipped.
+    /// returned. Strings that are invalid versions in the range's dialect are skipped; to find
+    /// them, read the versions first.
     ///
     /// ```
-    /// use semver_parser::{Dialect, VersionRange};
+    /// use semver_parser::{Dialect, Version, VersionRange};
     ///
     /// let range = VersionRange::parse("^1.2", Dialect::Npm)?;
     /// assert_eq!(range.highest(["1.9.0", "latest", "1.10.0", "2.0.0"]), Some("1.10.0"));
-    /// assert_eq!(range.highest(["2.0.0"]), None);
+    /// let versions = [Version::new(1, 2, 0), Version::new(1, 3, 0)];
+    /// assert_eq!(range.highest(&versions), Some(&versions[1]));
     /// # Ok::<(), semver_parser::Error>(())
     /// ```
     #[must_use]
-    pub fn highest<'v>(&self, versions: impl IntoIterator<Item = &'v str>) -> Option<&'v str> {
-        self.extreme_string(Extreme::Highest, versions.into_iter())
+    pub fn highest<V: AsVersion>(&self, versions: impl IntoIterator<Item = V>) -> Option<V> {
+        V::extreme(self, Extreme::Highest, versions.into_iter())
     }
 
     /// Returns the lowest of the given versions that the range contains. It is otherwise like
@@ -103,63 +168,97 @@ impl VersionRange {
     /// # Ok::<(), semver_parser::Error>(())
     /// ```
     #[must_use]
-    pub fn lowest<'v>(&self, versions: impl IntoIterator<Item = &'v str>) -> Option<&'v str> {
-        self.extreme_string(Extreme::Lowest, versions.into_iter())
+    pub fn lowest<V: AsVersion>(&self, versions: impl IntoIterator<Item = V>) -> Option<V> {
+        V::extreme(self, Extreme::Lowest, versions.into_iter())
     }
 
-    /// Returns the index of the highest of the given versions that the range contains, or `None` if
-    /// it contains none of them. The versions are in bytes, which needn't be UTF-8. It is otherwise
-    /// like [`VersionRange::highest`].
+    /// Returns the lowest version of the dialect that the range contains, or `None` if there is
+    /// none. By the dialect's rule for pre-releases, npm's `*` contains releases only, so its
+    /// lowest version is 0.0.0. A version of npm's dialect has no number above 2^53 - 1.
+    ///
+    /// ```
+    /// use semver_parser::{Dialect, Version, VersionRange};
+    ///
+    /// let range = VersionRange::parse(">1.2 || 3.x", Dialect::Npm)?;
+    /// assert_eq!(range.min_version(), Some(Version::new(1, 3, 0)));
+    /// assert_eq!(VersionRange::parse("<0.0.0", Dialect::Npm)?.min_version(), None);
+    /// # Ok::<(), semver_parser::Error>(())
+    /// ```
+    #[must_use]
+    pub fn min_version(&self) -> Option<Version> {
+        let lowest = self.0.try_lowest_version().unwrap_or_else(|_| out_of_memory());
+        lowest.as_ref().map(Version::without_build)
+    }
+
+    /// Returns whether the range contains no version.
     ///
     /// ```
     /// use semver_parser::{Dialect, VersionRange};
     ///
-    /// let range = VersionRange::parse("^1.2", Dialect::Npm)?;
-    /// let versions: [&[u8]; 4] = [b"1.2.0", b"latest", b"1.10.0", b"2.0.0"];
-    /// assert_eq!(range.highest_of(&versions), Some(2));
-    /// assert_eq!(range.highest_of(&[b"2.0.0"]), None);
+    /// assert!(VersionRange::parse(">2.0.0 <1.0.0", Dialect::Npm)?.is_empty());
     /// # Ok::<(), semver_parser::Error>(())
     /// ```
     #[must_use]
-    pub fn highest_of(&self, versions: &[&[u8]]) -> Option<usize> {
-        self.extreme_index(Extreme::Highest, versions)
+    pub fn is_empty(&self) -> bool {
+        self.0.is_empty()
     }
 
-    /// Returns the index of the lowest of the given versions that the range contains. It is
-    /// otherwise like [`VersionRange::highest_of`].
-    ///
-    /// ```
-    /// use semver_parser::{Dialect, VersionRange};
-    ///
-    /// let range = VersionRange::parse("^1.2", Dialect::Npm)?;
-    /// assert_eq!(range.lowest_of(&[b"1.1.0", b"1.10.0", b"v1.2.0"]), Some(2));
-    /// # Ok::<(), semver_parser::Error>(())
-    /// ```
-    #[must_use]
-    pub fn lowest_of(&self, versions: &[&[u8]]) -> Option<usize> {
-        self.extreme_index(Extreme::Lowest, versions)
-    }
-
-    /// Returns the range of the versions that are in either range.
+    /// Returns whether the other range contains every version that this one does. One may have been
+    /// read in Cargo's dialect and the other in npm's.
     ///
     /// # Errors
     ///
-    /// `DifferentMeanings` if the ranges differ in their dialects, or in which pre-releases count;
-    /// `OutOfMemory` if an allocation failed.
+    /// [`DifferentRules`](ErrorKind::DifferentRules) if one was read in Cargo's or npm's dialect, and
+    /// the other in one of `semver-parser`, for which an identifier of digits from 2^64 on isn't a
+    /// number.
+    ///
+    /// ```
+    /// use semver_parser::{Dialect, VersionRange};
+    ///
+    /// let range = VersionRange::parse("~1.2", Dialect::Npm)?;
+    /// assert!(range.is_subset(&VersionRange::parse("1", Dialect::Cargo)?)?);
+    /// # Ok::<(), semver_parser::Error>(())
+    /// ```
+    pub fn is_subset(&self, other: &VersionRange) -> Result<bool, Error> {
+        self.0.is_subset(&other.0).map_err(Error::of_operation)
+    }
+
+    /// Returns whether no version is in both ranges.
+    ///
+    /// # Errors
+    ///
+    /// The errors of [`VersionRange::is_subset`].
+    ///
+    /// ```
+    /// use semver_parser::{Dialect, VersionRange};
+    ///
+    /// let range = VersionRange::parse("~1.2", Dialect::Npm)?;
+    /// assert!(range.is_disjoint(&VersionRange::parse("~1.3", Dialect::Npm)?)?);
+    /// # Ok::<(), semver_parser::Error>(())
+    /// ```
+    pub fn is_disjoint(&self, other: &VersionRange) -> Result<bool, Error> {
+        self.0.is_disjoint(&other.0).map_err(Error::of_operation)
+    }
+
+    /// Returns the range of the versions that are in either range; also `&a | &b`.
+    ///
+    /// # Errors
+    ///
+    /// [`DifferentRules`](ErrorKind::DifferentRules) unless both were read by the same rules.
     ///
     /// ```
     /// use semver_parser::{Dialect, VersionRange};
     ///
     /// let range = VersionRange::parse(">=1.0.0 <1.5.0", Dialect::Npm)?;
     /// let other = VersionRange::parse(">=1.2.0 <2.0.0", Dialect::Npm)?;
-    /// assert_eq!(range.union(&other).unwrap().to_string(), ">=1.0.0 <2.0.0");
+    /// assert_eq!(range.union(&other)?.to_string(), ">=1.0.0 <2.0.0");
     /// # Ok::<(), semver_parser::Error>(())
     /// ```
-    pub fn union(&self, other: &VersionRange) -> Result<VersionRange, OperationError> {
+    pub fn union(&self, other: &VersionRange) -> Result<VersionRange, Error> {
         self.combined(Combination::Union, other)
     }
 
-    /// Returns the range of the versions that are in both ranges.
+    /// Returns the range of the versions that are in both ranges; also `&a & &b`.
     ///
     /// # Errors
     ///
@@ -170,14 +269,15 @@ impl VersionRange {
     ///
     /// let range = VersionRange::parse(">=1.0.0 <1.5.0", Dialect::Npm)?;
     /// let other = VersionRange::parse(">=1.2.0 <2.0.0", Dialect::Npm)?;
-    /// assert_eq!(range.intersection(&other).unwrap().to_string(), ">=1.2.0 <1.5.0");
+    /// assert_eq!(range.intersection(&other)?.to_string(), ">=1.2.0 <1.5.0");
     /// # Ok::<(), semver_parser::Error>(())
     /// ```
-    pub fn intersection(&self, other: &VersionRange) -> Result<VersionRange, OperationError> {
+    pub fn intersection(&self, other: &VersionRange) -> Result<VersionRange, Error> {
         self.combined(Combination::Intersection, other)
     }
 
-    /// Returns the range of the versions that are in this range, but not in the other.
+    /// Returns the range of the versions that are in this range, but not in the other; also
+    /// `&a - &b`.
     ///
     /// # Errors
     ///
@@ -188,98 +288,120 @@ impl VersionRange {
     ///
     /// let range = VersionRange::parse(">=1.0.0 <1.5.0", Dialect::Npm)?;
     /// let other = VersionRange::parse(">=1.2.0 <2.0.0", Dialect::Npm)?;
-    /// assert_eq!(range.difference(&other).unwrap().to_string(), ">=1.0.0 <1.2.0");
+    /// assert_eq!(range.difference(&other)?.to_string(), ">=1.0.0 <1.2.0");
     /// # Ok::<(), semver_parser::Error>(())
     /// ```
-    pub fn difference(&self, other: &VersionRange) -> Result<VersionRange, OperationError> {
+    pub fn difference(&self, other: &VersionRange) -> Result<VersionRange, Error> {
         self.combined(Combination::Difference, other)
     }
-}
 
-impl VersionRange {
-    /// Returns the lowest version of the dialect that the range contains, or `None` if there is
-    /// none. By the default rule for pre-releases, npm's `*` contains releases only, so its lowest
-    /// version is 0.0.0. A version of npm's dialect has no number above 2^53 - 1.
+    fn combined(&self, how: Combination, other: &VersionRange) -> Result<VersionRange, Error> {
+        self.0.combined(how, &other.0).map(VersionRange).map_err(Error::of_operation)
+    }
+
+    /// Returns the releases of the range as intervals, in ascending order. Each is a
+    /// [`Range`](crate::Range) with one or two comparators.
     ///
     /// ```
     /// use semver_parser::{Dialect, VersionRange};
     ///
-    /// let lowest = |range| -> Result<_, semver_parser::Error> {
-    ///     let version = VersionRange::parse(range, Dialect::Npm)?.lowest_version();
-    ///     Ok(version.map(|version| version.to_string()))
-    /// };
-    /// assert_eq!(lowest(">1.2 || 3.x")?, Some("1.3.0".to_string()));
-    /// assert_eq!(lowest("^1.2.3-rc.1")?, Some("1.2.3-rc.1".to_string()));
-    /// assert_eq!(lowest("<0.0.0")?, None);
-    /// assert_eq!(lowest(">1.2.9007199254740991")?, Some("1.3.0".to_string()));
+    /// let range = VersionRange::parse("1.2.0 || >=1.9", Dialect::Npm)?;
+    /// assert_eq!(range.releases().to_string(), "=1.2.0 || >=1.9.0");
     /// # Ok::<(), semver_parser::Error>(())
     /// ```
     #[must_use]
-    pub fn lowest_version(&self) -> Option<Version> {
-        self.try_lowest_version().unwrap_or_else(|_| out_of_memory())
+    pub fn releases(&self) -> RangeSet {
+        self.0.versions().release_ranges().unwrap_or_else(|_| out_of_memory()).range_set
+    }
+
+    /// Returns the pre-releases of the range as intervals by precedence. They are otherwise like
+    /// those of [`VersionRange::releases`].
+    ///
+    /// ```
+    /// use semver_parser::{Dialect, VersionRange};
+    ///
+    /// let range = VersionRange::parse("^1.2.3-b", Dialect::Npm)?;
+    /// assert_eq!(range.pre_releases().to_string(), ">=1.2.3-b <1.2.3");
+    /// # Ok::<(), semver_parser::Error>(())
+    /// ```
+    #[must_use]
+    pub fn pre_releases(&self) -> RangeSet {
+        self.0.versions().pre_release_ranges().unwrap_or_else(|_| out_of_memory()).range_set
+    }
+}
+
+impl Display for VersionRange {
+    /// Writes the range in npm's syntax. First come the releases that it contains, or `<0.0.0-0` if
+    /// it contains no version. If it contains pre-releases, they follow after `, pre-releases `, as
+    /// a range that is to be compared by precedence. If it contains only pre-releases, the first
+    /// comma is missing.
+    ///
+    /// ```
+    /// use semver_parser::{Dialect, VersionRange};
+    ///
+    /// let shown = |range| VersionRange::parse(range, Dialect::Npm).unwrap().to_string();
+    /// assert_eq!(shown("1.2.0 || ~1.9"), "=1.2.0 || >=1.9.0 <1.10.0");
+    /// assert_eq!(shown("^1.2.3-b"), ">=1.2.3 <2.0.0, pre-releases >=1.2.3-b <1.2.3");
+    /// ```
+    fn fmt(&self, f: &mut Formatter<'_>) -> fmt::Result {
+        Display::fmt(&self.0, f)
+    }
+}
+
+impl Debug for VersionRange {
+    fn fmt(&self, f: &mut Formatter<'_>) -> fmt::Result {
+        write!(f, "VersionRange({self}, {:?})", self.rules())
     }
 }
 
 impl Clone for VersionRange {
     fn clone(&self) -> VersionRange {
-        VersionRange {
-            versions: self.versions.clone(),
-            meaning: self.meaning,
-        }
+        let VersionSet { releases, pre_releases, digits } = self.0.versions();
+        let (releases, pre_releases) = (releases.clone(), pre_releases.clone());
+        let versions = VersionSet { releases, pre_releases, digits: *digits };
+        VersionRange(proved::VersionRange { versions, meaning: self.rules() })
     }
 }
 
 impl Hash for VersionRange {
+    /// Hashes the rules, the boundaries of releases, and the three numbers of each boundary of
+    /// pre-releases. Equal ranges have the same boundaries.
     fn hash<H: Hasher>(&self, state: &mut H) {
-        self.meaning.hash(state);
-        self.versions.hash(state);
+        self.rules().hash(state);
+        self.0.versions().releases.hash(state);
+        for boundary in &self.0.versions().pre_releases {
+            Release::from_version(&boundary.version).hash(state);
+        }
     }
 }
 
 /// Returns the result of an operator. If an allocation failed, it ends the process, like std.
-fn operator_result(result: Result<VersionRange, OperationError>) -> VersionRange {
-    match result {
-        Ok(range) => range,
-        Err(OperationError::OutOfMemory) => out_of_memory(),
-        Err(error) => panic!("{error}"),
-    }
+fn operator_result(result: Result<VersionRange, Error>) -> VersionRange {
+    result.unwrap_or_else(|error| match error.kind() {
+        ErrorKind::OutOfMemory => out_of_memory(),
+        _ => panic!("{error}"),
+    })
 }
 
-impl BitOr for &VersionRange {
-    type Output = VersionRange;
+macro_rules! operators {
+    ($($trait:ident, $operator:ident, $method:ident, $name:literal;)*) => {$(
+        impl $trait for &VersionRange {
+            type Output = VersionRange;
 
-    /// Returns the result of [`VersionRange::union`].
-    ///
-    /// # Panics
-    ///
-    /// If the meanings of the ranges differ.
-    fn bitor(self, other: &VersionRange) -> VersionRange {
-        operator_result(self.union(other))
-    }
+            #[doc = concat!("Returns the result of [`VersionRange::", $name, "`].")]
+            ///
+            /// # Panics
+            ///
+            /// If the ranges were read by different rules.
+            fn $operator(self, other: &VersionRange) -> VersionRange {
+                operator_result(self.$method(other))
+            }
+        }
+    )*};
 }
 
-impl BitAnd for &VersionRange {
-    type Output = VersionRange;
-
-    /// Returns the result of [`VersionRange::intersection`].
-    ///
-    /// # Panics
-    ///
-    /// If the meanings of the ranges differ.
-    fn bitand(self, other: &VersionRange) -> VersionRange {
-        operator_result(self.intersection(other))
-    }
-}
-
-impl Sub for &VersionRange {
-    type Output = VersionRange;
-
-    /// Returns the result of [`VersionRange::difference`].
-    ///
-    /// # Panics
-    ///
-    /// If the meanings of the ranges differ.
-    fn sub(self, other: &VersionRange) -> VersionRange {
-        operator_result(self.difference(other))
-    }
+operators! {
+    BitOr, bitor, union, "union";
+    BitAnd, bitand, intersection, "intersection";
+    Sub, sub, difference, "difference";
 }

@@ -1,14 +1,13 @@
 //! The surface of the Rust crate `semver-parser` 0.10.3, under its paths and with its signatures:
 //! this compiles as it did with the original. After it are the traits and the errors that are
-//! written by hand.
+//! written by hand. The file interface.rs has what isn't the original's.
 
 use semver_parser::lexer::{self, Lexer, Token};
 use semver_parser::parser::{self, Parser};
-use semver_parser::sets::{self, VersionSet};
 use semver_parser::version::{self, Version};
-use semver_parser::{check_range, check_version, satisfies};
+use semver_parser::{satisfies, terms};
 use semver_parser::{Comparator, Compat, Identifier, Op, Range, RangeSet};
-use semver_parser::{Dialect, Error, ErrorKind, Meaning, PreReleases, VersionRange, VersionRef};
+use semver_parser::{Dialect, Error, ErrorKind, PreReleases, VersionRange, VersionRef};
 use std::alloc::{GlobalAlloc, Layout, System};
 use std::cell::Cell;
 use std::collections::HashSet;
@@ -87,29 +86,21 @@ fn values_are_cloned_and_hashed() -> Result<(), String> {
 // ---------------------------------------------------------------- traits that are written by hand
 
 fn npm_range(range: &str, pre_releases: PreReleases) -> VersionRange {
-    let dialect = Dialect::Npm;
-    VersionRange::parse(
-        range,
-        Meaning {
-            dialect,
-            pre_releases,
-        },
-    )
-    .unwrap()
+    VersionRange::parse(range, Dialect::Npm.with(pre_releases)).unwrap()
 }
 
 #[test]
-fn ranges_are_cloned_and_hashed_by_their_versions_and_meaning() {
-    let range = npm_range("^1.2.3-rc.1", PreReleases::Default);
+fn ranges_are_cloned_and_hashed_by_their_versions_and_rules() {
+    let range = npm_range("^1.2.3-rc.1", PreReleases::ByDialect);
     let ranges = [
         range.clone(),
-        npm_range("^1.2.3-rc.1 || ^1.4", PreReleases::Default),
-        npm_range("^1.2.3-rc.1+b5", PreReleases::Default),
+        npm_range("^1.2.3-rc.1 || ^1.4", PreReleases::ByDialect),
+        npm_range("^1.2.3-rc.1+b5", PreReleases::ByDialect),
         range.clone(),
     ];
     assert!(ranges.iter().all(|it| *it == range));
     let others = [
-        npm_range("^1.2.3", PreReleases::Default),
+        npm_range("^1.2.3", PreReleases::ByDialect),
         npm_range("^1.2.3-rc.1", PreReleases::Included),
         npm_range("^1.2.3-rc.1", PreReleases::Excluded),
         VersionRange::parse("^1.2.3-rc.1", Dialect::Cargo).unwrap(),
@@ -121,7 +112,7 @@ fn ranges_are_cloned_and_hashed_by_their_versions_and_meaning() {
 
 #[test]
 fn a_clone_of_a_range_has_a_memory_of_its_own() {
-    let range = npm_range("=1.2.3-rc.1 || ^2.0.0-a", PreReleases::Default);
+    let range = npm_range("=1.2.3-rc.1 || ^2.0.0-a", PreReleases::ByDialect);
     let copy = range.clone();
     drop(range);
     assert_eq!(copy.contains("1.2.3-rc.1"), Ok(true));
@@ -130,45 +121,47 @@ fn a_clone_of_a_range_has_a_memory_of_its_own() {
 }
 
 #[test]
-fn sets_are_cloned_and_hashed_by_their_versions() {
-    let set = |range: &str| sets::parse(range, Dialect::Cargo).unwrap();
-    let one = set(">=1.2.0, <1.5.0-rc.1");
+fn ranges_of_cargo_are_cloned_and_hashed_by_their_versions() {
+    let read = |range: &str| VersionRange::parse(range, Dialect::Cargo).unwrap();
+    let one = read(">=1.2.0, <1.5.0-rc.1");
     let same = [
         one.clone(),
-        set(">=1.2.0, >=1.0.0, <1.5.0-rc.1+b5"),
+        read(">=1.2.0, >=1.0.0, <1.5.0-rc.1+b5"),
         one.clone(),
     ];
     assert!(same.iter().all(|it| *it == one));
     let others = [
-        set(">=1.2.0, <1.5.0-rc.2"),
-        set(">=1.2.0, <1.5.0"),
-        set("*"),
-        set(">1, <1"),
+        read(">=1.2.0, <1.5.0-rc.2"),
+        read(">=1.2.0, <1.5.0"),
+        read("*"),
+        read(">1, <1"),
     ];
-    let all: HashSet<VersionSet> = same.into_iter().chain(others.clone()).collect();
+    let all: HashSet<VersionRange> = same.into_iter().chain(others.clone()).collect();
     assert_eq!(all.len(), 1 + others.len());
     assert!(others.iter().all(|it| *it != one && all.contains(it)));
 }
 
-/// To the crate an identifier of digits from 2^64 on is a text, so its sets are others.
+/// To the crate an identifier of digits from 2^64 on is a string, so its ranges are others.
 #[test]
-fn sets_of_other_digits_are_different() {
-    let of_crate = sets::parse("=1.2.3", Dialect::CrateNpm).unwrap();
-    let of_npm = sets::parse("=1.2.3", Dialect::Npm).unwrap();
+fn ranges_of_other_digits_are_different() {
+    let of_crate = VersionRange::parse("=1.2.3", Dialect::CrateNpm).unwrap();
+    let of_npm = VersionRange::parse("=1.2.3", Dialect::Npm).unwrap();
     assert!(of_crate == of_crate.clone() && of_npm == of_npm.clone());
     assert!(of_crate != of_npm && of_crate.clone() != of_npm && of_crate != of_npm.clone());
+    let different = of_crate.is_subset(&of_npm).unwrap_err();
+    assert_eq!(different.kind(), ErrorKind::DifferentRules);
     assert_eq!(HashSet::from([of_crate, of_npm]).len(), 2);
 }
 
 #[test]
 fn rules_for_pre_releases_are_read_by_their_names() {
     let read = |name: &str| name.parse::<PreReleases>();
-    assert_eq!(read("default"), Ok(PreReleases::Default));
+    assert_eq!(read("by-dialect"), Ok(PreReleases::ByDialect));
     assert_eq!(read("included"), Ok(PreReleases::Included));
     assert_eq!(read("excluded"), Ok(PreReleases::Excluded));
-    for name in ["", "Included", "included ", "cargo"] {
+    for name in ["", "Included", "included ", "cargo", "default"] {
         let error = read(name).unwrap_err().to_string();
-        let expected = "expected default, included or excluded";
+        let expected = "expected by-dialect, included or excluded";
         assert_eq!(error, format!("unknown name {name:?}: {expected}"));
     }
 }
@@ -192,7 +185,7 @@ fn borrowed_versions_are_equal_by_their_parts() {
     }
     // Equal by precedence, and not by their bytes.
     let build = read("1.2.3-rc.1+b6", Dialect::Cargo);
-    assert!(one.compare(&build).is_eq() && one != build);
+    assert!(one.cmp_precedence(&build).is_eq() && one != build && one < build);
     let zero = read("1.2.3-01", Dialect::CrateNpm);
     assert_ne!(zero, read("1.2.3-1", Dialect::CrateNpm));
 }
@@ -222,11 +215,11 @@ fn the_lowest_version_is_one_of_the_dialect() {
     for (dialect, most, (range, by_default, with_all)) in npm.chain(cargo) {
         let most = most.to_string();
         for (pre_releases, wanted) in
-            [(PreReleases::Default, by_default), (PreReleases::Included, with_all)]
+            [(PreReleases::ByDialect, by_default), (PreReleases::Included, with_all)]
         {
-            let meaning = Meaning { dialect, pre_releases };
-            let read = VersionRange::parse(&range.replace('M', &most), meaning).unwrap();
-            let lowest = read.lowest_version().map_or("none".into(), |version| version.to_string());
+            let range = range.replace('M', &most);
+            let read = VersionRange::parse(&range, dialect.with(pre_releases)).unwrap();
+            let lowest = read.min_version().map_or("none".into(), |version| version.to_string());
             assert_eq!(lowest, wanted.replace('M', &most), "{range} in {dialect}'s dialect");
         }
     }
@@ -238,7 +231,7 @@ fn the_lowest_version_is_one_of_the_dialect() {
 /// ASCII, and the caret is in the column of the character at the offset.
 #[test]
 fn a_caret_is_below_the_character_at_the_offset() {
-    let of_range = |range| check_range(range, Dialect::Npm).unwrap_err();
+    let of_range = |range| VersionRange::parse(range, Dialect::Npm).unwrap_err();
     let rows = [
         ("1 \u{e9}", 2, "1 \\u{e9}", 2),
         ("1\t\u{e9}", 2, "1\\t\\u{e9}", 3),
@@ -264,29 +257,10 @@ fn a_caret_is_below_the_character_at_the_offset() {
 fn a_caret_may_be_far_away() {
     for length in [10, 65_535, 66_000] {
         let version = format!("1.2.3-{}!", "a".repeat(length));
-        let error = check_version(&version, Dialect::Cargo).unwrap_err();
+        let error = VersionRef::parse(&version, Dialect::Cargo).unwrap_err();
         let caret = format!("{}^", " ".repeat(4 + version.len() - 1));
         let wanted = format!("invalid version: unexpected character\n    {version}\n{caret}");
         assert_eq!(format!("{error:#}"), wanted);
-    }
-}
-
-/// What isn't UTF-8 is replaced as std does.
-#[test]
-fn an_error_of_bytes_has_them_as_a_string() {
-    let rows: [&[u8]; 8] = [
-        b"1.2.\xff",
-        b"\xff\xfe1.2.3",
-        b"1.2.3-\xe2\x82",
-        b"1.2.3-\xe2\x82a\xe2\x82\xac\x80",
-        b"1.2.3-\xf0\x9f\x98",
-        b"1.2.3-\xf0\x9f\x98\x80 \xc0\x80",
-        b"1.2.3-\xed\xa0\x80.\xc3\xa9",
-        b"",
-    ];
-    for bytes in rows {
-        let error = VersionRef::parse_bytes(bytes, Dialect::Cargo).unwrap_err();
-        assert_eq!(error.string(), String::from_utf8_lossy(bytes), "{bytes:?}");
     }
 }
 
@@ -421,27 +395,20 @@ fn fails_as_it_should(what: &str, call: Failing) {
 #[test]
 fn an_error_for_out_of_memory_has_no_offset() {
     const LARGE: &str = "^18446744073709551615";
-    let calls: [(&str, Failing); 10] = [
+    let calls: [(&str, Failing); 7] = [
         ("a range", || {
             VersionRange::parse("^1.2 || 2", Dialect::Cargo).err()
         }),
         ("a number", || {
             VersionRange::parse(LARGE, Dialect::Cargo).err()
         }),
-        ("a set", || sets::parse("^1.2, <", Dialect::Cargo).err()),
-        ("a range that is checked", || {
-            check_range("1 2 |", Dialect::Npm).err()
-        }),
-        ("a version that is checked", || {
-            check_version("1.2.03", Dialect::Npm).err()
-        }),
+        ("terms", || terms("1 2 |", Dialect::Npm).err()),
         ("a borrowed version", || {
             VersionRef::parse("1.2.3-a..b", Dialect::Npm).err()
         }),
-        ("bytes", || {
-            VersionRef::parse_bytes(b"1.2.\xff\xe2\x82", Dialect::Npm).err()
+        ("a version", || {
+            "1.2.3-".parse::<semver_parser::Version>().err()
         }),
-        ("a version", || "1.2.3-".parse::<Version>().err()),
         ("the version of both", || {
             satisfies("1.2", "^1", Dialect::Npm).err()
         }),
@@ -452,4 +419,18 @@ fn an_error_for_out_of_memory_has_no_offset() {
     for (what, call) in calls {
         fails_as_it_should(what, call);
     }
+}
+
+/// A version that is copied reports a failed allocation, and so does the name of no dialect.
+#[test]
+fn other_calls_report_a_failed_allocation() {
+    let read = || semver_parser::Version::parse("1.2.3-rc.1+b5", Dialect::Cargo);
+    let (version, was_refused) = with_granted(0, false, read);
+    assert!(was_refused && is_out_of_memory(&version.unwrap_err()));
+    let (dialect, was_refused) = with_granted(0, false, || "yarn".parse::<Dialect>());
+    assert!(was_refused && is_out_of_memory(&dialect.unwrap_err()));
+    let read = |range| VersionRange::parse(range, Dialect::Npm).unwrap();
+    let (one, other) = (read("^1 || ^3"), read("^2 || ^4"));
+    let (union, was_refused) = with_granted(0, false, || one.union(&other));
+    assert!(was_refused && is_out_of_memory(&union.unwrap_err()));
 }

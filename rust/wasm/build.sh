@@ -44,11 +44,11 @@ exec 9> "$built/lock"
 flock 9
 
 # Functions that are always inlined make the module three times as large: they are inlined at will
-# in a copy of the crate, which is made anew only if it changes.
+# in a copy of the sources, which is made anew only if they change.
 copy=$built/crate new=$built/new
-rm -rf "$new" && mkdir -p "$new/wasm" "$new/tests"
-cp -R "$wasm/../Cargo.toml" "$wasm/../src" "$new"
-cp "$wasm"/../tests/*.rs "$new/tests"
+rm -rf "$new" && mkdir -p "$new/wasm" "$new/capi/src"
+cp -R "$wasm/../src" "$new"
+cp "$wasm/../capi/src/shared.rs" "$new/capi/src"
 cp -R "$wasm/Cargo.toml" "$wasm/src" "$new/wasm"
 find "$new" -name '*.rs' -exec sed -i 's/#\[inline(always)\]/#[inline]/' {} +
 diff -r -q -x Cargo.lock "$new" "$copy" > /dev/null 2>&1 || { rm -rf "$copy" && mv "$new" "$copy"; }

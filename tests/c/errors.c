@@ -93,7 +93,7 @@ static void version_error_is(int dialect, const char *bytes, size_t offset,
     bool answer = false;
     int32_t order = 0;
     is_error(parse(&version, dialect, &parsed), INVALID_VERSION, 0, offset, reason, bytes);
-    is_error(satisfies(&version, &range, dialect, DEFAULT, &answer), INVALID_VERSION, 0, offset,
+    is_error(satisfies(&version, &range, dialect, BY_DIALECT, &answer), INVALID_VERSION, 0, offset,
              reason, bytes);
     is_error(order_of(&version, &version, dialect, &order), INVALID_VERSION, 0, offset, reason,
              bytes);
@@ -114,7 +114,7 @@ static void range_error_is(int dialect, const char *bytes, size_t offset,
     semver_parser_comparators *list = NULL;
     semver_parser_range *set = NULL;
     bool answer = false;
-    is_error(satisfies(&version, &range, dialect, DEFAULT, &answer), status, 1, offset, reason,
+    is_error(satisfies(&version, &range, dialect, BY_DIALECT, &answer), status, 1, offset, reason,
              bytes);
     is_error(set_of(&range, dialect, INCLUDED, &set), status, 0, offset, reason, bytes);
     is_error(check_range(&range, dialect), status, 0, offset, reason, bytes);
@@ -142,9 +142,9 @@ static void strings(void) {
     text_free(&long_zero);
     text version = string("1.2.3");
     bool answer;
-    is_error(satisfies(&version, &version, 4, DEFAULT, &answer), INVALID_ARGUMENT, 0, 0,
+    is_error(satisfies(&version, &version, 4, BY_DIALECT, &answer), INVALID_ARGUMENT, 0, 0,
              REASON(NONE), "a dialect");
-    is_error(satisfies(&version, &version, CARGO, DEFAULT, &answer), OK, 0, 0, REASON(NONE),
+    is_error(satisfies(&version, &version, CARGO, BY_DIALECT, &answer), OK, 0, 0, REASON(NONE),
              "no error");
     text_free(&version);
 }
@@ -164,7 +164,7 @@ static void arguments(void) {
     semver_parser_comparators_free(list);
     text_free(&range);
     for (int at = 0; at < 6; at++) {
-        semver_parser_options options = options_of(NPM, DEFAULT);
+        semver_parser_options options = options_of(NPM, BY_DIALECT);
         semver_parser_error error;
         semver_parser_range *made = NULL;
         bool answer = true;
@@ -192,13 +192,13 @@ static void two_ranges(void) {
         int status;
         const char *message;
     } others[] = {
-        {CARGO, DEFAULT, DIFFERENT_DIALECTS, "the ranges have different dialects"},
+        {CARGO, BY_DIALECT, DIFFERENT_DIALECTS, "the ranges have different dialects"},
         {CARGO, INCLUDED, DIFFERENT_DIALECTS, "the ranges have different dialects"},
         {NPM, INCLUDED, DIFFERENT_PRE_RELEASES,
          "the ranges have different rules for pre-releases"},
     };
     text of = string("^1.2");
-    semver_parser_range *one = made_of("^1.2", NPM, DEFAULT);
+    semver_parser_range *one = made_of("^1.2", NPM, BY_DIALECT);
     for (size_t at = 0; at < sizeof others / sizeof *others; at++) {
         semver_parser_range *other = made_of("^1.2", others[at].dialect, others[at].rule);
         semver_parser_range *made = NULL;
@@ -236,7 +236,7 @@ static void texts(texts_of *text, int32_t count, const char *kind) {
 /* The names are those of README's options and of the table of cases. */
 static void names(void) {
     static const char *const dialects[] = {"cargo", "npm", "crate-cargo", "crate-npm"};
-    static const char *const of_rules[] = {"default", "included", "excluded"};
+    static const char *const of_rules[] = {"by-dialect", "included", "excluded"};
     static const char *const statuses[STATUSES] = {
         "ok", "invalid-range", "number-too-large", "invalid-version", "out-of-memory",
         "invalid-argument", "different-dialects", "different-pre-releases"};

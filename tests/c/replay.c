@@ -451,7 +451,7 @@ typedef struct {
 /* In both dialects, and with each rule. */
 #define RULED(name, say, cargo, npm)                                                               \
     CRATE(name "releases", say, EXCLUDED, cargo, npm),                                             \
-    CRATE(name "stated", say, DEFAULT, cargo, npm), CRATE(name "mean", say, INCLUDED, cargo, npm)
+    CRATE(name "stated", say, BY_DIALECT, cargo, npm), CRATE(name "mean", say, INCLUDED, cargo, npm)
 /* In the dialects of both tools. */
 #define TOOLS(name, say, rule, cargo, npm)                                                         \
     {name "-as-cargo", say, CARGO, rule, cargo, 0, 0}, {name "-as-npm", say, NPM, rule, npm, 0, 0}
@@ -474,10 +474,10 @@ static table_call calls[] = {
     RULED("whole-", say_whole, 2, 120),
     RULED("whole-pair-", say_whole_pair, 2, 64),
     {"greatest-release", say_highest, CRATE_NPM, EXCLUDED, 10, 0, 0},
-    {"greatest-stated", say_highest, CRATE_NPM, DEFAULT, 100, 0, 0},
+    {"greatest-stated", say_highest, CRATE_NPM, BY_DIALECT, 100, 0, 0},
     {"greatest-of-all", say_highest, CRATE_NPM, INCLUDED, 9, 0, 0},
     TOOLS("rewritten", say_by_tool, 0, 81, 340),
-    TOOLS("meant", say_meant, DEFAULT, 90, 220),
+    TOOLS("meant", say_meant, BY_DIALECT, 90, 220),
     TOOLS("meant-with-all", say_meant, INCLUDED, 60, 100),
     TOOLS("version", say_read, 0, 60, 100),
     TOOLS("refused", say_refused, 0, 45, 30),

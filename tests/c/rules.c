@@ -122,7 +122,7 @@ static const struct {
 /* Checks the default rule, and releases only. */
 static void satisfy_by_default(int dialect, const char *range, const char *version, int wanted) {
     bool counts = wanted > YES || is_release(version);
-    satisfy(dialect, DEFAULT, range, version, wanted);
+    satisfy(dialect, BY_DIALECT, range, version, wanted);
     satisfy(dialect, EXCLUDED, range, version, counts ? wanted : (int)NO);
 }
 
@@ -179,7 +179,7 @@ static const struct {
     {"=1.2.3", " 1.2.3+b\n", {YES, YES, YES}},
 };
 
-static const int rules[] = {EXCLUDED, DEFAULT, INCLUDED};
+static const int rules[] = {EXCLUDED, BY_DIALECT, INCLUDED};
 
 static void ranges_of_the_crate(void) {
     for (size_t at = 0; at < sizeof of_crate / sizeof *of_crate; at++) {

@@ -27,7 +27,7 @@ static void set_prints(const char *range, int dialect, int rule, printing *print
 #define MOST "18446744073709551615"
 #define LAST MOST "." MOST "." MOST
 
-static const int rules[] = {EXCLUDED, DEFAULT, INCLUDED};
+static const int rules[] = {EXCLUDED, BY_DIALECT, INCLUDED};
 
 /* A range and its lowest version: for releases only, by the default rule, and with all
  * pre-releases. An empty string means that there is none. */
@@ -78,12 +78,12 @@ static void lowest(void) {
     /* Strings of each length around that of the first buffer. */
     for (int count = 40; count < 80; count++) {
         text near = repeated(">=1.2.3-", "a", count, "");
-        set_prints(near.bytes, CRATE_CARGO, DEFAULT, say_lowest, near.bytes + 2);
+        set_prints(near.bytes, CRATE_CARGO, BY_DIALECT, say_lowest, near.bytes + 2);
         text_free(&near);
     }
     text identifier = repeated(">=1.2.3-", "a", 3000, "");
     set_prints(identifier.bytes, CRATE_CARGO, EXCLUDED, say_lowest, "1.2.3");
-    set_prints(identifier.bytes, CRATE_CARGO, DEFAULT, say_lowest, identifier.bytes + 2);
+    set_prints(identifier.bytes, CRATE_CARGO, BY_DIALECT, say_lowest, identifier.bytes + 2);
     text_free(&identifier);
 }
 
@@ -93,14 +93,14 @@ static void printed(void) {
     set_prints(">1.2.3 <2.0.0-0", CRATE_CARGO, INCLUDED, say_pre_releases, ">=1.2.4-0 <2.0.0-0");
     set_prints(">2 <1", NPM, INCLUDED, say_releases, "<0.0.0-0");
     set_prints("*", NPM, EXCLUDED, say_releases, "*");
-    set_prints("^1.2", CARGO, DEFAULT, say_releases, ">=1.2.0 <2.0.0");
+    set_prints("^1.2", CARGO, BY_DIALECT, say_releases, ">=1.2.0 <2.0.0");
     text many = string("=0.0.1");
     text wanted = string("=0.0.1");
     for (int at = 2; at < 300; at++) {
         text_say(&many, " || =0.0.%d", 2 * at);
         text_say(&wanted, " || =0.0.%d", 2 * at);
     }
-    set_prints(many.bytes, CRATE_NPM, DEFAULT, say_releases, wanted.bytes);
+    set_prints(many.bytes, CRATE_NPM, BY_DIALECT, say_releases, wanted.bytes);
     text_free(&many);
     text_free(&wanted);
 }
@@ -306,15 +306,15 @@ static const struct {
     size_t highest;
     size_t lowest;
 } lists[] = {
-    {CARGO, DEFAULT, "^1", {"0.9.0", "1.2.0", "1.10.0", "1.9.0", "2.0.0", ""}, 2, 1},
-    {CARGO, DEFAULT, "^1", {"1.2.0+b", "1.2.0+a", "1.2.0", ""}, 0, 0},
-    {CARGO, DEFAULT, "^1", {"0.1.0", "1.2.0+b", "1.2.0+z", "1.1.0+b", "1.1.0", ""}, 1, 3},
-    {CARGO, DEFAULT, "^1", {"v1.5.0", "1.2", "1.2.0", "x", "1.3.0 ", ""}, 2, 2},
-    {CARGO, DEFAULT, "^1", {"0.9.0", "2.0.0", "v1.0.0", ""}, 3, 3},
-    {CARGO, DEFAULT, "^1", {""}, 0, 0},
-    {NPM, DEFAULT, "^1", {"v1.5.0", "1.2", "1.2.0", " 1.5.0", ""}, 0, 2},
+    {CARGO, BY_DIALECT, "^1", {"0.9.0", "1.2.0", "1.10.0", "1.9.0", "2.0.0", ""}, 2, 1},
+    {CARGO, BY_DIALECT, "^1", {"1.2.0+b", "1.2.0+a", "1.2.0", ""}, 0, 0},
+    {CARGO, BY_DIALECT, "^1", {"0.1.0", "1.2.0+b", "1.2.0+z", "1.1.0+b", "1.1.0", ""}, 1, 3},
+    {CARGO, BY_DIALECT, "^1", {"v1.5.0", "1.2", "1.2.0", "x", "1.3.0 ", ""}, 2, 2},
+    {CARGO, BY_DIALECT, "^1", {"0.9.0", "2.0.0", "v1.0.0", ""}, 3, 3},
+    {CARGO, BY_DIALECT, "^1", {""}, 0, 0},
+    {NPM, BY_DIALECT, "^1", {"v1.5.0", "1.2", "1.2.0", " 1.5.0", ""}, 0, 2},
     {NPM, INCLUDED, ">=1.0.0-0", {"1.0.0-rc.1", "1.0.0", "1.0.0-alpha", ""}, 1, 2},
-    {NPM, DEFAULT, ">=1.0.0-0", {"1.0.0-rc.1", "1.0.1-rc.1", "1.0.0-alpha.1", ""}, 0, 2},
+    {NPM, BY_DIALECT, ">=1.0.0-0", {"1.0.0-rc.1", "1.0.1-rc.1", "1.0.0-alpha.1", ""}, 0, 2},
     {NPM, EXCLUDED, ">=1.0.0-0", {"1.0.0-rc.1", "1.0.0-alpha.1", ""}, 2, 2},
     {CRATE_NPM, INCLUDED, "*", {"1.0.0-2", "1.0.0-01", "1.0.0-10", ""}, 1, 0},
     {CRATE_CARGO, INCLUDED, ">2 <1", {"1.0.0", "3.0.0", ""}, 2, 2},
@@ -379,7 +379,7 @@ static void highest_and_lowest(void) {
 /* More versions than are compared at once, with an invalid one at an index, or with none. The
  * highest is at `last`, and the lowest is after it. */
 static void many_versions(size_t count, size_t invalid) {
-    semver_parser_range *set = made_of("*", CARGO, DEFAULT);
+    semver_parser_range *set = made_of("*", CARGO, BY_DIALECT);
     semver_parser_string *list = (semver_parser_string *)malloc(count * sizeof *list);
     size_t index = 77;
     semver_parser_error error;

@@ -37,7 +37,7 @@ static bool use_error(const semver_parser_error *error) {
            && strcmp(semver_parser_reason_name(error->reason), "leading-zero") == 0
            && strlen(semver_parser_reason_text(error->reason)) > 0
            && strcmp(semver_parser_dialect_name(npm.dialect), "npm") == 0
-           && strcmp(semver_parser_pre_releases_name(npm.pre_releases), "default") == 0;
+           && strcmp(semver_parser_pre_releases_name(npm.pre_releases), "by-dialect") == 0;
 }
 
 static bool use_versions(void) {

@@ -87,14 +87,6 @@ impl<'text> Terms<'text> {
     /// The errors of `check_range`, without a string: `NotARange` if and only if the string isn't a
     /// range in the dialect, and `NumberTooLarge` if and only if it is a range, but one of its
     /// numbers, or a bound that is raised by one, is above the dialect's limit.
-    ///
-    /// ```
-    /// use semver_parser::{Dialect, RangeError, Terms};
-    ///
-    /// assert_eq!(Terms::try_parse(">=1.2, <2", Dialect::Cargo)?.count(), 2);
-    /// assert_eq!(Terms::try_parse("1 || 2", Dialect::Cargo).err(), Some(RangeError::NotARange));
-    /// # Ok::<(), RangeError>(())
-    /// ```
     pub fn try_parse(range: &'text str, dialect: Dialect) -> Result<Terms<'text>, RangeError>
         // `NotARange` and `NumberTooLarge` are returned for exactly the strings for which they are
         // defined.

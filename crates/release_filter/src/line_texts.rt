@@ -13,19 +13,6 @@ ghost use Rattle.release_filter.specs.Steps.Taking.{IsCut, closing};
 use std::alloc::AllocError;
 
 /// What ends a line.
-///
-/// ```
-/// use semver_parser::filters::{LineEnd, LineOptions, Lines};
-/// use semver_parser::{Dialect, VersionRange};
-///
-/// let range = VersionRange::parse("^1", Dialect::Npm)?;
-/// let options = LineOptions { ending: LineEnd::ZeroByte, ..LineOptions::new() };
-/// let mut lines = Lines::new(range, vec![], options);
-/// let mut kept = Vec::new();
-/// lines.push(b"1.4.0\x002.0.0\x00", &mut kept).unwrap();
-/// assert_eq!(kept, b"1.4.0\x00");
-/// # Ok::<(), semver_parser::Error>(())
-/// ```
 #[derive(Clone, Copy, Debug, PartialEq, Eq)]
 pub enum LineEnd {
     /// A line feed. A carriage return before it isn't part of the line's text.
@@ -38,13 +25,6 @@ pub enum LineEnd {
 impl LineEnd {
     // Determined by: equation.
     /// Returns the byte that ends a line.
-    ///
-    /// ```
-    /// use semver_parser::filters::LineEnd;
-    ///
-    /// assert_eq!(LineEnd::LineFeed.byte(), b'\n');
-    /// assert_eq!(LineEnd::ZeroByte.byte(), 0);
-    /// ```
     #[inline(always)]
     pub fn byte(self) -> u8
         ensures { result ≡ end_byte self }

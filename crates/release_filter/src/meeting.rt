@@ -44,17 +44,6 @@ pub fn release_meets(set: &RangeSet, version: &Version) -> bool
 /// A pre-release needs no comparator with its own numbers: `2.0.0-alpha` satisfies `>=1.0.0`, and
 /// also `<2.0.0`. No version satisfies a set without ranges, and every version satisfies a range
 /// without comparators. It does not allocate.
-///
-/// ```
-/// use semver_parser::filters::version_meets;
-/// use semver_parser::{version, Compat, RangeSet};
-///
-/// let set = RangeSet::parse(">=1.0.0-beta.2 <1.0.0", Compat::Npm)?;
-/// assert!(version_meets(&set, &version::parse("1.0.0-beta.11")?));
-/// assert!(!version_meets(&set, &version::parse("1.0.0-alpha")?));
-/// assert!(!version_meets(&set, &version::parse("1.0.0")?));
-/// # Ok::<(), String>(())
-/// ```
 pub fn version_meets(set: &RangeSet, version: &Version) -> bool
     ensures meets { result ≡ meets_set (version_value version.now).plain (set_of set.now) }
 {

@@ -23,20 +23,6 @@ use std::alloc::{AllocError, Global};
 use std::cmp::Ordering;
 
 /// Which of the kept lines are wanted.
-///
-/// ```
-/// use semver_parser::filters::{LineOptions, Lines, Selection};
-/// use semver_parser::{Dialect, VersionRange};
-///
-/// let range = VersionRange::parse("^1", Dialect::Npm)?;
-/// let options = LineOptions { selection: Selection::Highest, ..LineOptions::new() };
-/// let mut lines = Lines::new(range, vec![], options);
-/// let mut kept = Vec::new();
-/// lines.push(b"1.4.0\n1.9.2\n2.0.0\n1.5.0\n", &mut kept).unwrap();
-/// lines.finish(&mut kept).unwrap();
-/// assert_eq!(kept, b"1.9.2\n");
-/// # Ok::<(), semver_parser::Error>(())
-/// ```
 #[derive(Clone, Copy, Debug, PartialEq, Eq)]
 pub enum Selection {
     /// Every kept line, as soon as it has ended.

@@ -18,7 +18,7 @@ use std::alloc::Global;
 
 // Determined by: law result_laws::versions::one_version_parse.
 /// Reads a version string. Printed, the version is the string without the white space around it,
-/// and reading what was printed gives the same version. It is the version that [`read`] returns,
+/// and reading what was printed gives the same version. It is the version that `read` returns,
 /// except that an invalid string gives an error.
 ///
 /// # Errors
@@ -84,14 +84,6 @@ pub fn parse(alloc: Global, input: &str) -> Result<Version, parser::Error<'_>>
 // Determined by: law result_laws::versions::one_parse_by_tokens.
 /// Returns the result or the error of [`parse`], using only the tokens. It takes less time for an
 /// invalid version, if [`read_ref`] has shown that it is one.
-///
-/// ```
-/// use semver_parser::parser::Error;
-/// use semver_parser::version;
-///
-/// assert_eq!(version::parse_by_tokens("1.2"), Err(Error::UnexpectedEnd));
-/// assert_eq!(version::parse_by_tokens("1.2.3"), version::parse("1.2.3"));
-/// ```
 #[inline(never)]
 pub fn parse_by_tokens(alloc: Global, input: &str) -> Result<Version, parser::Error<'_>>
     // Unless memory ran out, the result is the outcome of the string.

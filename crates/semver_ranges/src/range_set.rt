@@ -209,14 +209,6 @@ impl RangeSet {
     // Determined by: law result_laws::ranges::one_from_str.
     /// Reads a range string in Cargo mode. Result and errors are those of `RangeSet::parse` with
     /// `Compat::Cargo`.
-    ///
-    /// ```
-    /// use semver_parser::RangeSet;
-    ///
-    /// assert_eq!(RangeSet::try_from_str("1.2.3")?.to_string(), ">=1.2.3 <2.0.0");
-    /// assert_eq!(RangeSet::try_from_str("1.2")?.to_string(), ">=1.2.0 <1.3.0");
-    /// # Ok::<(), semver_parser::RangeError>(())
-    /// ```
     pub fn from_str(alloc: Global, input: &str) -> Result<RangeSet, RangeError>
         ensures parsed { IsParsed Compat.Cargo input.now result }
     {

@@ -45,18 +45,6 @@ pub trait Identifiers<'a>: Copy {
 /// pre-release is above each version with one, and two pre-releases are compared by the first
 /// identifiers that differ: numbers numerically, strings by their bytes, and a number is below any
 /// string. If no identifiers differ, the pre-release with more identifiers is above the other.
-///
-/// ```
-/// use semver_parser::version;
-///
-/// let read = |text| version::parse(text).unwrap();
-/// let compare = |a, b| version::cmp_precedence(&read(a), &read(b));
-/// let pre_releases = ["1.0.0-alpha", "1.0.0-alpha.1", "1.0.0-alpha.beta", "1.0.0-beta.2"];
-/// assert!(pre_releases.windows(2).all(|pair| compare(pair[0], pair[1]).is_lt()));
-/// assert!(compare("1.0.0-beta.2", "1.0.0-beta.11").is_lt());
-/// assert!(compare("1.0.0-beta.11", "1.0.0").is_lt() && compare("1.0.0", "1.0.1").is_lt());
-/// assert!(compare("1.0.0+a", "1.0.0+b").is_eq());
-/// ```
 #[must_use]
 pub fn cmp_precedence(version: &Version, other: &Version) -> Ordering
     ensures { result ≡ precedence (version_value version.now).plain

@@ -102,13 +102,6 @@ impl<'input> Error<'input> {
     /// into a `String`.
     ///
     /// `Err` means out of memory; the error itself isn't changed.
-    ///
-    /// ```
-    /// use semver_parser::parser::Error;
-    ///
-    /// assert_eq!(Error::UnexpectedEnd.text()?, "expected more input");
-    /// # Ok::<(), semver_parser::AllocError>(())
-    /// ```
     pub fn text(&self, alloc: Global) -> Result<String, AllocError>
         ensures fixed { IfOk result (λ text. IfSome (fixed_text self.now)
             (λ fixed. string_bytes text ≡ fixed)) }

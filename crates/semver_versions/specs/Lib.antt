@@ -1,4 +1,5 @@
 pub mod AnyLength
 pub mod VersionRefs
+pub mod VersionOrder
 pub mod ReadVersions
 pub mod Steps

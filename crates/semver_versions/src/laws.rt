@@ -1,11 +1,14 @@
 //! Laws over the definitions: each is the contract of a function that does nothing.
 ghost use Rattle.std.specs.Prelude.{◌≡◌, ◌↔◌, ◌<◌, ◌^◌};
+ghost use Rattle.std.specs.Cmp.{IsTotalOrder};
+ghost use Rattle.std.specs.declared.cmp.Ordering.TheVariants.{Equal};
 ghost use Rattle.semver_texts.specs.Texts.{Text};
 ghost use Rattle.semver_texts.specs.Versions.{VersionValue};
 ghost use Rattle.semver_texts.specs.ToolVersions.{SpellsIn};
 ghost use Rattle.semver_texts.specs.VersionGrammar.{SpellsVersion};
 ghost use Rattle.semver_texts.specs.declared.grammar.Grammar.{Grammar};
 ghost use Rattle.semver_texts.specs.declared.grammar.Grammar.TheVariants.{Crate};
+ghost use Rattle.semver_versions.specs.VersionOrder.{HaveSameParts, order};
 ghost use Rattle.semver_versions.specs.VersionRefs.{IsVersionRefIn, IsVersionRefOf};
 ghost use Rattle.semver_versions.specs.VersionRefs.{VersionRefValue, version_of};
 
@@ -40,3 +43,10 @@ pub fn numbers_of_refs_fit(version: &VersionRef<'_>)
 {
     let _ = (version.major, version.minor, version.patch);
 }
+
+/// The order of borrowed versions is total, and two of them are equal in it if and only if they have
+/// the same numbers, pre-release and build metadata.
+pub fn order_is_total()
+    ensures total { IsTotalOrder order }
+    ensures same { (a b : VersionRefValue) → (order a b ≡ Equal) ↔ HaveSameParts a b }
+{}

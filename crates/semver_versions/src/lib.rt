@@ -8,4 +8,5 @@ pub mod laws;
 pub mod read_version;
 mod reader;
 pub mod version;
+mod version_order;
 mod version_ref;

@@ -20,6 +20,7 @@ ghost use Rattle.semver_versions.specs.VersionRefs.{IsVersionRefIn, IsVersionRef
 ghost use Rattle.semver_versions.specs.VersionRefs.{VersionRefValue, StandsAt, version_of};
 
 use crate::reader;
+pub use crate::version_order::compare_by;
 pub use crate::version_ref::VersionRef;
 pub use semver_texts::grammar::{Digits, Grammar};
 pub use semver_texts::precedence::cmp_precedence;
@@ -34,16 +35,6 @@ use std::alloc::{AllocError, Global};
 /// pre-release or build metadata. Nothing is allocated before the whole string is known to spell a
 /// version. Then the lists of identifiers are allocated, and each identifier that isn't a number.
 /// For an invalid version nothing is allocated, however long the string is.
-///
-/// ```
-/// use semver_parser::version;
-///
-/// let version = version::read(" 1.2.3-rc.4\n")?.unwrap();
-/// assert_eq!(version.to_string(), "1.2.3-rc.4");
-/// assert_eq!(version::read("1.2")?, None);
-/// assert_eq!(version::read("1.2.3 a")?, None);
-/// # Ok::<(), semver_parser::AllocError>(())
-/// ```
 #[inline(always)]
 pub fn read(alloc: Global, input: &str) -> Result<Option<Version>, AllocError>
     // Unless memory ran out, the result is a version if and only if the string spells it.
@@ -67,14 +58,6 @@ pub fn read(alloc: Global, input: &str) -> Result<Option<Version>, AllocError>
 ///
 /// The bytes aren't checked for UTF-8, since each byte of a version is ASCII. So for lines of a
 /// file this is faster than such a check followed by [`read`].
-///
-/// ```
-/// use semver_parser::version;
-///
-/// assert_eq!(version::read_bytes(b"1.2.3-rc.4")?, version::read("1.2.3-rc.4")?);
-/// assert_eq!(version::read_bytes(b"1.2.3\xff")?, None);
-/// # Ok::<(), semver_parser::AllocError>(())
-/// ```
 #[inline(always)]
 pub fn read_bytes(alloc: Global, input: &[u8]) -> Result<Option<Version>, AllocError>
     // Unless memory ran out, the result is a version if and only if the bytes spell it.
@@ -96,15 +79,6 @@ pub fn read_bytes(alloc: Global, input: &[u8]) -> Result<Option<Version>, AllocE
 /// Returns the version that the string spells as a borrowed version, or `None` if it spells none.
 ///
 /// It does not allocate: its parts are slices of the input.
-///
-/// ```
-/// use semver_parser::version;
-///
-/// let borrowed = version::read_ref(" 1.2.3-rc.4+b5\n").unwrap();
-/// assert_eq!((borrowed.pre(), borrowed.pre_offset()), ("rc.4", 7));
-/// assert_eq!((borrowed.build(), borrowed.build_offset()), ("b5", 12));
-/// assert!(version::read_ref("1.2").is_none() && version::read_ref("1.2.3 a").is_none());
-/// ```
 #[must_use]
 #[inline(always)]
 pub fn read_ref(input: &str) -> Option<VersionRef<'_>>
@@ -130,13 +104,6 @@ pub fn read_ref(input: &str) -> Option<VersionRef<'_>>
 // Determined by: law result_laws::versions::one_read_ref_bytes.
 /// Returns the result of [`read_ref`] for bytes that needn't be UTF-8. Bytes that aren't UTF-8 give
 /// `None`, without a separate check. It does not allocate.
-///
-/// ```
-/// use semver_parser::version;
-///
-/// assert_eq!(version::read_ref_bytes(b"1.2.3-rc.4").unwrap().pre(), "rc.4");
-/// assert!(version::read_ref_bytes(b"1.2.3\xff").is_none());
-/// ```
 #[must_use]
 #[inline(always)]
 pub fn read_ref_bytes(input: &[u8]) -> Option<VersionRef<'_>>
@@ -163,17 +130,6 @@ pub fn read_ref_bytes(input: &[u8]) -> Option<VersionRef<'_>>
 ///
 /// The bytes needn't be UTF-8, and it does not allocate. The pages `docs::grammar` and
 /// `docs::original_crate` have the grammars.
-///
-/// ```
-/// use semver_parser::version::{self, Grammar};
-///
-/// for grammar in [Grammar::Cargo, Grammar::Npm] {
-///     assert!(version::read_ref_in(b"1.0.0-a--b", grammar).is_some());
-///     assert!(version::read_ref_in(b"1.0.0-01", grammar).is_none());
-/// }
-/// assert!(version::read_ref_in(b" v1.2.3", Grammar::Npm).is_some());
-/// assert!(version::read_ref_in(b" v1.2.3", Grammar::Cargo).is_none());
-/// ```
 #[must_use]
 #[inline(always)]
 pub fn read_ref_in(input: &[u8], grammar: Grammar) -> Option<VersionRef<'_>>

@@ -34,7 +34,7 @@ use std::marker::Model;
 /// assert_eq!((version.pre(), version.build()), ("rc.4", "5aedf"));
 /// # Ok::<(), semver_parser::Error>(())
 /// ```
-#[derive(Debug, Drop)]
+#[derive(Drop)]
 pub struct VersionRef<'t> {
     pub(crate) major: u64,
     pub(crate) minor: u64,
@@ -69,14 +69,6 @@ impl<'t> Model for VersionRef<'t> {
 impl<'t> VersionRef<'t> {
     // Determined by: equation.
     /// Returns the borrowed version 0.0.0.
-    ///
-    /// ```
-    /// use semver_parser::{Dialect, VersionRef};
-    ///
-    /// let zero = VersionRef::parse("0.0.0", Dialect::Npm)?;
-    /// assert!(VersionRef::zero().compare(&zero).is_eq());
-    /// # Ok::<(), semver_parser::Error>(())
-    /// ```
     #[must_use]
     pub fn zero() -> VersionRef<'t>
         ensures { result ≡ record {
@@ -226,14 +218,6 @@ impl<'t> VersionRef<'t> {
     // Determined by: equation.
     /// Returns the byte offset of the pre-release's identifiers in the string that was read, or 0
     /// if there is no pre-release.
-    ///
-    /// ```
-    /// use semver_parser::{Dialect, VersionRef};
-    ///
-    /// assert_eq!(VersionRef::parse(" v1.2.3-rc.4", Dialect::Npm)?.pre_offset(), 8);
-    /// assert_eq!(VersionRef::parse(" v1.2.3", Dialect::Npm)?.pre_offset(), 0);
-    /// # Ok::<(), semver_parser::Error>(())
-    /// ```
     #[must_use]
     #[inline(always)]
     pub fn pre_offset(&self) -> usize
@@ -245,14 +229,6 @@ impl<'t> VersionRef<'t> {
     // Determined by: equation.
     /// Returns the byte offset of the build metadata's identifiers in the string that was read, or
     /// 0 if there is no build metadata.
-    ///
-    /// ```
-    /// use semver_parser::{Dialect, VersionRef};
-    ///
-    /// assert_eq!(VersionRef::parse("1.2.3-rc.4+5aedf", Dialect::Npm)?.build_offset(), 11);
-    /// assert_eq!(VersionRef::parse("1.2.3-rc.4", Dialect::Npm)?.build_offset(), 0);
-    /// # Ok::<(), semver_parser::Error>(())
-    /// ```
     #[must_use]
     #[inline(always)]
     pub fn build_offset(&self) -> usize
@@ -264,14 +240,6 @@ impl<'t> VersionRef<'t> {
     // Determined by: equation.
     /// Returns how a numeric identifier above 2^64 - 1 is read, in the dialect in which the string
     /// was read: as a string, which is what `semver-parser` does, or as a number.
-    ///
-    /// ```
-    /// use semver_parser::{Dialect, VersionRef};
-    ///
-    /// let version = VersionRef::parse("1.2.3", Dialect::Npm)?;
-    /// assert_eq!(version.digits(), Dialect::Npm.grammar().digits());
-    /// # Ok::<(), semver_parser::Error>(())
-    /// ```
     #[must_use]
     #[inline(always)]
     pub fn digits(&self) -> Digits
@@ -282,14 +250,6 @@ impl<'t> VersionRef<'t> {
 
     // Determined by: equation.
     /// Returns the same version, whose numeric identifiers are read as `digits` says.
-    ///
-    /// ```
-    /// use semver_parser::{Dialect, Digits, VersionRef};
-    ///
-    /// let version = VersionRef::parse("1.2.3", Dialect::Npm)?;
-    /// assert_eq!(version.read_by(Digits::Kept).digits(), Digits::Kept);
-    /// # Ok::<(), semver_parser::Error>(())
-    /// ```
     #[must_use]
     #[inline(always)]
     pub fn read_by(&self, digits: Digits) -> VersionRef<'t>
@@ -338,16 +298,6 @@ impl<'t> VersionRef<'t> {
     ///
     /// If there are identifiers, it allocates their list, and each identifier that isn't a number.
     /// `Err` means out of memory.
-    ///
-    /// ```
-    /// use semver_parser::version::Identifier;
-    /// use semver_parser::{Dialect, VersionRef};
-    ///
-    /// let version = VersionRef::parse("1.2.3-rc.4+5aedf", Dialect::Npm)?;
-    /// let wanted = [Identifier::AlphaNumeric("rc".to_string()), Identifier::Numeric(4)];
-    /// assert_eq!(version.pre_identifiers().unwrap(), wanted);
-    /// # Ok::<(), semver_parser::Error>(())
-    /// ```
     #[inline(always)]
     pub fn pre_identifiers(&self, alloc: Global) -> Result<Vec<Identifier>, AllocError>
         // They are those of each version string that has this borrowed version.
@@ -368,16 +318,6 @@ impl<'t> VersionRef<'t> {
     // Determined by: equation.
     /// Returns the identifiers of the build metadata. It allocates like
     /// [`VersionRef::pre_identifiers`].
-    ///
-    /// ```
-    /// use semver_parser::version::Identifier;
-    /// use semver_parser::{Dialect, VersionRef};
-    ///
-    /// let version = VersionRef::parse("1.2.3-rc.4+5aedf", Dialect::Npm)?;
-    /// let wanted = [Identifier::AlphaNumeric("5aedf".to_string())];
-    /// assert_eq!(version.build_identifiers().unwrap(), wanted);
-    /// # Ok::<(), semver_parser::Error>(())
-    /// ```
     #[inline(always)]
     pub fn build_identifiers(&self, alloc: Global) -> Result<Vec<Identifier>, AllocError>
         // They are those of each version string that has this borrowed version.
@@ -400,14 +340,6 @@ impl<'t> VersionRef<'t> {
     ///
     /// If there is a pre-release or build metadata, it allocates the lists of identifiers, and each
     /// identifier that isn't a number. `Err` means out of memory.
-    ///
-    /// ```
-    /// use semver_parser::{version, Dialect, VersionRef};
-    ///
-    /// let owned = VersionRef::parse("v1.2.3-rc.4+5aedf", Dialect::Npm)?.version().unwrap();
-    /// assert_eq!(owned, version::parse("1.2.3-rc.4+5aedf").unwrap());
-    /// # Ok::<(), semver_parser::Error>(())
-    /// ```
     #[inline(always)]
     pub fn version(&self, alloc: Global) -> Result<Version, AllocError>
         // Each string that has this borrowed version spells the result.
@@ -454,19 +386,9 @@ impl<'t> VersionRef<'t> {
     /// Compares this borrowed version with a version by precedence (SemVer 2.0.0, section 11), like
     /// `version::cmp_precedence`. Build metadata is ignored. Numeric identifiers on both sides are
     /// read as in the borrowed version's dialect. It does not allocate.
-    ///
-    /// ```
-    /// use semver_parser::version::Version;
-    /// use semver_parser::{Dialect, VersionRef};
-    ///
-    /// let version = VersionRef::parse("1.2.3-rc.4+5aedf", Dialect::Npm)?;
-    /// let later: Version = "1.2.3-rc.11".parse()?;
-    /// assert!(version.cmp_precedence(&later).is_lt());
-    /// # Ok::<(), semver_parser::Error>(())
-    /// ```
     #[must_use]
     #[inline(always)]
-    pub fn cmp_precedence(&self, version: &Version) -> Ordering
+    pub fn compare_with(&self, version: &Version) -> Ordering
         // The result is that for the version of each string that has this borrowed version.
         ensures precedence { (text : Text) (v : VersionValue) → IsVersionRefOf text self.now
             → SpellsVersion v text
@@ -486,15 +408,6 @@ impl<'t> VersionRef<'t> {
     // Determined by: equation.
     /// Compares two borrowed versions by precedence (SemVer 2.0.0, section 11). Build metadata is
     /// ignored. Numeric identifiers are read in the dialect of each. It does not allocate.
-    ///
-    /// ```
-    /// use semver_parser::{Dialect, VersionRef};
-    ///
-    /// let version = VersionRef::parse("1.2.3-rc.4+5aedf", Dialect::Npm)?;
-    /// assert!(version.compare(&VersionRef::parse("1.2.3-rc.11", Dialect::Npm)?).is_lt());
-    /// assert!(version.compare(&VersionRef::parse("v1.2.3-rc.4", Dialect::Npm)?).is_eq());
-    /// # Ok::<(), semver_parser::Error>(())
-    /// ```
     #[must_use]
     #[inline(always)]
     pub fn compare(&self, other: &VersionRef<'_>) -> Ordering

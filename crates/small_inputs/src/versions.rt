@@ -196,7 +196,7 @@ pub fn add_compared(alloc: Global, bytes: &[u8], sum: &mut Checksum) -> io::Resu
         let read = borrowed.version(alloc)?;
         for other in OTHERS {
             if let Some(version) = version::read(alloc, other)? {
-                add_order(borrowed.cmp_precedence(&version), sum);
+                add_order(borrowed.compare_with(&version), sum);
                 add_order(version::cmp_precedence(&read, &version), sum);
                 add_order(read.cmp(&version), sum);
             }

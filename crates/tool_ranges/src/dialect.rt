@@ -44,14 +44,6 @@ impl Dialect {
     // Determined by: equation.
     /// Returns the grammar of versions in this dialect. Both dialects of the crate have the crate's
     /// grammar.
-    ///
-    /// ```
-    /// use semver_parser::version::Grammar;
-    /// use semver_parser::Dialect;
-    ///
-    /// assert!(matches!(Dialect::Npm.grammar(), Grammar::Npm));
-    /// assert!(matches!(Dialect::CrateNpm.grammar(), Grammar::Crate));
-    /// ```
     #[must_use]
     pub fn grammar(self) -> Grammar
         ensures grammar { result ≡ grammar_of self }
@@ -65,12 +57,6 @@ impl Dialect {
 
     // Determined by: equation.
     /// Returns the number of the dialect in C, Python and JavaScript.
-    ///
-    /// ```
-    /// use semver_parser::Dialect;
-    ///
-    /// assert_eq!(Dialect::Npm.number(), 1);
-    /// ```
     #[must_use]
     pub fn number(self) -> i32
         ensures { result ≡ number_of self }
@@ -85,13 +71,6 @@ impl Dialect {
 
     // Determined by: law tool_ranges::laws::one_dialect_of_number.
     /// Returns the dialect with a number, or `None` if no dialect has it.
-    ///
-    /// ```
-    /// use semver_parser::Dialect;
-    ///
-    /// assert_eq!(Dialect::from_number(1), Some(Dialect::Npm));
-    /// assert_eq!(Dialect::from_number(9), None);
-    /// ```
     #[must_use]
     pub fn from_number(number: i32) -> Option<Dialect>
         ensures { MatchOption result (¬ ((it : SomeDialect) × (number ≡ number_of it)))

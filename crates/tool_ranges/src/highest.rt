@@ -17,16 +17,6 @@ use semver_versions::laws;
 use semver_versions::version::{VersionRef, read_ref_in};
 
 /// Which of many versions is wanted.
-///
-/// ```
-/// use semver_parser::{Dialect, Extreme, VersionRange};
-///
-/// let range = VersionRange::parse("^1.2", Dialect::Npm)?;
-/// let versions: [&[u8]; 4] = [b"1.2.0", b"latest", b"1.10.0", b"2.0.0"];
-/// assert_eq!(range.extreme_index(Extreme::Highest, &versions), Some(2));
-/// assert_eq!(range.extreme_index(Extreme::Lowest, &versions), Some(0));
-/// # Ok::<(), semver_parser::Error>(())
-/// ```
 #[derive(Clone, Copy, PartialEq, Eq, Debug)]
 pub enum Extreme {
     /// The highest version by precedence (SemVer 2.0.0, section 11).
@@ -41,16 +31,6 @@ impl VersionRange {
     /// contains, or `None` if it contains none of them. Versions are compared by precedence (SemVer
     /// 2.0.0, section 11), and the first of equal versions is chosen. Strings that are invalid
     /// versions in the range's dialect are skipped. It does not allocate.
-    ///
-    /// ```
-    /// use semver_parser::{Dialect, Extreme, VersionRange};
-    ///
-    /// let range = VersionRange::parse("^1.2", Dialect::Npm)?;
-    /// let versions: [&[u8]; 4] = [b"1.2.0", b"latest", b"1.10.0", b"2.0.0"];
-    /// assert_eq!(range.extreme_index(Extreme::Highest, &versions), Some(2));
-    /// assert_eq!(range.extreme_index(Extreme::Lowest, &versions), Some(0));
-    /// # Ok::<(), semver_parser::Error>(())
-    /// ```
     #[must_use]
     pub fn extreme_index(&self, which: Extreme, versions: &[&[u8]]) -> Option<usize>
         ensures { FindsExtreme which (versions_grammar self.now) self.now.versions versions.now

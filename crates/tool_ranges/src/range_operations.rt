@@ -18,16 +18,6 @@ impl VersionRange {
     ///
     /// `DifferentMeanings` if the ranges differ in their dialects, or in which pre-releases count;
     /// `OutOfMemory` if an allocation failed.
-    ///
-    /// ```
-    /// use semver_parser::{Combination, Dialect, VersionRange};
-    ///
-    /// let range = VersionRange::parse(">=1.0.0 <1.5.0", Dialect::Npm)?;
-    /// let other = VersionRange::parse(">=1.2.0 <2.0.0", Dialect::Npm)?;
-    /// let both = range.combined(Combination::Intersection, &other).unwrap();
-    /// assert_eq!(both.to_string(), ">=1.2.0 <1.5.0");
-    /// # Ok::<(), semver_parser::Error>(())
-    /// ```
     pub fn combined(
         &self,
         alloc: Global,
@@ -66,19 +56,6 @@ impl VersionRange {
     /// Only `DifferentDigits`, if one range is in a dialect of the crate `semver-parser` and the
     /// other in Cargo's or npm's: a version with a numeric identifier above 2^64 - 1 isn't the same
     /// to both.
-    ///
-    /// ```
-    /// use semver_parser::{Dialect, OperationError, VersionRange};
-    ///
-    /// let cargo = VersionRange::parse("1.2", Dialect::Cargo)?;
-    /// let npm = VersionRange::parse("1.2", Dialect::Npm)?;
-    /// assert_eq!(npm.is_subset(&cargo), Ok(true));
-    /// assert_eq!(cargo.is_subset(&npm), Ok(false));
-    ///
-    /// let kept = VersionRange::parse("1.2", Dialect::CrateNpm)?;
-    /// assert_eq!(npm.is_subset(&kept), Err(OperationError::DifferentDigits));
-    /// # Ok::<(), semver_parser::Error>(())
-    /// ```
     pub fn is_subset(&self, other: &VersionRange) -> Result<bool, OperationError>
         ensures refused { (result ≡ Err OperationError.DifferentDigits)
             ↔ (self.now.versions.digits ≢ other.now.versions.digits) }

@@ -8,14 +8,6 @@ use semver_versions::version::read_ref_in;
 use thiserror::Error;
 
 /// Whether the version or the range is invalid.
-///
-/// ```
-/// use semver_parser::layers::satisfies;
-/// use semver_parser::Dialect;
-///
-/// let error = satisfies(b"1.2.3", "1.2 || 3", Dialect::Cargo.into()).unwrap_err();
-/// assert_eq!(error.to_string(), "invalid range: not a range");
-/// ```
 #[derive(Clone, Copy, PartialEq, Eq, Debug, Error)]
 pub enum SatisfiesError {
     /// The version is invalid in the dialect.

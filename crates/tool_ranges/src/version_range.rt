@@ -69,15 +69,6 @@ impl VersionRange {
     ///   one, is above 2^64 - 1, or above 2^53 - 1 in npm's dialect.
     /// - `OutOfMemory` if an allocation failed. The first two errors are returned without
     ///   allocating.
-    ///
-    /// ```
-    /// use semver_parser::{Dialect, Meaning, PreReleases, VersionRange};
-    ///
-    /// let meaning = Meaning { dialect: Dialect::Npm, pre_releases: PreReleases::Included };
-    /// let range = VersionRange::try_parse("^1.2", meaning)?;
-    /// assert_eq!(range.contains("1.3.0-rc.1"), Ok(true));
-    /// # Ok::<(), semver_parser::RangeError>(())
-    /// ```
     pub fn parse(alloc: Global, range: &str, meaning: Meaning) -> Result<VersionRange, RangeError>
         // `NotARange` and `NumberTooLarge` are returned for exactly the strings for which they are
         // defined.
@@ -99,14 +90,6 @@ impl VersionRange {
     /// 2^53 - 1, so the lowest one in `>1.2.9007199254740991` is 1.3.0.
     ///
     /// It allocates only if the result is a pre-release. `Err` means out of memory.
-    ///
-    /// ```
-    /// use semver_parser::{Dialect, VersionRange};
-    ///
-    /// let range = VersionRange::parse(">1.2.9007199254740991", Dialect::Npm)?;
-    /// assert_eq!(range.try_lowest_version().unwrap().unwrap().to_string(), "1.3.0");
-    /// # Ok::<(), semver_parser::Error>(())
-    /// ```
     pub fn lowest_version(&self, alloc: Global) -> Result<Option<Version>, AllocError>
         // A `Version` keeps a number of 2^64 or more as a string.
         ensures lowest { IfOk result (λ lowest. IfSome lowest (λ version. (v : PlainVersion)
@@ -131,20 +114,6 @@ impl VersionRange {
     /// # Errors
     ///
     /// Only `DifferentDigits`, if the set reads numeric identifiers differently than the dialect.
-    ///
-    /// ```
-    /// use semver_parser::sets::VersionSet;
-    /// use semver_parser::{Dialect, Digits, OperationError, VersionRange};
-    ///
-    /// let none = VersionSet::empty(Digits::AnySize);
-    /// let range = VersionRange::from_versions(none, Dialect::Npm.into()).unwrap();
-    /// assert!(range == VersionRange::parse(">1 <1", Dialect::Npm)?);
-    ///
-    /// let kept = VersionSet::empty(Digits::Kept);
-    /// let refused = VersionRange::from_versions(kept, Dialect::Npm.into());
-    /// assert_eq!(refused.unwrap_err(), OperationError::DifferentDigits);
-    /// # Ok::<(), semver_parser::Error>(())
-    /// ```
     pub fn from_versions(
         versions: VersionSet,
         meaning: Meaning,
@@ -164,14 +133,6 @@ impl VersionRange {
 
     // Determined by: equation.
     /// Returns the meaning of the range: its dialect, and which pre-releases count.
-    ///
-    /// ```
-    /// use semver_parser::{Dialect, PreReleases, VersionRange};
-    ///
-    /// let meaning = VersionRange::parse("^1.2", Dialect::Npm)?.meaning();
-    /// assert_eq!((meaning.dialect, meaning.pre_releases), (Dialect::Npm, PreReleases::Default));
-    /// # Ok::<(), semver_parser::Error>(())
-    /// ```
     #[must_use]
     #[inline(always)]
     pub fn meaning(&self) -> Meaning
@@ -182,14 +143,6 @@ impl VersionRange {
 
     // Determined by: equation.
     /// Returns the set of the versions that the range contains.
-    ///
-    /// ```
-    /// use semver_parser::{Dialect, VersionRange};
-    ///
-    /// let range = VersionRange::parse(">1.2", Dialect::Npm)?;
-    /// assert_eq!(range.versions().release_ranges()?.to_string(), ">=1.3.0");
-    /// # Ok::<(), semver_parser::Error>(())
-    /// ```
     #[must_use]
     #[inline(always)]
     pub fn versions(&self) -> &VersionSet
@@ -206,15 +159,6 @@ impl VersionRange {
     /// # Errors
     ///
     /// `InvalidVersion` if the version is invalid in the dialect.
-    ///
-    /// ```
-    /// use semver_parser::{Dialect, SatisfiesError, VersionRange};
-    ///
-    /// let range = VersionRange::parse("^1.2", Dialect::Npm)?;
-    /// assert_eq!(range.try_contains_bytes(b"v1.9.0+b5"), Ok(true));
-    /// assert_eq!(range.try_contains_bytes(b"1.9.\xff"), Err(SatisfiesError::InvalidVersion));
-    /// # Ok::<(), semver_parser::Error>(())
-    /// ```
     #[inline(always)]
     pub fn contains_bytes(&self, version: &[u8]) -> Result<bool, SatisfiesError>
         ensures { ContainsText self.now version.now result }
@@ -228,15 +172,6 @@ impl VersionRange {
     // Determined by: equation.
     /// Returns whether the range contains a borrowed version. Its numeric identifiers are read as
     /// in the range's dialect. It does not allocate.
-    ///
-    /// ```
-    /// use semver_parser::{Dialect, VersionRange, VersionRef};
-    ///
-    /// let range = VersionRange::parse("^1.2", Dialect::Npm)?;
-    /// let version = VersionRef::parse("v1.9.0", Dialect::Npm)?;
-    /// assert!(range.contains_ref(&version));
-    /// # Ok::<(), semver_parser::Error>(())
-    /// ```
     #[must_use]
     #[inline(always)]
     pub fn contains_ref(&self, version: &VersionRef<'_>) -> bool
@@ -254,16 +189,6 @@ impl VersionRange {
     /// Returns whether the range contains a version. Build metadata is ignored. A `Version` keeps a
     /// numeric identifier above 2^64 - 1 as a string; in Cargo's and npm's dialects it is compared
     /// as a number. It does not allocate.
-    ///
-    /// ```
-    /// use semver_parser::{version, Dialect, VersionRange};
-    ///
-    /// let range = VersionRange::parse("<1.0.0-10a", Dialect::Cargo)?;
-    /// assert!(range.contains_version(&version::parse("0.9.0+b5")?));
-    /// let large = version::parse("1.0.0-18446744073709551616")?;
-    /// assert!(range.contains_version(&large)); // a number is below `10a`
-    /// # Ok::<(), String>(())
-    /// ```
     #[must_use]
     pub fn contains_version(&self, version: &Version) -> bool
         ensures { result ≡ contains_kept self.now.versions (version_value version.now).plain }

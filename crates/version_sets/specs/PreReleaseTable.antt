@@ -12,6 +12,6 @@ number_of Excluded = pos 2
 
 -- its name for programs
 abbrev pub name_of : PreReleases → Text
-name_of Default = codes "default"
+name_of Default = codes "by-dialect"
 name_of Included = codes "included"
 name_of Excluded = codes "excluded"

@@ -25,14 +25,6 @@ impl VersionSet {
     /// and only if the set is empty.
     ///
     /// It allocates only if the result is a pre-release. `Err` means out of memory.
-    ///
-    /// ```
-    /// use semver_parser::{sets, Dialect};
-    ///
-    /// let set = sets::parse(">1.0.0-rc.1 || >=2.0.0", Dialect::Npm)?;
-    /// assert_eq!(set.lowest().unwrap().unwrap().to_string(), "1.0.0-rc.1.0");
-    /// # Ok::<(), semver_parser::Error>(())
-    /// ```
     pub fn lowest(&self, alloc: Global) -> Result<Option<Version>, AllocError>
         // A `Version` keeps a number of 2^64 or more as a string.
         ensures lowest { IfOk result (λ lowest. IfSome lowest (λ version. (v : PlainVersion)
@@ -54,14 +46,6 @@ impl VersionSet {
     ///
     /// It takes time linear in the number of boundaries, and allocates only if the result is a
     /// pre-release. `Err` means out of memory.
-    ///
-    /// ```
-    /// use semver_parser::{sets, Dialect};
-    ///
-    /// let set = sets::parse(">1.2.9", Dialect::Npm)?;
-    /// assert_eq!(set.lowest_within(9).unwrap().unwrap().to_string(), "1.3.0");
-    /// # Ok::<(), semver_parser::Error>(())
-    /// ```
     pub fn lowest_within(&self, alloc: Global, most: u64) -> Result<Option<Version>, AllocError>
         // A `Version` keeps a number of 2^64 or more as a string.
         ensures lowest { IfOk result (λ lowest. IfSome lowest (λ version. (v : PlainVersion)
@@ -82,15 +66,6 @@ impl VersionSet {
     // Determined by: law result_laws::sets::one_lowest_release.
     /// Returns the lowest release in the set by precedence, or `None` if and only if the set
     /// contains no release. It does not allocate.
-    ///
-    /// ```
-    /// use semver_parser::sets::{self, Release};
-    /// use semver_parser::Dialect;
-    ///
-    /// let set = sets::parse(">1.0.0-rc.1 <1.0.0 || >=2.0.0", Dialect::Npm)?;
-    /// assert_eq!(set.lowest_release(), Some(Release { major: 2, minor: 0, patch: 0 }));
-    /// # Ok::<(), semver_parser::Error>(())
-    /// ```
     pub fn lowest_release(&self) -> Option<Release>
         ensures lowest { IfSome result (λ release.
             IsLowest IsRelease self.now (release_value release)) }

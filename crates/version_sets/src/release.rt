@@ -14,13 +14,6 @@ use semver_versions::version::Version;
 use std::alloc::Global;
 
 /// A release: the three numbers of a version. Its derived order is precedence.
-///
-/// ```
-/// use semver_parser::sets::Release;
-///
-/// let [low, high] = [2, 10].map(|minor| Release { major: 1, minor, patch: 0 });
-/// assert!(low < high);
-/// ```
 #[derive(Clone, Copy, PartialEq, Eq, PartialOrd, Ord, Hash, Debug)]
 pub struct Release {
     /// The first number: 1 in 1.2.3.
@@ -34,15 +27,6 @@ pub struct Release {
 impl Release {
     // Determined by: equation.
     /// Returns the numbers of a version, without its pre-release and build metadata.
-    ///
-    /// ```
-    /// use semver_parser::sets::Release;
-    /// use semver_parser::version;
-    ///
-    /// let release = Release::from_version(&version::parse("1.2.3-rc.1+b5")?);
-    /// assert_eq!(release, Release { major: 1, minor: 2, patch: 3 });
-    /// # Ok::<(), semver_parser::parser::Error>(())
-    /// ```
     pub fn from_version(version: &Version) -> Release
         ensures { release_value result
             ≡ record (version_value version.now).plain { pre = [] } }
@@ -57,13 +41,6 @@ impl Release {
     // Determined by: equation.
     /// Returns the release as a version, without a pre-release and build metadata. It does not
     /// allocate.
-    ///
-    /// ```
-    /// use semver_parser::sets::Release;
-    ///
-    /// let release = Release { major: 1, minor: 2, patch: 3 };
-    /// assert_eq!(release.version().to_string(), "1.2.3");
-    /// ```
     pub fn version(self, alloc: Global) -> Version
         ensures { version_value result ≡ record { plain = release_value self; build = [] } }
     {

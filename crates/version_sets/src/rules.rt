@@ -8,16 +8,15 @@ ghost use Rattle.version_sets.specs.declared.rules.PreReleases.{PreReleases as S
 /// every rule.
 ///
 /// ```
-/// use semver_parser::{satisfies, Dialect, Meaning, PreReleases};
+/// use semver_parser::{satisfies, Dialect, PreReleases};
 ///
-/// let npm = |pre_releases| Meaning { dialect: Dialect::Npm, pre_releases };
-/// assert!(satisfies("1.3.0-rc", "^1.2.0", npm(PreReleases::Included))?);
-/// assert!(!satisfies("1.3.0-rc", "^1.2.0", npm(PreReleases::Default))?);
-/// assert!(satisfies("1.2.3-rc", "^1.2.3-beta", npm(PreReleases::Default))?);
-/// assert!(!satisfies("1.2.3-rc", "^1.2.3-beta", npm(PreReleases::Excluded))?);
+/// let is_in = |rule| satisfies("1.3.0-rc.1", "^1.2", Dialect::Npm.with(rule));
+/// assert!(!is_in(PreReleases::ByDialect)? && is_in(PreReleases::Included)?);
+/// assert!(!is_in(PreReleases::Excluded)?);
 /// # Ok::<(), semver_parser::Error>(())
 /// ```
 #[derive(Clone, Copy, PartialEq, Eq, Hash, Debug)]
+#[non_exhaustive]
 pub enum PreReleases {
     /// No pre-release.
     Excluded,
@@ -32,12 +31,6 @@ pub enum PreReleases {
 impl PreReleases {
     // Determined by: equation.
     /// Returns the number of the rule in C, Python and JavaScript.
-    ///
-    /// ```
-    /// use semver_parser::PreReleases;
-    ///
-    /// assert_eq!(PreReleases::Included.number(), 1);
-    /// ```
     #[must_use]
     pub fn number(self) -> i32
         ensures { result ≡ number_of self }
@@ -51,13 +44,6 @@ impl PreReleases {
 
     // Determined by: law version_sets::laws::one_rule_of_number.
     /// Returns the rule with a number, or `None` if no rule has it.
-    ///
-    /// ```
-    /// use semver_parser::PreReleases;
-    ///
-    /// assert_eq!(PreReleases::from_number(1), Some(PreReleases::Included));
-    /// assert_eq!(PreReleases::from_number(9), None);
-    /// ```
     #[must_use]
     pub fn from_number(number: i32) -> Option<PreReleases>
         ensures { MatchOption result (¬ ((it : SomePreReleases) × (number ≡ number_of it)))
@@ -84,7 +70,7 @@ impl PreReleases {
         ensures { result.now ≡ name_of self }
     {
         match self {
-            PreReleases::Default => "default",
+            PreReleases::Default => "by-dialect",
             PreReleases::Included => "included",
             PreReleases::Excluded => "excluded",
         }

@@ -17,16 +17,6 @@ use std::alloc::{AllocError, Global};
 
 /// The difference of an old and a new set, and their intersection, each represented by its lowest
 /// version by precedence. None of these has build metadata.
-///
-/// ```
-/// use semver_parser::{sets, Dialect};
-///
-/// let old = sets::parse("^1.2.3-b", Dialect::Npm)?;
-/// let comparison = old.compare(&sets::parse("^1.2.3", Dialect::Npm)?).unwrap();
-/// assert_eq!(comparison.lost.unwrap().to_string(), "1.2.3-b");
-/// assert_eq!(comparison.gained, None);
-/// # Ok::<(), semver_parser::Error>(())
-/// ```
 #[derive(Debug, PartialEq, Eq, Drop)]
 pub struct Comparison {
     /// The lowest version that is in the old set and not in the new one, or `None` if there is
@@ -52,17 +42,6 @@ impl VersionSet {
     ///
     /// `DifferentDigits` if the sets read numeric identifiers differently, and `OutOfMemory` if an
     /// allocation failed.
-    ///
-    /// ```
-    /// use semver_parser::{sets, Dialect};
-    ///
-    /// let old = sets::parse("^1.2.0", Dialect::Npm)?;
-    /// let comparison = old.compare(&sets::parse(">=1.4.0", Dialect::Npm)?).unwrap();
-    /// assert_eq!(comparison.lost.unwrap().to_string(), "1.2.0");
-    /// assert_eq!(comparison.gained.unwrap().to_string(), "2.0.0");
-    /// assert_eq!(comparison.shared.unwrap().to_string(), "1.4.0");
-    /// # Ok::<(), semver_parser::Error>(())
-    /// ```
     pub fn compare(&self, alloc: Global, new: &VersionSet) -> Result<Comparison, OperationError>
         ensures refused { (result ≡ Err OperationError.DifferentDigits)
             ↔ (self.now.digits ≢ new.now.digits) }
@@ -110,13 +89,6 @@ impl VersionSet {
 impl VersionSet {
     // Determined by: equation.
     /// Returns whether the set contains no version. It does not allocate.
-    ///
-    /// ```
-    /// use semver_parser::{sets, Dialect};
-    ///
-    /// assert!(sets::parse(">2.0.0 <1.0.0", Dialect::Npm)?.is_empty());
-    /// # Ok::<(), semver_parser::Error>(())
-    /// ```
     #[must_use]
     pub fn is_empty(&self) -> bool
         ensures { (result ≡ true) ↔ ((v : PlainVersion) → ¬ IsIn v self.now) }
@@ -131,15 +103,6 @@ impl VersionSet {
     /// # Errors
     ///
     /// Only `DifferentDigits`, if the sets read numeric identifiers differently.
-    ///
-    /// ```
-    /// use semver_parser::{sets, Dialect};
-    ///
-    /// let (narrow, wide) = (sets::parse("~1.2", Dialect::Npm)?, sets::parse("^1", Dialect::Npm)?);
-    /// assert_eq!(narrow.is_subset(&wide), Ok(true));
-    /// assert_eq!(wide.is_subset(&narrow), Ok(false));
-    /// # Ok::<(), semver_parser::Error>(())
-    /// ```
     pub fn is_subset(&self, other: &VersionSet) -> Result<bool, OperationError>
         ensures refused { (result ≡ Err OperationError.DifferentDigits)
             ↔ (self.now.digits ≢ other.now.digits) }
@@ -164,17 +127,6 @@ impl VersionSet {
     /// # Errors
     ///
     /// Only `DifferentDigits`, if the sets read numeric identifiers differently.
-    ///
-    /// ```
-    /// use semver_parser::{sets, Dialect};
-    ///
-    /// let set = sets::parse("^1.2.0", Dialect::Npm)?;
-    /// let below = sets::parse("<1.2.0", Dialect::Npm)?;
-    /// let to = sets::parse("<=1.2.0", Dialect::Npm)?;
-    /// assert_eq!(set.is_disjoint(&below), Ok(true));
-    /// assert_eq!(set.is_disjoint(&to), Ok(false)); // 1.2.0 is in both
-    /// # Ok::<(), semver_parser::Error>(())
-    /// ```
     pub fn is_disjoint(&self, other: &VersionSet) -> Result<bool, OperationError>
         ensures refused { (result ≡ Err OperationError.DifferentDigits)
             ↔ (self.now.digits ≢ other.now.digits) }

@@ -15,18 +15,6 @@ use std::alloc::{AllocError, Global};
 use thiserror::Error;
 
 /// The error of an operation on two ranges or two sets of versions.
-///
-/// ```
-/// use semver_parser::{sets, Dialect, OperationError, VersionRange};
-///
-/// let npm = VersionRange::parse("^1.2", Dialect::Npm)?;
-/// let cargo = VersionRange::parse("^1.2", Dialect::Cargo)?;
-/// assert_eq!(npm.union(&cargo).unwrap_err(), OperationError::DifferentMeanings);
-///
-/// let kept = sets::parse("^1.2", Dialect::CrateNpm)?;
-/// assert_eq!(npm.versions().is_subset(&kept), Err(OperationError::DifferentDigits));
-/// # Ok::<(), semver_parser::Error>(())
-/// ```
 #[derive(Clone, Copy, PartialEq, Eq, Debug, Error)]
 #[non_exhaustive]
 pub enum OperationError {
@@ -56,18 +44,6 @@ impl From<AllocError> for OperationError {
 }
 
 /// How two ranges or two sets of versions are combined.
-///
-/// ```
-/// use semver_parser::{Combination, Dialect, VersionRange};
-///
-/// let range = VersionRange::parse(">=1.0.0 <1.5.0", Dialect::Npm)?;
-/// let other = VersionRange::parse(">=1.2.0 <2.0.0", Dialect::Npm)?;
-/// let combined = |how| range.combined(how, &other).unwrap().to_string();
-/// assert_eq!(combined(Combination::Union), ">=1.0.0 <2.0.0");
-/// assert_eq!(combined(Combination::Intersection), ">=1.2.0 <1.5.0");
-/// assert_eq!(combined(Combination::Difference), ">=1.0.0 <1.2.0");
-/// # Ok::<(), semver_parser::Error>(())
-/// ```
 #[derive(Clone, Copy, PartialEq, Eq, Debug)]
 pub enum Combination {
     /// The versions that are in the first or in the second, or in both.
@@ -149,17 +125,6 @@ impl VersionSet {
     ///
     /// `DifferentDigits` if the sets read numeric identifiers differently, and `OutOfMemory` if an
     /// allocation failed.
-    ///
-    /// ```
-    /// use semver_parser::{sets, Combination, Dialect};
-    ///
-    /// let set = |range| sets::parse(range, Dialect::Npm).unwrap();
-    /// let (old, new) = (set(">=1.0.0 <1.5.0"), set(">=1.2.0 <2.0.0"));
-    /// assert_eq!(old.combined(Combination::Union, &new)?, set(">=1.0.0 <2.0.0"));
-    /// assert_eq!(old.combined(Combination::Intersection, &new)?, set(">=1.2.0 <1.5.0"));
-    /// assert_eq!(old.combined(Combination::Difference, &new)?, set(">=1.0.0 <1.2.0"));
-    /// # Ok::<(), semver_parser::OperationError>(())
-    /// ```
     pub fn combined(
         &self,
         alloc: Global,

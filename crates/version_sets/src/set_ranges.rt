@@ -27,17 +27,6 @@ use std::fmt;
 ///
 /// `Display` writes a range in npm mode: `*` if all are in the set, and `<0.0.0-0`, which no
 /// version satisfies, if none is.
-///
-/// ```
-/// use semver_parser::sets::{self, VersionSet};
-/// use semver_parser::Dialect;
-///
-/// let text = |set: VersionSet| set.release_ranges().unwrap().to_string();
-/// assert_eq!(text(sets::parse("1.2.0 || ~1.9", Dialect::Npm)?), "=1.2.0 || >=1.9.0 <1.10.0");
-/// assert_eq!(text(sets::parse("x", Dialect::Npm)?), "*");
-/// assert_eq!(text(sets::parse("<0.0.0", Dialect::Npm)?), "<0.0.0-0");
-/// # Ok::<(), semver_parser::Error>(())
-/// ```
 #[derive(Debug, Drop)]
 pub struct SetRanges {
     /// The ranges, in `Compat::Npm`. Each has one or two comparators.
@@ -57,14 +46,6 @@ impl VersionSet {
     ///
     /// It takes time linear in the number of boundaries, and allocates only if the set contains a
     /// release. `Err` means out of memory.
-    ///
-    /// ```
-    /// use semver_parser::{sets, Dialect};
-    ///
-    /// let set = sets::parse("1.2.0 || ^1.9.0", Dialect::Npm)?;
-    /// assert_eq!(set.release_ranges().unwrap().to_string(), "=1.2.0 || >=1.9.0 <2.0.0");
-    /// # Ok::<(), semver_parser::Error>(())
-    /// ```
     pub fn release_ranges(&self, alloc: Global) -> Result<SetRanges, AllocError>
         ensures ranges { IfOk result (λ ranges.
             set_of ranges.range_set ≡ release_ranges self.now) }
@@ -94,15 +75,6 @@ impl VersionSet {
     ///
     /// It takes time linear in the number of boundaries, and allocates only if the set contains a
     /// pre-release. `Err` means out of memory.
-    ///
-    /// ```
-    /// use semver_parser::{sets, Dialect, Meaning, PreReleases};
-    ///
-    /// let npm = Meaning { dialect: Dialect::Npm, pre_releases: PreReleases::Included };
-    /// let ranges = sets::parse(">1.2.3 <2.0.0-0", npm)?.pre_release_ranges().unwrap();
-    /// assert_eq!(ranges.to_string(), ">=1.2.4-0 <2.0.0-0");
-    /// # Ok::<(), semver_parser::Error>(())
-    /// ```
     pub fn pre_release_ranges(&self, alloc: Global) -> Result<SetRanges, AllocError>
         ensures ranges { IfOk result (λ ranges.
             set_of ranges.range_set ≡ set_kept (pre_release_ranges self.now)) }

@@ -33,15 +33,6 @@ use std::marker::Model;
 /// can't be combined or compared.
 ///
 /// The releases of `>=1.2.0 <2.0.0 || 3.1.4` have the boundaries 1.2.0, 2.0.0, 3.1.4 and 3.1.5.
-///
-/// ```
-/// use semver_parser::{sets, version, Dialect};
-///
-/// let set = sets::parse(">=1.2.0 <2.0.0 || 3.1.4", Dialect::Npm)?;
-/// assert!(set.contains(&version::parse("1.9.0")?) && set.contains(&version::parse("3.1.4+b5")?));
-/// assert!(!set.contains(&version::parse("2.0.0")?) && !set.contains(&version::parse("3.1.5")?));
-/// # Ok::<(), String>(())
-/// ```
 #[derive(Debug, Drop)]
 pub struct VersionSet {
     /// The boundaries of the releases.
@@ -67,13 +58,6 @@ impl VersionSet {
     // Determined by: law result_laws::sets::one_empty.
     /// Returns the empty set, for versions whose numeric identifiers are read as `digits` says. It
     /// does not allocate.
-    ///
-    /// ```
-    /// use semver_parser::sets::VersionSet;
-    /// use semver_parser::Digits;
-    ///
-    /// assert!(VersionSet::empty(Digits::AnySize).is_empty());
-    /// ```
     #[must_use]
     pub fn empty(alloc: Global, digits: Digits) -> VersionSet
         ensures empty { (v : PlainVersion) → contains result v ≡ false }
@@ -86,18 +70,6 @@ impl VersionSet {
     // Determined by: law result_laws::sets::one_all.
     /// Returns the set of all versions, whose numeric identifiers are read as `digits` says. `Err`
     /// means out of memory.
-    ///
-    /// ```
-    /// use semver_parser::sets::{self, VersionSet};
-    /// use semver_parser::{version, Combination, Dialect};
-    ///
-    /// let set = sets::parse("^1.2.0", Dialect::Npm)?;
-    /// let all = VersionSet::all(set.digits()).unwrap();
-    /// let others = all.combined(Combination::Difference, &set).unwrap();
-    /// assert!(others.contains(&version::parse("1.1.9").unwrap()));
-    /// assert!(!others.contains(&version::parse("1.9.0").unwrap()));
-    /// # Ok::<(), semver_parser::Error>(())
-    /// ```
     pub fn all(alloc: Global, digits: Digits) -> Result<VersionSet, AllocError>
         ensures all { IfOk result (λ set. (v : PlainVersion) → Fits v → contains set v ≡ true) }
         ensures printable { IfOk result IsPrintable }
@@ -127,14 +99,6 @@ impl VersionSet {
 
     // Determined by: equation.
     /// Returns how a numeric identifier above 2^64 - 1 is read, in the versions of the set.
-    ///
-    /// ```
-    /// use semver_parser::{sets, Dialect, Digits};
-    ///
-    /// assert_eq!(sets::parse("^1.2.0", Dialect::Cargo)?.digits(), Digits::AnySize);
-    /// assert_eq!(sets::parse("^1.2.0", Dialect::CrateCargo)?.digits(), Digits::Kept);
-    /// # Ok::<(), semver_parser::Error>(())
-    /// ```
     #[must_use]
     pub fn digits(&self) -> Digits
         ensures { result ≡ self.now.digits }
@@ -144,16 +108,6 @@ impl VersionSet {
 
     // Determined by: law result_laws::sets::one_only_releases.
     /// Returns the releases of the set. It does not allocate.
-    ///
-    /// ```
-    /// use semver_parser::{sets, version, Dialect, Meaning, PreReleases};
-    ///
-    /// let npm = Meaning { dialect: Dialect::Npm, pre_releases: PreReleases::Included };
-    /// let releases = sets::parse(">=1.2.0-rc", npm)?.only_releases();
-    /// assert!(releases.contains(&version::parse("1.2.0")?));
-    /// assert!(!releases.contains(&version::parse("1.2.0-rc.2")?));
-    /// # Ok::<(), String>(())
-    /// ```
     #[must_use]
     pub fn only_releases(self, alloc: Global) -> VersionSet
         ensures releases { (v : PlainVersion) → contains result v
@@ -166,15 +120,6 @@ impl VersionSet {
 
     // Determined by: law result_laws::sets::one_only_pre_releases.
     /// Returns the pre-releases of the set. It does not allocate.
-    ///
-    /// ```
-    /// use semver_parser::{sets, version, Dialect};
-    ///
-    /// let pre_releases = sets::parse(">=1.2.0-rc", Dialect::Npm)?.only_pre_releases();
-    /// assert!(pre_releases.contains(&version::parse("1.2.0-rc.2")?));
-    /// assert!(!pre_releases.contains(&version::parse("1.2.0")?));
-    /// # Ok::<(), String>(())
-    /// ```
     #[must_use]
     pub fn only_pre_releases(self, alloc: Global) -> VersionSet
         ensures pre_releases { (v : PlainVersion) → contains result v
@@ -192,19 +137,6 @@ impl VersionSet {
     ///
     /// A `Version` keeps a numeric identifier above 2^64 - 1 as a string; here it is read as the
     /// set reads such identifiers.
-    ///
-    /// ```
-    /// use semver_parser::{sets, version, Dialect};
-    ///
-    /// let set = sets::parse("^1.2.0", Dialect::Cargo)?;
-    /// assert!(set.contains(&version::parse("1.9.0+b5")?));
-    /// assert!(!set.contains(&version::parse("2.0.0")?));
-    ///
-    /// let set = sets::parse("<1.0.0-10a", Dialect::Cargo)?;
-    /// let large = version::parse("1.0.0-18446744073709551616")?;
-    /// assert!(set.contains(&large)); // to Cargo it is a number, and a number is below `10a`
-    /// # Ok::<(), String>(())
-    /// ```
     #[must_use]
     pub fn contains(&self, version: &Version) -> bool
         ensures contains { result ≡ contains_kept self.now (version_value version.now).plain }
@@ -254,15 +186,6 @@ impl VersionSet {
 
     // Determined by: equation.
     /// Returns whether a release is in the set, like [`VersionSet::contains`] for a version.
-    ///
-    /// ```
-    /// use semver_parser::sets::{self, Release};
-    /// use semver_parser::Dialect;
-    ///
-    /// let set = sets::parse("^1.2.0", Dialect::Cargo)?;
-    /// assert!(set.contains_release(Release { major: 1, minor: 9, patch: 0 }));
-    /// # Ok::<(), semver_parser::Error>(())
-    /// ```
     #[must_use]
     #[inline(always)]
     pub fn contains_release(&self, release: Release) -> bool
@@ -276,15 +199,6 @@ impl VersionSet {
     /// version. Its identifiers are compared as they are in the string, and the numeric ones are
     /// read as the set reads them, whatever the dialect of the borrowed version. It does not
     /// allocate.
-    ///
-    /// ```
-    /// use semver_parser::{sets, Dialect, VersionRef};
-    ///
-    /// let set = sets::parse("^1.2.0", Dialect::Npm)?;
-    /// let version = VersionRef::parse("v1.9.0", Dialect::Npm)?;
-    /// assert!(set.contains_ref(&version));
-    /// # Ok::<(), semver_parser::Error>(())
-    /// ```
     #[must_use]
     #[inline(always)]
     pub fn contains_ref(&self, borrowed: &VersionRef<'_>) -> bool

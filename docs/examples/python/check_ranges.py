@@ -16,8 +16,8 @@ import sys
 from semver_parser import Dialect, PreReleases, RangeError, VersionError, satisfies
 
 DIALECTS = {
-    "npm": (Dialect.NPM, PreReleases.DEFAULT),
-    "cargo": (Dialect.CARGO, PreReleases.DEFAULT),
+    "npm": (Dialect.NPM, PreReleases.BY_DIALECT),
+    "cargo": (Dialect.CARGO, PreReleases.BY_DIALECT),
     "crate-npm": (Dialect.CRATE_NPM, PreReleases.INCLUDED),
     "crate-cargo": (Dialect.CRATE_CARGO, PreReleases.INCLUDED),
 }

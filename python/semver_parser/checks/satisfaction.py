@@ -19,7 +19,7 @@ def is_version(text: str, dialect: Dialect) -> bool:
 
 @lru_cache(maxsize=None)
 def range_in(
-    text: str, dialect: Dialect, pre_releases: Literal["default", "included"] = "default"
+    text: str, dialect: Dialect, pre_releases: Literal["by-dialect", "included"] = "by-dialect"
 ) -> Optional[Range]:
     """Returns the range of a text in a dialect; None if it is invalid."""
     try:

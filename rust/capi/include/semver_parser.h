@@ -105,7 +105,7 @@ enum {
 typedef int32_t semver_parser_pre_releases;
 enum {
     /* Those that Cargo and npm match by default: `^1.2.3-rc` contains 1.2.3-rc.1, not 1.3.0-rc. */
-    SEMVER_PARSER_PRE_RELEASES_DEFAULT = 0,
+    SEMVER_PARSER_PRE_RELEASES_BY_DIALECT = 0,
     /* Every one within the bounds of the range. */
     SEMVER_PARSER_PRE_RELEASES_INCLUDED = 1,
     /* None. */
@@ -128,7 +128,7 @@ static inline semver_parser_options semver_parser_options_of(semver_parser_diale
 }
 
 /* Returns the name of a dialect or of a rule for pre-releases, or null if there is no such number.
- * The names are "cargo", "npm", "crate-cargo", "crate-npm"; "default", "included", "excluded".
+ * The names are "cargo", "npm", "crate-cargo", "crate-npm"; "by-dialect", "included", "excluded".
  * Numbers count from 0. */
 const char *semver_parser_dialect_name(semver_parser_dialect dialect);
 const char *semver_parser_pre_releases_name(semver_parser_pre_releases pre_releases);

@@ -1,16 +1,17 @@
-//! The calls of the proved crate behind the functions.
+//! The proved calls behind the functions.
 
 use crate::errors::Problem;
 use crate::heap::moved;
 use crate::message::printed;
+use crate::proved::semver_ranges::{Compat, Op, RangeSet};
+use crate::proved::tool_ranges::meaning;
+use crate::proved::version_sets::OperationError;
+use crate::rattle_std::{FalliblePush, FallibleToString};
+use crate::shared::{self, read_ref_in, rewrite, SatisfiesError, VersionRange, VersionRef};
+use crate::shared::{Combination, Dialect, Extreme, PreReleases, RangeError, Rules, Terms};
 use crate::types::{dialect, Comparator, Options, PartialVersion, StringView, Version};
 use alloc::{string::String, vec::Vec};
 use core::{ffi::c_char, ptr, str};
-use proved::layers::{self, SatisfiesError};
-use proved::rattle_std::{FalliblePush, FallibleToString};
-use proved::version::{read_ref_in, VersionRef};
-use proved::{OperationError, VersionRange};
-use proved::{Compat, Dialect, Op, RangeError, RangeSet, Terms};
 
 type Answer<'a, T> = Result<T, Problem<'a>>;
 
@@ -42,10 +43,10 @@ fn refused<'a>(
 
 #[inline(always)]
 pub fn satisfies<'a>(bytes: &'a [u8], range: &'a [u8], options: Options) -> Answer<'a, bool> {
-    let meaning = options.meaning()?;
-    let dialect = meaning.dialect;
+    let rules = options.rules()?;
+    let dialect = rules.dialect;
     let range = text(range, 1).or_else(|problem| version(bytes, dialect, 0).and(Err(problem)))?;
-    layers::satisfies(bytes, range, meaning).map_err(|error| match error {
+    shared::satisfies(bytes, range, rules).map_err(|error| match error {
         SatisfiesError::InvalidVersion => Problem::Version { bytes, dialect, index: 0 },
         SatisfiesError::InvalidRange(error) => Problem::Range { error, range, dialect, index: 1 },
     })
@@ -54,7 +55,8 @@ pub fn satisfies<'a>(bytes: &'a [u8], range: &'a [u8], options: Options) -> Answ
 pub fn check_range(range: &[u8], number: i32) -> Answer<'_, ()> {
     let dialect = dialect(number)?;
     let range = text(range, 0)?;
-    layers::check_range(range, dialect).map_err(refused(range, dialect, 0))
+    let rules = Rules { dialect, pre_releases: PreReleases::Default };
+    meaning::check(rules, range).map_err(refused(range, dialect, 0))
 }
 
 /// Returns the terms of a range, each of which has been checked.
@@ -74,7 +76,7 @@ pub fn replace_version<'a>(
 ) -> Answer<'a, *mut c_char> {
     let dialect = dialect(number)?;
     let range = text(range, 0)?;
-    let found = layers::version_at(range, written.start, dialect);
+    let found = shared::version_at(range, written.start, dialect);
     let (before, it, after) = found
         .map_err(refused(range, dialect, 0))?
         .filter(|(_, it, _)| PartialVersion::of(it) == *written)
@@ -97,9 +99,9 @@ pub fn compare_versions<'a>(bytes: &'a [u8], other: &'a [u8], number: i32) -> An
 }
 
 pub fn parse_range(range: &[u8], options: Options) -> Answer<'_, *mut VersionRange> {
-    let meaning = options.meaning()?;
+    let rules = options.rules()?;
     let range = text(range, 0)?;
-    let read = VersionRange::try_parse(range, meaning).map_err(refused(range, meaning.dialect, 0))?;
+    let read = VersionRange::try_parse(range, rules).map_err(refused(range, rules.dialect, 0))?;
     Ok(moved(read)?)
 }
 
@@ -128,7 +130,7 @@ pub fn outermost<'a>(
     range: &VersionRange,
     strings: &'a [StringView],
     skip_invalid: bool,
-    which: impl Fn(&VersionRange, &[&[u8]]) -> Option<usize>,
+    which: Extreme,
 ) -> Answer<'a, usize> {
     for (at, string) in strings.iter().enumerate().filter(|_| !skip_invalid) {
         version(string.bytes(), range.meaning().dialect, at)?;
@@ -138,7 +140,7 @@ pub fn outermost<'a>(
         let mut compared: [&[u8]; AT_ONCE + 1] = [b""; AT_ONCE + 1];
         compared[0] = found;
         compared[1..].iter_mut().zip(next).for_each(|(to, version)| *to = version.bytes());
-        if let Some(at @ 1..) = which(range, &compared) {
+        if let Some(at @ 1..) = range.extreme_index(which, &compared) {
             (found, index) = (compared[at], chunk * AT_ONCE + at - 1);
         }
     }
@@ -160,9 +162,9 @@ pub fn compare<'a>(
 pub fn combine<'a>(
     range: &'a VersionRange,
     other: &'a VersionRange,
-    combined: impl Fn(&VersionRange, &VersionRange) -> Result<VersionRange, OperationError>,
+    how: Combination,
 ) -> Answer<'a, *mut VersionRange> {
-    match combined(range, other) {
+    match range.combined(how, other) {
         Ok(made) => Ok(moved(made)?),
         Err(OperationError::OutOfMemory) => Err(Problem::Memory),
         Err(_) => Err(different(range, other)),
@@ -190,7 +192,7 @@ pub fn comparators(bytes: &[u8], number: i32, exact: bool) -> Answer<'_, *mut Co
     let read = match dialect {
         Dialect::CrateCargo if !exact => RangeSet::try_parse(range, Compat::Cargo),
         Dialect::CrateNpm if !exact => RangeSet::try_parse(range, Compat::Npm),
-        _ => layers::comparators(range, dialect),
+        _ => rewrite(dialect, range),
     };
     let set = read.map_err(refused(range, dialect, 0))?;
     let (mut listed, mut printed) = (Vec::new(), Vec::new());

@@ -1,8 +1,6 @@
 //! Why a call returns no result, and how this is reported.
 
-use proved::layers::{explain_range, explain_version};
-use proved::Reason;
-use proved::{AllocError, Dialect, RangeError};
+use crate::shared::{explain_range, explain_version, AllocError, Dialect, RangeError, Reason};
 
 pub type Status = i32;
 pub const OK: Status = 0;
@@ -69,7 +67,7 @@ impl Problem<'_> {
             Problem::Dialects | Problem::PreReleases => (None, 1),
             Problem::NotUtf8 { offset, index } => (Some((Reason::NotUtf8, offset)), index),
             Problem::Range { range, dialect, index, .. } if self.status() != OUT_OF_MEMORY => {
-                let refusal = explain_range(range, dialect)?;
+                let refusal = explain_range(dialect, range)?;
                 (refusal.map(|it| (it.reason, it.offset)), index)
             }
             _ => (None, 0),

@@ -1,11 +1,11 @@
 //! Needed without Rust's std: allocation by the C library, and a handler of panics.
 
+use crate::rattle_std::{AllocError, FallibleVec};
 use alloc::vec::Vec;
 use core::alloc::{GlobalAlloc, Layout};
 use core::ffi::{c_char, c_void};
 use core::mem::{self, ManuallyDrop};
 use core::ptr;
-use proved::{rattle_std::FallibleVec, AllocError};
 
 extern "C" {
     fn malloc(size: usize) -> *mut c_void;

@@ -1,22 +1,31 @@
 //! The C API: the functions of include/semver_parser.h, which documents what each does and what its
-//! caller must do. They contain no logic: each calls the proved crate.
+//! caller must do. They contain no logic: each calls what is proved.
 #![no_std]
 #![deny(unsafe_op_in_unsafe_fn)]
 #![allow(clippy::missing_safety_doc)]
 
 extern crate alloc;
+#[cfg(feature = "std")]
+extern crate std;
+
+#[path = "../../src/proved/mod.rs"]
+mod proved;
+#[path = "../../src/rattle_std.rs"]
+#[allow(dead_code, unused_imports, unused_macros)]
+mod rattle_std;
 
 mod calls;
 mod errors;
 mod heap;
 mod message;
+mod shared;
 mod types;
 
 use calls::Comparators;
 use core::ffi::c_char;
 use errors::{finish, Error, Problem, Status, OK};
 use message::c_text;
-use proved::VersionRange as Range;
+use shared::{Combination, Extreme, VersionRange as Range};
 use types::{items, Comparator, Options, PartialVersion, StringView, Term, Version};
 
 /// Defines functions of the header. `name(arguments) -> output = call` has an output, and `error`
@@ -111,17 +120,17 @@ functions! {
     semver_parser_range_highest_of(
         range: &Range, versions: &StringView[count], skip_invalid: bool)
         -> index: usize, error
-        = |range, versions, skip| calls::outermost(range, versions, skip, Range::highest_of);
+        = |range, versions, skip| calls::outermost(range, versions, skip, Extreme::Highest);
     semver_parser_range_lowest_of(
         range: &Range, versions: &StringView[count], skip_invalid: bool)
         -> index: usize, error
-        = |range, versions, skip| calls::outermost(range, versions, skip, Range::lowest_of);
+        = |range, versions, skip| calls::outermost(range, versions, skip, Extreme::Lowest);
     semver_parser_range_union(range: &Range, other: &Range) -> made: *mut Range, error
-        = |range, other| calls::combine(range, other, Range::union);
+        = |range, other| calls::combine(range, other, Combination::Union);
     semver_parser_range_intersection(range: &Range, other: &Range) -> made: *mut Range, error
-        = |range, other| calls::combine(range, other, Range::intersection);
+        = |range, other| calls::combine(range, other, Combination::Intersection);
     semver_parser_range_difference(range: &Range, other: &Range) -> made: *mut Range, error
-        = |range, other| calls::combine(range, other, Range::difference);
+        = |range, other| calls::combine(range, other, Combination::Difference);
     semver_parser_range_equal(range: &Range, other: &Range) -> equal: bool, error
         = |range, other| calls::compare(range, other, |one, two| Ok(one == two));
     semver_parser_range_is_subset(range: &Range, other: &Range) -> is_subset: bool, error

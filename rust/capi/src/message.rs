@@ -1,13 +1,13 @@
 //! Strings for C: the texts of numbers, and the sentence of an error.
 
 use crate::errors::{Error, Problem};
+use crate::proved::invalid_strings::escaped::Escaped;
+use crate::rattle_std::{FallibleString, FallibleToString};
+use crate::shared::Reason;
 use alloc::string::String;
 use core::ffi::c_char;
 use core::fmt::{self, Display, Formatter};
 use core::{mem::ManuallyDrop, ptr};
-use proved::layers::Escaped;
-use proved::rattle_std::{FallibleString, FallibleToString};
-use proved::Reason;
 
 // The tables are written by build.rs from the crate's texts.
 include!(concat!(env!("OUT_DIR"), "/texts.rs"));

@@ -1,9 +1,9 @@
 //! The types of the header, and their conversions from and to Rust.
 
 use crate::errors::Problem;
+use crate::shared::{self, Dialect, PreReleases, Rules};
 use core::ptr::NonNull;
 use core::slice;
-use proved::{Dialect, Meaning, PreReleases};
 
 /// semver_parser_string.
 #[repr(C)]
@@ -42,17 +42,17 @@ pub struct Options {
 }
 
 impl Options {
-    pub fn of(Meaning { dialect, pre_releases }: Meaning) -> Options {
+    pub fn of(Rules { dialect, pre_releases, .. }: Rules) -> Options {
         let (dialect, pre_releases) = (dialect.number(), pre_releases.number());
         Options { dialect, pre_releases, reserved: [0; 6] }
     }
 
     #[inline(always)]
-    pub fn meaning<'a>(&self) -> Result<Meaning, Problem<'a>> {
+    pub fn rules<'a>(&self) -> Result<Rules, Problem<'a>> {
         let dialect = dialect(self.dialect)?;
         let pre_releases = PreReleases::from_number(self.pre_releases).ok_or(Problem::Argument)?;
         match self.reserved {
-            [0, 0, 0, 0, 0, 0] => Ok(Meaning { dialect, pre_releases }),
+            [0, 0, 0, 0, 0, 0] => Ok(Rules { dialect, pre_releases }),
             _ => Err(Problem::Argument),
         }
     }
@@ -94,11 +94,11 @@ pub struct Component {
 }
 
 impl Component {
-    fn of(component: Option<proved::Component>) -> Component {
+    fn of(component: Option<shared::Component>) -> Component {
         match component {
             None => Component::default(),
-            Some(proved::Component::Number(number)) => Component { kind: 1, number },
-            Some(proved::Component::Wildcard(it)) => Component { kind: 2, number: it.into() },
+            Some(shared::Component::Number(number)) => Component { kind: 1, number },
+            Some(shared::Component::Wildcard(it)) => Component { kind: 2, number: it.into() },
         }
     }
 }
@@ -118,7 +118,7 @@ pub struct PartialVersion {
 }
 
 impl PartialVersion {
-    pub fn of(version: &proved::PartialVersion<'_>) -> PartialVersion {
+    pub fn of(version: &shared::PartialVersion<'_>) -> PartialVersion {
         PartialVersion {
             start: version.span.start,
             end: version.span.end,
@@ -159,7 +159,7 @@ pub struct Term {
 }
 
 impl Term {
-    pub fn of(term: &proved::Term<'_>) -> Term {
+    pub fn of(term: &shared::Term<'_>) -> Term {
         Term {
             range: term.range,
             op: term.operator.number(),

@@ -1,5 +1,5 @@
-//! The functions of the crate `semver-parser-proved` that JavaScript calls. They contain no logic:
-//! each makes one call of the crate.
+//! The functions that JavaScript calls. They contain no logic: each makes one call of what is proved,
+//! which this crate compiles by its path.
 //!
 //! A string is the address and the length of its bytes, which JavaScript wrote at the address that
 //! [`reserve`] returns. Further outputs of a function are in [`numbers`]: the address and the
@@ -9,9 +9,17 @@
 
 extern crate alloc;
 
+#[path = "../../src/proved/mod.rs"]
+mod proved;
+#[path = "../../src/rattle_std.rs"]
+#[allow(dead_code, unused_imports, unused_macros)]
+mod rattle_std;
+
 mod allocator;
 mod names;
 mod ranges;
+#[path = "../../capi/src/shared.rs"]
+mod shared;
 mod state;
 mod terms;
 mod versions;

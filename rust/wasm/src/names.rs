@@ -1,7 +1,7 @@
 //! The names of dialects, rules for pre-releases and reasons, by their numbers.
 
+use crate::shared::{Dialect, PreReleases, Reason};
 use crate::state;
-use semver_parser::{Dialect, PreReleases, Reason};
 
 /// Outputs a name, if there is one. Returns 0, or -1 if there is none.
 fn hand_back(name: Option<&'static str>) -> i32 {

@@ -1,5 +1,8 @@
 //! Ranges: reading them, checking versions against them, and comparing and subtracting them.
 
+use crate::proved::tool_ranges::npm::rewrite_included;
+use crate::shared::{self, rewrite, Combination, Dialect, Extreme, PreReleases, RangeError, Reason};
+use crate::shared::{Rules, SatisfiesError, VersionRange as Range};
 use crate::versions::refused;
 use crate::{bytes, state, status};
 use alloc::alloc::{alloc, Layout};
@@ -8,13 +11,10 @@ use alloc::string::String;
 use alloc::vec::Vec;
 use core::fmt::{self, Write};
 use core::ptr::null_mut;
-use semver_parser::layers::{self, SatisfiesError};
-use semver_parser::VersionRange as Range;
-use semver_parser::{Combination, Dialect, Meaning, PreReleases, RangeError, Reason};
 
-fn meaning(dialect: i32, rule: i32) -> Option<Meaning> {
+fn rules(dialect: i32, rule: i32) -> Option<Rules> {
     let (dialect, pre_releases) = (Dialect::from_number(dialect)?, PreReleases::from_number(rule)?);
-    Some(Meaning { dialect, pre_releases })
+    Some(Rules { dialect, pre_releases })
 }
 
 /// Returns the string at an address, if it is UTF-8.
@@ -39,12 +39,11 @@ pub unsafe extern "C" fn range_satisfied(
     dialect: i32,
     rule: i32,
 ) -> i32 {
-    let (Some(meaning), Some(range)) =
-        (meaning(dialect, rule), unsafe { string(range, range_len) })
+    let (Some(rules), Some(range)) = (rules(dialect, rule), unsafe { string(range, range_len) })
     else {
         return status::INVALID_RANGE;
     };
-    match layers::satisfies(unsafe { bytes(at, len) }, range, meaning) {
+    match shared::satisfies(unsafe { bytes(at, len) }, range, rules) {
         Ok(answer) => answer.into(),
         Err(SatisfiesError::InvalidVersion) => status::INVALID_VERSION,
         Err(SatisfiesError::InvalidRange(_)) => status::INVALID_RANGE,
@@ -62,7 +61,7 @@ pub unsafe extern "C" fn range_refused(at: *const u8, len: usize, dialect: i32) 
     else {
         return Reason::NotUtf8.number();
     };
-    match layers::explain_range(range, dialect) {
+    match shared::explain_range(dialect, range) {
         Ok(Some(refusal)) => refused(refusal.offset, refusal.reason),
         Ok(None) => 0,
         Err(_) => status::OUT_OF_MEMORY,
@@ -93,7 +92,9 @@ pub fn show(shown: impl fmt::Display) -> i32 {
     })
 }
 
-/// Outputs the comparators of a range as a string. Returns 0, or a status if it isn't a range.
+/// Outputs the comparators of a range as a string. Returns 0, or a status if it isn't a range. In
+/// npm's dialect with `PreReleases::Included` they say which pre-releases satisfy the range, too:
+/// their lower bounds are as node-semver writes them with `includePrerelease`.
 ///
 /// # Safety
 /// There are `len` bytes at the address.
@@ -104,10 +105,14 @@ pub unsafe extern "C" fn range_comparators(
     dialect: i32,
     rule: i32,
 ) -> i32 {
-    let (Some(meaning), Some(range)) = (meaning(dialect, rule), unsafe { string(at, len) }) else {
+    let (Some(rules), Some(range)) = (rules(dialect, rule), unsafe { string(at, len) }) else {
         return status::INVALID_RANGE;
     };
-    match layers::comparators_of_meaning(range, meaning) {
+    let comparators = match (rules.dialect, rules.pre_releases) {
+        (Dialect::Npm, PreReleases::Included) => rewrite_included(range),
+        (dialect, _) => rewrite(dialect, range),
+    };
+    match comparators {
         Ok(set) => show(set),
         Err(RangeError::OutOfMemory) => status::OUT_OF_MEMORY,
         Err(_) => status::INVALID_RANGE,
@@ -135,10 +140,10 @@ pub unsafe extern "C" fn range_read(
     dialect: i32,
     rule: i32,
 ) -> *mut Range {
-    let (Some(meaning), Some(range)) = (meaning(dialect, rule), unsafe { string(at, len) }) else {
+    let (Some(rules), Some(range)) = (rules(dialect, rule), unsafe { string(at, len) }) else {
         return null_mut();
     };
-    Range::try_parse(range, meaning).map_or(null_mut(), kept)
+    Range::try_parse(range, rules).map_or(null_mut(), kept)
 }
 
 /// Frees a range.
@@ -183,9 +188,8 @@ pub unsafe extern "C" fn range_best(
         versions.push(unsafe { bytes(at, *len as usize) });
         at = at.wrapping_add(*len as usize);
     }
-    let found =
-        if lowest != 0 { range.lowest_of(&versions) } else { range.highest_of(&versions) };
-    found.unwrap_or(count)
+    let which = if lowest != 0 { Extreme::Lowest } else { Extreme::Highest };
+    range.extreme_index(which, &versions).unwrap_or(count)
 }
 
 /// Returns 1 if no version is in a range, otherwise 0.

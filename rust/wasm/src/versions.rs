@@ -1,9 +1,7 @@
 //! Versions: reading one, why a string is invalid, and how two compare.
 
+use crate::shared::{explain_version, read_ref_in, Dialect, Reason, VersionRef};
 use crate::{bytes, state, status};
-use semver_parser::layers;
-use semver_parser::version::{read_ref_in, VersionRef};
-use semver_parser::{Dialect, Reason};
 
 /// Returns the borrowed version of a string in a dialect, or `None` if it is invalid, or if no
 /// dialect has the number.
@@ -57,7 +55,7 @@ pub unsafe extern "C" fn version_compare(
 #[no_mangle]
 pub unsafe extern "C" fn version_refused(at: *const u8, len: usize, dialect: i32) -> i32 {
     let Some(dialect) = Dialect::from_number(dialect) else { return status::INVALID_VERSION };
-    match layers::explain_version(unsafe { bytes(at, len) }, dialect) {
+    match explain_version(unsafe { bytes(at, len) }, dialect) {
         Ok(Some(refusal)) => refused(refusal.offset, refusal.reason),
         Ok(None) => 0,
         Err(_) => status::OUT_OF_MEMORY,

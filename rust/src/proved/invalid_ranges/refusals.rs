@@ -11,16 +11,6 @@ use crate::rattle_std::AllocError;
 use crate::proved::tool_ranges::dialect::Dialect;
 
 /// The error of an invalid range string: its offset and its reason.
-///
-/// ```
-/// use semver_parser::layers::explain_range;
-/// use semver_parser::{Dialect, RangeError, Reason};
-///
-/// let refusal = explain_range("1.2 || 3", Dialect::Cargo)?.unwrap();
-/// assert_eq!(refusal.error, RangeError::NotARange);
-/// assert_eq!((refusal.offset, refusal.reason), (4, Reason::CargoBars));
-/// # Ok::<(), semver_parser::AllocError>(())
-/// ```
 #[derive(Clone, Copy)]
 pub struct Refusal {
     /// `NotARange` or `NumberTooLarge`.

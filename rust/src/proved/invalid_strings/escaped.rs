@@ -9,12 +9,6 @@ use crate::rattle_std::fmt;
 /// `\r`, or its number in hexadecimal, as in `\u{2013}`. So no character of the string can end the
 /// line, control a terminal, or look like another one, each takes as many columns as it has bytes,
 /// and no table of Unicode decides what is shown.
-///
-/// ```
-/// use semver_parser::layers::Escaped;
-///
-/// assert_eq!(Escaped { text: "1 – 2\n" }.to_string(), r"1 \u{2013} 2\n");
-/// ```
 #[derive(Clone, Copy)]
 pub struct Escaped<'text> {
     /// The string.

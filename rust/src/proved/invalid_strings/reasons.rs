@@ -8,17 +8,11 @@ use crate::rattle_std::fmt;
 /// Why a string is an invalid version, or not a range. It is printed as its sentence.
 ///
 /// ```
-/// use semver_parser::{check_range, check_version, Dialect, Reason};
+/// use semver_parser::{Reason, Version};
 ///
-/// let of_version = |text| check_version(text, Dialect::Cargo).unwrap_err().reason().unwrap();
-/// assert_eq!(of_version("1.2"), Reason::NotThreeNumbers);
-/// assert_eq!(of_version("1.2.3-01"), Reason::LeadingZero);
-/// assert_eq!(of_version("1.2.3 x"), Reason::TextAfter);
-///
-/// let of_range = |text| check_range(text, Dialect::Cargo).unwrap_err().reason().unwrap();
-/// assert_eq!(of_range(">="), Reason::NumberExpected);
-/// assert_eq!(of_range(">=1 <2"), Reason::CargoCommas);
-/// assert_eq!(Reason::CargoCommas.to_string(), "Cargo separates comparators by commas");
+/// let error = "1.02.3".parse::<Version>().unwrap_err();
+/// assert_eq!(error.reason(), Some(Reason::LeadingZero));
+/// assert_eq!(Reason::LeadingZero.name(), "leading-zero");
 /// ```
 #[derive(Clone, Copy, PartialEq, Eq, Hash, Debug)]
 #[non_exhaustive]
@@ -78,16 +72,8 @@ pub enum Reason {
 
 impl Reason {
     /// Returns the reason for a number that is above the limit of a dialect.
-    ///
-    /// ```
-    /// use semver_parser::Reason;
-    /// use semver_parser::version::Grammar;
-    ///
-    /// assert_eq!(Reason::too_large_in(Grammar::Cargo), Reason::TooLarge);
-    /// assert_eq!(Reason::too_large_in(Grammar::Npm), Reason::NpmTooLarge);
-    /// ```
     #[must_use]
-    pub fn too_large_in(grammar: Grammar) -> Reason {
+    pub(crate) fn too_large_in(grammar: Grammar) -> Reason {
         match grammar {
             Grammar::Npm => Reason::NpmTooLarge,
             Grammar::Crate | Grammar::Cargo => Reason::TooLarge,
@@ -96,16 +82,8 @@ impl Reason {
 
     /// Returns the reason for a number of a range that can't be raised, since the bound above it
     /// would be above the limit of a dialect.
-    ///
-    /// ```
-    /// use semver_parser::Reason;
-    /// use semver_parser::version::Grammar;
-    ///
-    /// assert_eq!(Reason::bound_too_large_in(Grammar::Cargo), Reason::BoundTooLarge);
-    /// assert_eq!(Reason::bound_too_large_in(Grammar::Npm), Reason::NpmBoundTooLarge);
-    /// ```
     #[must_use]
-    pub fn bound_too_large_in(grammar: Grammar) -> Reason {
+    pub(crate) fn bound_too_large_in(grammar: Grammar) -> Reason {
         match grammar {
             Grammar::Npm => Reason::NpmBoundTooLarge,
             Grammar::Crate | Grammar::Cargo => Reason::BoundTooLarge,
@@ -113,27 +91,14 @@ impl Reason {
     }
 
     /// Returns the number of the reason in C, Python and JavaScript.
-    ///
-    /// ```
-    /// use semver_parser::Reason;
-    ///
-    /// assert_eq!(Reason::LeadingZero.number(), 3);
-    /// ```
     #[must_use]
-    pub fn number(self) -> i32 {
+    pub(crate) fn number(self) -> i32 {
         self.row().0
     }
 
     /// Returns the reason with a number, or `None` if no reason has it.
-    ///
-    /// ```
-    /// use semver_parser::Reason;
-    ///
-    /// assert_eq!(Reason::from_number(3), Some(Reason::LeadingZero));
-    /// assert_eq!(Reason::from_number(0), None);
-    /// ```
     #[must_use]
-    pub fn from_number(number: i32) -> Option<Reason> {
+    pub(crate) fn from_number(number: i32) -> Option<Reason> {
         match number {
             1 => Some(Reason::Empty),
             2 => Some(Reason::NotThreeNumbers),

@@ -15,15 +15,6 @@ use crate::proved::semver_texts::white_space::is_ascii_white_space;
 use crate::rattle_std::AllocError;
 
 /// The error of an invalid version string: its offset and its reason.
-///
-/// ```
-/// use semver_parser::layers::explain_version;
-/// use semver_parser::{Dialect, Reason};
-///
-/// let refusal = explain_version(b"1.2.3-01", Dialect::Npm)?.unwrap();
-/// assert_eq!((refusal.offset, refusal.reason), (8, Reason::LeadingZero));
-/// # Ok::<(), semver_parser::AllocError>(())
-/// ```
 #[derive(Clone, Copy)]
 pub struct Refusal {
     /// The byte offset of the first character that isn't allowed there in a version, or the length

@@ -40,14 +40,8 @@ pub enum Operator {
 impl Operator {
     /// Returns the number of the operator in the C API. The operators of comparators have the same
     /// numbers there.
-    ///
-    /// ```
-    /// use semver_parser::Operator;
-    ///
-    /// assert_eq!((Operator::Less.number(), Operator::Hyphen.number()), (0, 8));
-    /// ```
     #[must_use]
-    pub fn number(self) -> i32 {
+    pub(crate) fn number(self) -> i32 {
         match self {
             Operator::Less => 0,
             Operator::LessOrEqual => 1,
@@ -63,14 +57,8 @@ impl Operator {
 
     /// Returns the operator as it is written: `~` also for `~>`, `-` for a hyphen range, and an
     /// empty string if there is no operator.
-    ///
-    /// ```
-    /// use semver_parser::Operator;
-    ///
-    /// assert_eq!((Operator::GreaterOrEqual.sign(), Operator::Bare.sign()), (">=", ""));
-    /// ```
     #[must_use]
-    pub fn sign(self) -> &'static str {
+    pub(crate) fn sign(self) -> &'static str {
         match self {
             Operator::Bare => "",
             Operator::Equal => "=",

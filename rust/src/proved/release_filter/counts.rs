@@ -11,18 +11,6 @@ const FRONT: usize = 81;
 
 /// The number of lines of a text, and how many of them are kept or have no version. Each count
 /// stops at 2^64 - 1.
-///
-/// ```
-/// use semver_parser::filters::{LineOptions, Lines};
-/// use semver_parser::{Dialect, VersionRange};
-///
-/// let range = VersionRange::parse("^1", Dialect::Npm)?;
-/// let mut lines = Lines::new(range, vec![], LineOptions::new());
-/// lines.push(b"1.4.0\n2.0.0\n\n1.2\n", &mut Vec::new()).unwrap();
-/// let counts = lines.counts();
-/// assert_eq!((counts.lines, counts.kept, counts.empty, counts.invalid), (4, 1, 1, 1));
-/// # Ok::<(), semver_parser::Error>(())
-/// ```
 #[derive(Debug)]
 pub struct Counts {
     /// The lines that have ended. When the end of the text is taken, the last line is included.
@@ -38,18 +26,6 @@ pub struct Counts {
 }
 
 /// A line that is not empty and has no version.
-///
-/// ```
-/// use semver_parser::filters::{LineOptions, Lines};
-/// use semver_parser::{Dialect, VersionRange};
-///
-/// let range = VersionRange::parse("^1", Dialect::Npm)?;
-/// let mut lines = Lines::new(range, vec![], LineOptions::new());
-/// lines.push(b"1.4.0\n1.2\n", &mut Vec::new()).unwrap();
-/// let invalid = lines.counts().first_invalid.as_ref().unwrap();
-/// assert_eq!((invalid.number, invalid.front.as_slice()), (2, b"1.2".as_slice()));
-/// # Ok::<(), semver_parser::Error>(())
-/// ```
 #[derive(Debug)]
 pub struct InvalidLine {
     /// Its number, where the first line has number 1.

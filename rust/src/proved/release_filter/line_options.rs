@@ -6,24 +6,6 @@ use crate::proved::release_filter::line_texts::LineEnd;
 use crate::proved::release_filter::selection::Selection;
 
 /// The options of [`Lines`](crate::proved::release_filter::lines::Lines).
-///
-/// ```
-/// use semver_parser::filters::{LineOptions, Lines, Selection};
-/// use semver_parser::{Dialect, VersionRange};
-///
-/// let range = VersionRange::parse("^1", Dialect::Npm)?;
-/// let options = LineOptions {
-///     selection: Selection::Highest,
-///     strips_prefix: true,
-///     ..LineOptions::new()
-/// };
-/// let mut lines = Lines::new(range, vec!["v".to_string()], options);
-/// let mut kept = Vec::new();
-/// lines.push(b"v1.4.0\nv1.9.2\nv2.0.0\n", &mut kept).unwrap();
-/// lines.finish(&mut kept).unwrap();
-/// assert_eq!(kept, b"1.9.2\n");
-/// # Ok::<(), semver_parser::Error>(())
-/// ```
 #[derive(Clone, Copy, Debug)]
 pub struct LineOptions {
     /// Which of the kept lines are wanted.
@@ -39,14 +21,6 @@ pub struct LineOptions {
 impl LineOptions {
     /// Returns the default options: every kept line is wanted and stays as it is, a line feed ends
     /// a line, and a line without a version is not an error.
-    ///
-    /// ```
-    /// use semver_parser::filters::{LineEnd, LineOptions, Selection};
-    ///
-    /// let options = LineOptions::new();
-    /// assert!(options.selection == Selection::Each && options.ending == LineEnd::LineFeed);
-    /// assert!(!options.strips_prefix && !options.is_strict);
-    /// ```
     #[must_use]
     pub fn new() -> LineOptions {
         LineOptions {

@@ -12,20 +12,6 @@ use crate::rattle_std::AllocError;
 use crate::proved::tool_ranges::version_range::VersionRange;
 
 /// Why not all lines were taken.
-///
-/// ```
-/// use semver_parser::filters::{LineOptions, Lines, LinesError};
-/// use semver_parser::{Dialect, VersionRange};
-///
-/// let range = VersionRange::parse("^1", Dialect::Npm)?;
-/// let options = LineOptions { is_strict: true, ..LineOptions::new() };
-/// let mut lines = Lines::new(range, vec![], options);
-/// lines.push(b"1.4.0\n1.2", &mut Vec::new()).unwrap();
-/// let error = lines.finish(&mut Vec::new()).unwrap_err();
-/// assert!(matches!(error, LinesError::NoVersion(2)));
-/// assert_eq!(error.to_string(), "line 2 has no version");
-/// # Ok::<(), semver_parser::Error>(())
-/// ```
 #[derive(Clone, Copy, PartialEq, Eq, Debug)]
 pub enum LinesError {
     /// An allocation failed.
@@ -66,19 +52,6 @@ impl From<AllocError> for LinesError {
 /// A line that continues in the next piece is held until it ends, but no more of it than shows that
 /// its text is too long. So memory is bounded, however long a line is. After an error only the
 /// counts can be used.
-///
-/// ```
-/// use semver_parser::filters::{LineOptions, Lines};
-/// use semver_parser::{Dialect, VersionRange};
-///
-/// let range = VersionRange::parse("^1", Dialect::Npm)?;
-/// let mut lines = Lines::new(range, vec![], LineOptions::new());
-/// let mut kept = Vec::new();
-/// lines.push(b"2.0.0\n1.4.0", &mut kept).unwrap();
-/// lines.finish(&mut kept).unwrap();
-/// assert_eq!(kept, b"1.4.0");
-/// # Ok::<(), semver_parser::Error>(())
-/// ```
 pub struct Lines {
     fold: Fold,
     at_front: bool,
@@ -95,18 +68,6 @@ pub(crate) struct Fold {
 
 impl Lines {
     /// Returns the lines of a text from which no byte was taken yet.
-    ///
-    /// ```
-    /// use semver_parser::filters::{LineOptions, Lines};
-    /// use semver_parser::{Dialect, VersionRange};
-    ///
-    /// let range = VersionRange::parse("^1", Dialect::Npm)?;
-    /// let mut lines = Lines::new(range, vec!["v".to_string()], LineOptions::new());
-    /// let mut kept = Vec::new();
-    /// lines.push(b"v1.4.0\nv2.0.0\n1.4.0\nv1.9.2\n", &mut kept).unwrap();
-    /// assert_eq!(kept, b"v1.4.0\nv1.9.2\n");
-    /// # Ok::<(), semver_parser::Error>(())
-    /// ```
     #[must_use]
     pub fn new(
         filter: VersionRange,
@@ -144,20 +105,6 @@ impl Lines {
     /// A kept line is appended as it is, with the byte that ends it. Only a byte order mark at the
     /// beginning of the text is left out, and the prefix if prefixes are stripped. The output for a
     /// text doesn't depend on how it is cut into pieces.
-    ///
-    /// ```
-    /// use semver_parser::filters::{LineOptions, Lines};
-    /// use semver_parser::{Dialect, VersionRange};
-    ///
-    /// let range = VersionRange::parse("^1", Dialect::Npm)?;
-    /// let mut lines = Lines::new(range, vec![], LineOptions::new());
-    /// let mut kept = Vec::new();
-    /// lines.push(b"1.4.0\n2.0.0\n1.", &mut kept).unwrap();
-    /// assert_eq!(kept, b"1.4.0\n");
-    /// lines.push(b"9.2\n", &mut kept).unwrap();
-    /// assert_eq!(kept, b"1.4.0\n1.9.2\n");
-    /// # Ok::<(), semver_parser::Error>(())
-    /// ```
     pub fn push(
         &mut self,
         piece: &[u8],
@@ -187,20 +134,6 @@ impl Lines {
     /// A last line without an end gets one if the lines are sorted; otherwise it stays as it is.
     /// After that, no byte of a text was taken, as after [`Lines::new`], so another text can be
     /// pushed. The lines of both texts are counted.
-    ///
-    /// ```
-    /// use semver_parser::filters::{LineOptions, Lines, Selection};
-    /// use semver_parser::{Dialect, VersionRange};
-    ///
-    /// let range = VersionRange::parse("^1", Dialect::Npm)?;
-    /// let options = LineOptions { selection: Selection::Sorted, ..LineOptions::new() };
-    /// let mut lines = Lines::new(range, vec![], options);
-    /// let mut kept = Vec::new();
-    /// lines.push(b"1.9.0\n1.4.0", &mut kept).unwrap();
-    /// lines.finish(&mut kept).unwrap();
-    /// assert_eq!(kept, b"1.4.0\n1.9.0\n");
-    /// # Ok::<(), semver_parser::Error>(())
-    /// ```
     pub fn finish(&mut self, kept: &mut Vec<u8>) -> Result<(), LinesError> {
         let closes = self.fold.held.selection.closes_lines();
         self.end(closes, kept)?;
@@ -217,38 +150,11 @@ impl Lines {
     /// `OutOfMemory` if an allocation fails. `NoVersion`, only if the lines are strict, if the last
     /// line isn't empty and has no version; it is counted. After an error only the counts can be
     /// used.
-    ///
-    /// ```
-    /// use semver_parser::filters::{LineOptions, Lines};
-    /// use semver_parser::{Dialect, VersionRange};
-    ///
-    /// let range = VersionRange::parse("^1", Dialect::Npm)?;
-    /// let mut lines = Lines::new(range, vec![], LineOptions::new());
-    /// let mut kept = Vec::new();
-    /// lines.push(b"1.4.0", &mut kept).unwrap();
-    /// lines.end_file(&mut kept).unwrap();
-    /// lines.push(b"\xEF\xBB\xBF1.9.0", &mut kept).unwrap();
-    /// lines.finish(&mut kept).unwrap();
-    /// assert_eq!(kept, b"1.4.0\n1.9.0");
-    /// # Ok::<(), semver_parser::Error>(())
-    /// ```
     pub fn end_file(&mut self, kept: &mut Vec<u8>) -> Result<(), LinesError> {
         self.end(true, kept)
     }
 
     /// Returns the counts of the lines so far. It does not allocate.
-    ///
-    /// ```
-    /// use semver_parser::filters::{LineOptions, Lines};
-    /// use semver_parser::{Dialect, VersionRange};
-    ///
-    /// let range = VersionRange::parse("^1", Dialect::Cargo)?;
-    /// let mut lines = Lines::new(range, vec![], LineOptions::new());
-    /// lines.push(b"v1.2.0\n\n1.4.0\n", &mut Vec::new()).unwrap();
-    /// assert_eq!((lines.counts().lines, lines.counts().empty), (3, 1));
-    /// assert_eq!(lines.counts().first_invalid.as_ref().unwrap().front, b"v1.2.0");
-    /// # Ok::<(), semver_parser::Error>(())
-    /// ```
     #[must_use]
     pub fn counts(&self) -> &Counts {
         &self.fold.counts

@@ -10,7 +10,7 @@ pub use crate::proved::semver_versions::version::{
 };
 
 /// Reads a version string. Printed, the version is the string without the white space around it,
-/// and reading what was printed gives the same version. It is the version that [`read`] returns,
+/// and reading what was printed gives the same version. It is the version that `read` returns,
 /// except that an invalid string gives an error.
 ///
 /// # Errors
@@ -53,14 +53,6 @@ pub fn parse(input: &str) -> Result<Version, parser::Error<'_>> {
 
 /// Returns the result or the error of [`parse`], using only the tokens. It takes less time for an
 /// invalid version, if [`read_ref`] has shown that it is one.
-///
-/// ```
-/// use semver_parser::parser::Error;
-/// use semver_parser::version;
-///
-/// assert_eq!(version::parse_by_tokens("1.2"), Err(Error::UnexpectedEnd));
-/// assert_eq!(version::parse_by_tokens("1.2.3"), version::parse("1.2.3"));
-/// ```
 #[inline(never)]
 pub fn parse_by_tokens(input: &str) -> Result<Version, parser::Error<'_>> {
     let mut parser = Parser::new(input)?;

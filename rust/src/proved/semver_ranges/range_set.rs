@@ -152,15 +152,7 @@ impl RangeSet {
 
     /// Reads a range string in Cargo mode. Result and errors are those of `RangeSet::parse` with
     /// `Compat::Cargo`.
-    ///
-    /// ```
-    /// use semver_parser::RangeSet;
-    ///
-    /// assert_eq!(RangeSet::try_from_str("1.2.3")?.to_string(), ">=1.2.3 <2.0.0");
-    /// assert_eq!(RangeSet::try_from_str("1.2")?.to_string(), ">=1.2.0 <1.3.0");
-    /// # Ok::<(), semver_parser::RangeError>(())
-    /// ```
-    pub fn try_from_str(input: &str) -> Result<RangeSet, RangeError> {
+    pub(crate) fn try_from_str(input: &str) -> Result<RangeSet, RangeError> {
         RangeSet::try_parse(input, Compat::Cargo)
     }
 }

@@ -3,13 +3,6 @@
 
 use crate::rattle_std::prelude::*;
 /// A grammar of version and range strings.
-///
-/// ```
-/// use semver_parser::version::{self, Grammar};
-///
-/// assert!(version::read_ref_in(b"v1.2.3", Grammar::Npm).is_some());
-/// assert!(version::read_ref_in(b"v1.2.3", Grammar::Cargo).is_none());
-/// ```
 #[derive(Clone, Copy, Debug)]
 pub enum Grammar {
     /// The grammar of the crate `semver-parser`.
@@ -21,14 +14,6 @@ pub enum Grammar {
 }
 
 /// How a numeric identifier above 2^64 - 1 is read. Other numeric identifiers are numbers.
-///
-/// ```
-/// use semver_parser::Digits;
-/// use semver_parser::version::Grammar;
-///
-/// assert_eq!(Grammar::Crate.digits(), Digits::Kept);
-/// assert_eq!(Grammar::Npm.digits(), Digits::AnySize);
-/// ```
 #[derive(Clone, Copy, PartialEq, Eq, Hash, Debug)]
 pub enum Digits {
     /// As a string, as in the crate `semver-parser`.
@@ -40,13 +25,6 @@ pub enum Digits {
 impl Grammar {
     /// Returns how numeric identifiers are read: `Kept` in the crate's grammar, and `AnySize` in
     /// the others.
-    ///
-    /// ```
-    /// use semver_parser::version::Grammar;
-    ///
-    /// assert_eq!(Grammar::Npm.digits(), Grammar::Cargo.digits());
-    /// assert_ne!(Grammar::Crate.digits(), Grammar::Cargo.digits());
-    /// ```
     #[must_use]
     #[inline(always)]
     pub fn digits(self) -> Digits {

@@ -17,12 +17,12 @@ use crate::rattle_std::fmt;
 /// is below its pre-releases.
 ///
 /// ```
-/// use semver_parser::version;
+/// use semver_parser::{version, Version};
 ///
-/// let (version, rc) = (version::parse("1.0.0")?, version::parse("1.0.0-rc")?);
-/// assert!(version < rc);
-/// assert!(version::cmp_precedence(&version, &rc).is_gt());
-/// # Ok::<(), semver_parser::parser::Error>(())
+/// let (plain, rc) = (version::parse("1.0.0")?, version::parse("1.0.0-rc")?);
+/// assert!(plain < rc);
+/// assert!(Version::try_from(&plain)? > Version::try_from(&rc)?);
+/// # Ok::<(), semver_parser::Error>(())
 /// ```
 #[derive(Clone, PartialOrd, Ord, Hash, Debug, PartialEq, Eq)]
 pub struct Version {

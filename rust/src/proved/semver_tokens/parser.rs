@@ -71,14 +71,7 @@ impl<'input> Error<'input> {
     /// into a `String`.
     ///
     /// `Err` means out of memory; the error itself isn't changed.
-    ///
-    /// ```
-    /// use semver_parser::parser::Error;
-    ///
-    /// assert_eq!(Error::UnexpectedEnd.text()?, "expected more input");
-    /// # Ok::<(), semver_parser::AllocError>(())
-    /// ```
-    pub fn text(&self) -> Result<String, AllocError> {
+    pub(crate) fn text(&self) -> Result<String, AllocError> {
         self.fallible_to_string()
     }
 }

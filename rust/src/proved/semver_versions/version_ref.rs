@@ -23,7 +23,6 @@ use crate::rattle_std::cmp::Ordering;
 /// assert_eq!((version.pre(), version.build()), ("rc.4", "5aedf"));
 /// # Ok::<(), semver_parser::Error>(())
 /// ```
-#[derive(Debug)]
 pub struct VersionRef<'t> {
     pub(crate) major: u64,
     pub(crate) minor: u64,
@@ -37,16 +36,8 @@ pub struct VersionRef<'t> {
 
 impl<'t> VersionRef<'t> {
     /// Returns the borrowed version 0.0.0.
-    ///
-    /// ```
-    /// use semver_parser::{Dialect, VersionRef};
-    ///
-    /// let zero = VersionRef::parse("0.0.0", Dialect::Npm)?;
-    /// assert!(VersionRef::zero().compare(&zero).is_eq());
-    /// # Ok::<(), semver_parser::Error>(())
-    /// ```
     #[must_use]
-    pub fn zero() -> VersionRef<'t> {
+    pub(crate) fn zero() -> VersionRef<'t> {
         VersionRef {
             major: 0,
             minor: 0,
@@ -119,7 +110,7 @@ impl<'t> VersionRef<'t> {
     /// Returns the bytes of [`VersionRef::pre`]. They aren't converted to a `str`, for speed.
     #[must_use]
     #[inline(always)]
-    pub fn pre_bytes(&self) -> &'t [u8] {
+    pub(crate) fn pre_bytes(&self) -> &'t [u8] {
         self.pre
     }
 
@@ -155,64 +146,32 @@ impl<'t> VersionRef<'t> {
 
     /// Returns the byte offset of the pre-release's identifiers in the string that was read, or 0
     /// if there is no pre-release.
-    ///
-    /// ```
-    /// use semver_parser::{Dialect, VersionRef};
-    ///
-    /// assert_eq!(VersionRef::parse(" v1.2.3-rc.4", Dialect::Npm)?.pre_offset(), 8);
-    /// assert_eq!(VersionRef::parse(" v1.2.3", Dialect::Npm)?.pre_offset(), 0);
-    /// # Ok::<(), semver_parser::Error>(())
-    /// ```
     #[must_use]
     #[inline(always)]
-    pub fn pre_offset(&self) -> usize {
+    pub(crate) fn pre_offset(&self) -> usize {
         self.before_pre
     }
 
     /// Returns the byte offset of the build metadata's identifiers in the string that was read, or
     /// 0 if there is no build metadata.
-    ///
-    /// ```
-    /// use semver_parser::{Dialect, VersionRef};
-    ///
-    /// assert_eq!(VersionRef::parse("1.2.3-rc.4+5aedf", Dialect::Npm)?.build_offset(), 11);
-    /// assert_eq!(VersionRef::parse("1.2.3-rc.4", Dialect::Npm)?.build_offset(), 0);
-    /// # Ok::<(), semver_parser::Error>(())
-    /// ```
     #[must_use]
     #[inline(always)]
-    pub fn build_offset(&self) -> usize {
+    pub(crate) fn build_offset(&self) -> usize {
         self.before_build
     }
 
     /// Returns how a numeric identifier above 2^64 - 1 is read, in the dialect in which the string
     /// was read: as a string, which is what `semver-parser` does, or as a number.
-    ///
-    /// ```
-    /// use semver_parser::{Dialect, VersionRef};
-    ///
-    /// let version = VersionRef::parse("1.2.3", Dialect::Npm)?;
-    /// assert_eq!(version.digits(), Dialect::Npm.grammar().digits());
-    /// # Ok::<(), semver_parser::Error>(())
-    /// ```
     #[must_use]
     #[inline(always)]
-    pub fn digits(&self) -> Digits {
+    pub(crate) fn digits(&self) -> Digits {
         self.digits
     }
 
     /// Returns the same version, whose numeric identifiers are read as `digits` says.
-    ///
-    /// ```
-    /// use semver_parser::{Dialect, Digits, VersionRef};
-    ///
-    /// let version = VersionRef::parse("1.2.3", Dialect::Npm)?;
-    /// assert_eq!(version.read_by(Digits::Kept).digits(), Digits::Kept);
-    /// # Ok::<(), semver_parser::Error>(())
-    /// ```
     #[must_use]
     #[inline(always)]
-    pub fn read_by(&self, digits: Digits) -> VersionRef<'t> {
+    pub(crate) fn read_by(&self, digits: Digits) -> VersionRef<'t> {
         VersionRef {
             major: self.major,
             minor: self.minor,
@@ -229,7 +188,7 @@ impl<'t> VersionRef<'t> {
     /// are needed. It does not allocate.
     #[must_use]
     #[inline(always)]
-    pub fn compared_pre(&self) -> ByDigits<Joined<'t, InVersions>> {
+    pub(crate) fn compared_pre(&self) -> ByDigits<Joined<'t, InVersions>> {
         self.pre_by(self.digits)
     }
 
@@ -245,35 +204,15 @@ impl<'t> VersionRef<'t> {
     ///
     /// If there are identifiers, it allocates their list, and each identifier that isn't a number.
     /// `Err` means out of memory.
-    ///
-    /// ```
-    /// use semver_parser::version::Identifier;
-    /// use semver_parser::{Dialect, VersionRef};
-    ///
-    /// let version = VersionRef::parse("1.2.3-rc.4+5aedf", Dialect::Npm)?;
-    /// let wanted = [Identifier::AlphaNumeric("rc".to_string()), Identifier::Numeric(4)];
-    /// assert_eq!(version.pre_identifiers().unwrap(), wanted);
-    /// # Ok::<(), semver_parser::Error>(())
-    /// ```
     #[inline(always)]
-    pub fn pre_identifiers(&self) -> Result<Vec<Identifier>, AllocError> {
+    pub(crate) fn pre_identifiers(&self) -> Result<Vec<Identifier>, AllocError> {
         identifiers(self.pre)
     }
 
     /// Returns the identifiers of the build metadata. It allocates like
     /// [`VersionRef::pre_identifiers`].
-    ///
-    /// ```
-    /// use semver_parser::version::Identifier;
-    /// use semver_parser::{Dialect, VersionRef};
-    ///
-    /// let version = VersionRef::parse("1.2.3-rc.4+5aedf", Dialect::Npm)?;
-    /// let wanted = [Identifier::AlphaNumeric("5aedf".to_string())];
-    /// assert_eq!(version.build_identifiers().unwrap(), wanted);
-    /// # Ok::<(), semver_parser::Error>(())
-    /// ```
     #[inline(always)]
-    pub fn build_identifiers(&self) -> Result<Vec<Identifier>, AllocError> {
+    pub(crate) fn build_identifiers(&self) -> Result<Vec<Identifier>, AllocError> {
         identifiers(self.build)
     }
 
@@ -281,16 +220,8 @@ impl<'t> VersionRef<'t> {
     ///
     /// If there is a pre-release or build metadata, it allocates the lists of identifiers, and each
     /// identifier that isn't a number. `Err` means out of memory.
-    ///
-    /// ```
-    /// use semver_parser::{version, Dialect, VersionRef};
-    ///
-    /// let owned = VersionRef::parse("v1.2.3-rc.4+5aedf", Dialect::Npm)?.version().unwrap();
-    /// assert_eq!(owned, version::parse("1.2.3-rc.4+5aedf").unwrap());
-    /// # Ok::<(), semver_parser::Error>(())
-    /// ```
     #[inline(always)]
-    pub fn version(&self) -> Result<Version, AllocError> {
+    pub(crate) fn version(&self) -> Result<Version, AllocError> {
         Ok(Version {
             major: self.major,
             minor: self.minor,
@@ -316,19 +247,9 @@ impl<'t> VersionRef<'t> {
     /// Compares this borrowed version with a version by precedence (SemVer 2.0.0, section 11), like
     /// `version::cmp_precedence`. Build metadata is ignored. Numeric identifiers on both sides are
     /// read as in the borrowed version's dialect. It does not allocate.
-    ///
-    /// ```
-    /// use semver_parser::version::Version;
-    /// use semver_parser::{Dialect, VersionRef};
-    ///
-    /// let version = VersionRef::parse("1.2.3-rc.4+5aedf", Dialect::Npm)?;
-    /// let later: Version = "1.2.3-rc.11".parse()?;
-    /// assert!(version.cmp_precedence(&later).is_lt());
-    /// # Ok::<(), semver_parser::Error>(())
-    /// ```
     #[must_use]
     #[inline(always)]
-    pub fn cmp_precedence(&self, version: &Version) -> Ordering {
+    pub(crate) fn compare_with(&self, version: &Version) -> Ordering {
         compare(
             (self.major, self.minor, self.patch),
             self.compared_pre(),
@@ -339,18 +260,9 @@ impl<'t> VersionRef<'t> {
 
     /// Compares two borrowed versions by precedence (SemVer 2.0.0, section 11). Build metadata is
     /// ignored. Numeric identifiers are read in the dialect of each. It does not allocate.
-    ///
-    /// ```
-    /// use semver_parser::{Dialect, VersionRef};
-    ///
-    /// let version = VersionRef::parse("1.2.3-rc.4+5aedf", Dialect::Npm)?;
-    /// assert!(version.compare(&VersionRef::parse("1.2.3-rc.11", Dialect::Npm)?).is_lt());
-    /// assert!(version.compare(&VersionRef::parse("v1.2.3-rc.4", Dialect::Npm)?).is_eq());
-    /// # Ok::<(), semver_parser::Error>(())
-    /// ```
     #[must_use]
     #[inline(always)]
-    pub fn compare(&self, other: &VersionRef<'_>) -> Ordering {
+    pub(crate) fn compare(&self, other: &VersionRef<'_>) -> Ordering {
         compare(
             (self.major, self.minor, self.patch),
             self.compared_pre(),

@@ -197,7 +197,7 @@ pub fn add_compared(bytes: &[u8], sum: &mut Checksum) -> io::Result<()> {
         let read = borrowed.version()?;
         for other in OTHERS {
             if let Some(version) = version::read(other)? {
-                add_order(borrowed.cmp_precedence(&version), sum);
+                add_order(borrowed.compare_with(&version), sum);
                 add_order(version::cmp_precedence(&read, &version), sum);
                 add_order(read.cmp(&version), sum);
             }

@@ -32,16 +32,8 @@ pub enum Dialect {
 impl Dialect {
     /// Returns the grammar of versions in this dialect. Both dialects of the crate have the crate's
     /// grammar.
-    ///
-    /// ```
-    /// use semver_parser::version::Grammar;
-    /// use semver_parser::Dialect;
-    ///
-    /// assert!(matches!(Dialect::Npm.grammar(), Grammar::Npm));
-    /// assert!(matches!(Dialect::CrateNpm.grammar(), Grammar::Crate));
-    /// ```
     #[must_use]
-    pub fn grammar(self) -> Grammar {
+    pub(crate) fn grammar(self) -> Grammar {
         match self {
             Dialect::Cargo => Grammar::Cargo,
             Dialect::Npm => Grammar::Npm,
@@ -50,14 +42,8 @@ impl Dialect {
     }
 
     /// Returns the number of the dialect in C, Python and JavaScript.
-    ///
-    /// ```
-    /// use semver_parser::Dialect;
-    ///
-    /// assert_eq!(Dialect::Npm.number(), 1);
-    /// ```
     #[must_use]
-    pub fn number(self) -> i32 {
+    pub(crate) fn number(self) -> i32 {
         match self {
             Dialect::Cargo => 0,
             Dialect::Npm => 1,
@@ -67,15 +53,8 @@ impl Dialect {
     }
 
     /// Returns the dialect with a number, or `None` if no dialect has it.
-    ///
-    /// ```
-    /// use semver_parser::Dialect;
-    ///
-    /// assert_eq!(Dialect::from_number(1), Some(Dialect::Npm));
-    /// assert_eq!(Dialect::from_number(9), None);
-    /// ```
     #[must_use]
-    pub fn from_number(number: i32) -> Option<Dialect> {
+    pub(crate) fn from_number(number: i32) -> Option<Dialect> {
         match number {
             0 => Some(Dialect::Cargo),
             1 => Some(Dialect::Npm),

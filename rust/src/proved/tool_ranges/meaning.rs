@@ -15,11 +15,11 @@ use crate::proved::version_sets::{PreReleases, VersionSet};
 /// three rules for pre-releases are the same in every dialect.
 ///
 /// ```
-/// use semver_parser::{sets, Dialect, Meaning, PreReleases};
+/// use semver_parser::{satisfies, Dialect, PreReleases, Rules};
 ///
-/// let npm = Meaning { dialect: Dialect::Npm, pre_releases: PreReleases::Included };
-/// let lowest = sets::parse("^1.2", npm)?.lowest().unwrap();
-/// assert_eq!(lowest.unwrap().to_string(), "1.2.0-0");
+/// let rules = Dialect::Npm.with(PreReleases::Included);
+/// assert!(satisfies("1.3.0-rc.1", "^1.2", rules)?);
+/// assert_eq!(Rules::from(Dialect::Npm), Dialect::Npm.with(PreReleases::ByDialect));
 /// # Ok::<(), semver_parser::Error>(())
 /// ```
 #[derive(Clone, Copy, PartialEq, Eq, Hash, Debug)]

@@ -7,14 +7,6 @@ use crate::proved::semver_ranges::RangeError;
 use crate::proved::semver_versions::version::read_ref_in;
 
 /// Whether the version or the range is invalid.
-///
-/// ```
-/// use semver_parser::layers::satisfies;
-/// use semver_parser::Dialect;
-///
-/// let error = satisfies(b"1.2.3", "1.2 || 3", Dialect::Cargo.into()).unwrap_err();
-/// assert_eq!(error.to_string(), "invalid range: not a range");
-/// ```
 #[derive(Clone, Copy, PartialEq, Eq, Debug)]
 pub enum SatisfiesError {
     /// The version is invalid in the dialect.

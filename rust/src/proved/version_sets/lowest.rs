@@ -14,14 +14,6 @@ impl VersionSet {
     /// and only if the set is empty.
     ///
     /// It allocates only if the result is a pre-release. `Err` means out of memory.
-    ///
-    /// ```
-    /// use semver_parser::{sets, Dialect};
-    ///
-    /// let set = sets::parse(">1.0.0-rc.1 || >=2.0.0", Dialect::Npm)?;
-    /// assert_eq!(set.lowest().unwrap().unwrap().to_string(), "1.0.0-rc.1.0");
-    /// # Ok::<(), semver_parser::Error>(())
-    /// ```
     pub fn lowest(&self) -> Result<Option<Version>, AllocError> {
         let release = First::at(self.releases.first());
         lower(release, First::at(self.pre_releases.first()))
@@ -32,14 +24,6 @@ impl VersionSet {
     ///
     /// It takes time linear in the number of boundaries, and allocates only if the result is a
     /// pre-release. `Err` means out of memory.
-    ///
-    /// ```
-    /// use semver_parser::{sets, Dialect};
-    ///
-    /// let set = sets::parse(">1.2.9", Dialect::Npm)?;
-    /// assert_eq!(set.lowest_within(9).unwrap().unwrap().to_string(), "1.3.0");
-    /// # Ok::<(), semver_parser::Error>(())
-    /// ```
     pub fn lowest_within(&self, most: u64) -> Result<Option<Version>, AllocError> {
         let release = first_inside(&self.releases, most);
         lower(release, first_inside(&self.pre_releases, most))
@@ -47,15 +31,6 @@ impl VersionSet {
 
     /// Returns the lowest release in the set by precedence, or `None` if and only if the set
     /// contains no release. It does not allocate.
-    ///
-    /// ```
-    /// use semver_parser::sets::{self, Release};
-    /// use semver_parser::Dialect;
-    ///
-    /// let set = sets::parse(">1.0.0-rc.1 <1.0.0 || >=2.0.0", Dialect::Npm)?;
-    /// assert_eq!(set.lowest_release(), Some(Release { major: 2, minor: 0, patch: 0 }));
-    /// # Ok::<(), semver_parser::Error>(())
-    /// ```
     pub fn lowest_release(&self) -> Option<Release> {
         self.releases.first().copied()
     }

@@ -34,14 +34,6 @@ impl fmt::Display for VersionSet {
     /// is empty. If it contains pre-releases, they follow after `, pre-releases `, as a range that
     /// is to be compared by precedence. If it contains only pre-releases, the first comma is
     /// missing. It does not allocate, and its only error is the writer's.
-    ///
-    /// ```
-    /// use semver_parser::{sets, Dialect};
-    ///
-    /// let shown = |range| sets::parse(range, Dialect::Npm).unwrap().to_string();
-    /// assert_eq!(shown("1.2.0 || ~1.9"), "=1.2.0 || >=1.9.0 <1.10.0");
-    /// assert_eq!(shown("^1.2.3-b"), ">=1.2.3 <2.0.0, pre-releases >=1.2.3-b <1.2.3");
-    /// ```
     fn fmt(&self, f: &mut fmt::Formatter<'_>) -> fmt::Result {
         if self.pre_releases.is_empty() {
             return write_ranges(f, &self.releases);

@@ -5,13 +5,6 @@ use crate::rattle_std::prelude::*;
 use crate::proved::semver_versions::version::Version;
 
 /// A release: the three numbers of a version. Its derived order is precedence.
-///
-/// ```
-/// use semver_parser::sets::Release;
-///
-/// let [low, high] = [2, 10].map(|minor| Release { major: 1, minor, patch: 0 });
-/// assert!(low < high);
-/// ```
 #[derive(Clone, Copy, PartialEq, Eq, PartialOrd, Ord, Hash, Debug)]
 pub struct Release {
     /// The first number: 1 in 1.2.3.
@@ -24,15 +17,6 @@ pub struct Release {
 
 impl Release {
     /// Returns the numbers of a version, without its pre-release and build metadata.
-    ///
-    /// ```
-    /// use semver_parser::sets::Release;
-    /// use semver_parser::version;
-    ///
-    /// let release = Release::from_version(&version::parse("1.2.3-rc.1+b5")?);
-    /// assert_eq!(release, Release { major: 1, minor: 2, patch: 3 });
-    /// # Ok::<(), semver_parser::parser::Error>(())
-    /// ```
     pub fn from_version(version: &Version) -> Release {
         Release {
             major: version.major,
@@ -43,13 +27,6 @@ impl Release {
 
     /// Returns the release as a version, without a pre-release and build metadata. It does not
     /// allocate.
-    ///
-    /// ```
-    /// use semver_parser::sets::Release;
-    ///
-    /// let release = Release { major: 1, minor: 2, patch: 3 };
-    /// assert_eq!(release.version().to_string(), "1.2.3");
-    /// ```
     pub fn version(self) -> Version {
         Version {
             major: self.major,

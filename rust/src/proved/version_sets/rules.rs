@@ -6,16 +6,15 @@ use crate::rattle_std::prelude::*;
 /// every rule.
 ///
 /// ```
-/// use semver_parser::{satisfies, Dialect, Meaning, PreReleases};
+/// use semver_parser::{satisfies, Dialect, PreReleases};
 ///
-/// let npm = |pre_releases| Meaning { dialect: Dialect::Npm, pre_releases };
-/// assert!(satisfies("1.3.0-rc", "^1.2.0", npm(PreReleases::Included))?);
-/// assert!(!satisfies("1.3.0-rc", "^1.2.0", npm(PreReleases::Default))?);
-/// assert!(satisfies("1.2.3-rc", "^1.2.3-beta", npm(PreReleases::Default))?);
-/// assert!(!satisfies("1.2.3-rc", "^1.2.3-beta", npm(PreReleases::Excluded))?);
+/// let is_in = |rule| satisfies("1.3.0-rc.1", "^1.2", Dialect::Npm.with(rule));
+/// assert!(!is_in(PreReleases::ByDialect)? && is_in(PreReleases::Included)?);
+/// assert!(!is_in(PreReleases::Excluded)?);
 /// # Ok::<(), semver_parser::Error>(())
 /// ```
 #[derive(Clone, Copy, PartialEq, Eq, Hash, Debug)]
+#[non_exhaustive]
 pub enum PreReleases {
     /// No pre-release.
     Excluded,
@@ -29,14 +28,8 @@ pub enum PreReleases {
 
 impl PreReleases {
     /// Returns the number of the rule in C, Python and JavaScript.
-    ///
-    /// ```
-    /// use semver_parser::PreReleases;
-    ///
-    /// assert_eq!(PreReleases::Included.number(), 1);
-    /// ```
     #[must_use]
-    pub fn number(self) -> i32 {
+    pub(crate) fn number(self) -> i32 {
         match self {
             PreReleases::Default => 0,
             PreReleases::Included => 1,
@@ -45,15 +38,8 @@ impl PreReleases {
     }
 
     /// Returns the rule with a number, or `None` if no rule has it.
-    ///
-    /// ```
-    /// use semver_parser::PreReleases;
-    ///
-    /// assert_eq!(PreReleases::from_number(1), Some(PreReleases::Included));
-    /// assert_eq!(PreReleases::from_number(9), None);
-    /// ```
     #[must_use]
-    pub fn from_number(number: i32) -> Option<PreReleases> {
+    pub(crate) fn from_number(number: i32) -> Option<PreReleases> {
         match number {
             0 => Some(PreReleases::Default),
             1 => Some(PreReleases::Included),
@@ -72,7 +58,7 @@ impl PreReleases {
     #[must_use]
     pub fn name(self) -> &'static str {
         match self {
-            PreReleases::Default => "default",
+            PreReleases::Default => "by-dialect",
             PreReleases::Included => "included",
             PreReleases::Excluded => "excluded",
         }

@@ -20,15 +20,6 @@ use crate::rattle_std::AllocError;
 /// can't be combined or compared.
 ///
 /// The releases of `>=1.2.0 <2.0.0 || 3.1.4` have the boundaries 1.2.0, 2.0.0, 3.1.4 and 3.1.5.
-///
-/// ```
-/// use semver_parser::{sets, version, Dialect};
-///
-/// let set = sets::parse(">=1.2.0 <2.0.0 || 3.1.4", Dialect::Npm)?;
-/// assert!(set.contains(&version::parse("1.9.0")?) && set.contains(&version::parse("3.1.4+b5")?));
-/// assert!(!set.contains(&version::parse("2.0.0")?) && !set.contains(&version::parse("3.1.5")?));
-/// # Ok::<(), String>(())
-/// ```
 #[derive(Debug)]
 pub struct VersionSet {
     /// The boundaries of the releases.
@@ -42,13 +33,6 @@ pub struct VersionSet {
 impl VersionSet {
     /// Returns the empty set, for versions whose numeric identifiers are read as `digits` says. It
     /// does not allocate.
-    ///
-    /// ```
-    /// use semver_parser::sets::VersionSet;
-    /// use semver_parser::Digits;
-    ///
-    /// assert!(VersionSet::empty(Digits::AnySize).is_empty());
-    /// ```
     #[must_use]
     pub fn empty(digits: Digits) -> VersionSet {
         VersionSet::of_boundaries(digits, Vec::new(), Vec::new())
@@ -56,18 +40,6 @@ impl VersionSet {
 
     /// Returns the set of all versions, whose numeric identifiers are read as `digits` says. `Err`
     /// means out of memory.
-    ///
-    /// ```
-    /// use semver_parser::sets::{self, VersionSet};
-    /// use semver_parser::{version, Combination, Dialect};
-    ///
-    /// let set = sets::parse("^1.2.0", Dialect::Npm)?;
-    /// let all = VersionSet::all(set.digits()).unwrap();
-    /// let others = all.combined(Combination::Difference, &set).unwrap();
-    /// assert!(others.contains(&version::parse("1.1.9").unwrap()));
-    /// assert!(!others.contains(&version::parse("1.9.0").unwrap()));
-    /// # Ok::<(), semver_parser::Error>(())
-    /// ```
     pub fn all(digits: Digits) -> Result<VersionSet, AllocError> {
         let all = Conjunction::new();
         let mut ranges = Ranges::new();
@@ -89,45 +61,18 @@ impl VersionSet {
     }
 
     /// Returns how a numeric identifier above 2^64 - 1 is read, in the versions of the set.
-    ///
-    /// ```
-    /// use semver_parser::{sets, Dialect, Digits};
-    ///
-    /// assert_eq!(sets::parse("^1.2.0", Dialect::Cargo)?.digits(), Digits::AnySize);
-    /// assert_eq!(sets::parse("^1.2.0", Dialect::CrateCargo)?.digits(), Digits::Kept);
-    /// # Ok::<(), semver_parser::Error>(())
-    /// ```
     #[must_use]
     pub fn digits(&self) -> Digits {
         self.digits
     }
 
     /// Returns the releases of the set. It does not allocate.
-    ///
-    /// ```
-    /// use semver_parser::{sets, version, Dialect, Meaning, PreReleases};
-    ///
-    /// let npm = Meaning { dialect: Dialect::Npm, pre_releases: PreReleases::Included };
-    /// let releases = sets::parse(">=1.2.0-rc", npm)?.only_releases();
-    /// assert!(releases.contains(&version::parse("1.2.0")?));
-    /// assert!(!releases.contains(&version::parse("1.2.0-rc.2")?));
-    /// # Ok::<(), String>(())
-    /// ```
     #[must_use]
     pub fn only_releases(self) -> VersionSet {
         VersionSet::of_boundaries(self.digits, self.releases, Vec::new())
     }
 
     /// Returns the pre-releases of the set. It does not allocate.
-    ///
-    /// ```
-    /// use semver_parser::{sets, version, Dialect};
-    ///
-    /// let pre_releases = sets::parse(">=1.2.0-rc", Dialect::Npm)?.only_pre_releases();
-    /// assert!(pre_releases.contains(&version::parse("1.2.0-rc.2")?));
-    /// assert!(!pre_releases.contains(&version::parse("1.2.0")?));
-    /// # Ok::<(), String>(())
-    /// ```
     #[must_use]
     pub fn only_pre_releases(self) -> VersionSet {
         VersionSet::of_boundaries(self.digits, Vec::new(), self.pre_releases)
@@ -138,19 +83,6 @@ impl VersionSet {
     ///
     /// A `Version` keeps a numeric identifier above 2^64 - 1 as a string; here it is read as the
     /// set reads such identifiers.
-    ///
-    /// ```
-    /// use semver_parser::{sets, version, Dialect};
-    ///
-    /// let set = sets::parse("^1.2.0", Dialect::Cargo)?;
-    /// assert!(set.contains(&version::parse("1.9.0+b5")?));
-    /// assert!(!set.contains(&version::parse("2.0.0")?));
-    ///
-    /// let set = sets::parse("<1.0.0-10a", Dialect::Cargo)?;
-    /// let large = version::parse("1.0.0-18446744073709551616")?;
-    /// assert!(set.contains(&large)); // to Cargo it is a number, and a number is below `10a`
-    /// # Ok::<(), String>(())
-    /// ```
     #[must_use]
     pub fn contains(&self, version: &Version) -> bool {
         let release = Release::from_version(version);
@@ -188,15 +120,6 @@ impl VersionSet {
     }
 
     /// Returns whether a release is in the set, like [`VersionSet::contains`] for a version.
-    ///
-    /// ```
-    /// use semver_parser::sets::{self, Release};
-    /// use semver_parser::Dialect;
-    ///
-    /// let set = sets::parse("^1.2.0", Dialect::Cargo)?;
-    /// assert!(set.contains_release(Release { major: 1, minor: 9, patch: 0 }));
-    /// # Ok::<(), semver_parser::Error>(())
-    /// ```
     #[must_use]
     #[inline(always)]
     pub fn contains_release(&self, release: Release) -> bool {
@@ -207,15 +130,6 @@ impl VersionSet {
     /// version. Its identifiers are compared as they are in the string, and the numeric ones are
     /// read as the set reads them, whatever the dialect of the borrowed version. It does not
     /// allocate.
-    ///
-    /// ```
-    /// use semver_parser::{sets, Dialect, VersionRef};
-    ///
-    /// let set = sets::parse("^1.2.0", Dialect::Npm)?;
-    /// let version = VersionRef::parse("v1.9.0", Dialect::Npm)?;
-    /// assert!(set.contains_ref(&version));
-    /// # Ok::<(), semver_parser::Error>(())
-    /// ```
     #[must_use]
     #[inline(always)]
     pub fn contains_ref(&self, borrowed: &VersionRef<'_>) -> bool {

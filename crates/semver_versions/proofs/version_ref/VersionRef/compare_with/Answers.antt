@@ -4,7 +4,7 @@ use Rattle.semver_texts.specs.VersionViews.{version_value}
 use Rattle.semver_texts.specs.Versions.{VersionValue}
 use Rattle.semver_versions.specs.VersionRefs.{version_of}
 use Rattle.semver_versions.proofs.BorrowedVersions.{its_version}
-use Rattle.semver_versions.proofs.version_ref.VersionRef.cmp_precedence.Goals as goal
+use Rattle.semver_versions.proofs.version_ref.VersionRef.compare_with.Goals as goal
 
 pub returns-clause-precedence : goal.returns-clause-precedence
 returns-clause-precedence c = λ text v borrowed spells.

@@ -1,18 +1,9 @@
-//! The program `semver-parser`, whose code is the module `semver_parser_main`, and a line of help.
+//! The program `semver-parser`, and a line of help.
 
-use semver_parser::rattle_std::{self, HostRuntime};
 use std::io::Write;
 
-#[path = "../proved"]
-mod proved {
-    pub use ::semver_parser::proved::*;
-
-    #[allow(clippy::complexity, clippy::style, unused)]
-    pub mod semver_parser_main;
-}
-
-fn main() -> rattle_std::process::ExitCode {
-    let status = proved::semver_parser_main::main(HostRuntime);
+fn main() -> std::process::ExitCode {
+    let status = programs::semver_parser();
     explain_itself();
     status
 }

@@ -1,0 +1,104 @@
+//! The order of borrowed versions, and how they are printed.
+
+ghost use Rattle.std.specs.Prelude.{◌≡◌, Some};
+ghost use Rattle.std.specs.Fmt.{WritesOnOk};
+ghost use Rattle.semver_texts.specs.Digits.{plain_by};
+ghost use Rattle.semver_texts.specs.Precedence.{precedence};
+ghost use Rattle.semver_texts.specs.VersionViews.{version_value};
+ghost use Rattle.semver_versions.specs.VersionOrder.{order, part_text, semver_of};
+
+use crate::version_ref::VersionRef;
+use semver_texts::grammar::Digits;
+use semver_texts::identifiers::ByDigits;
+use semver_texts::precedence::compare;
+use semver_texts::version::Version;
+use std::cmp::Ordering;
+use std::fmt;
+
+impl<'t> VersionRef<'t> {
+    // Determined by: equation.
+    /// Compares two borrowed versions by precedence (SemVer 2.0.0, section 11). Build metadata is
+    /// ignored. In whichever dialect a version was read, an identifier of digits is a number. It
+    /// does not allocate.
+    ///
+    /// ```
+    /// use semver_parser::{Dialect, VersionRef};
+    ///
+    /// let version = VersionRef::parse("1.2.3-rc.4+5aedf", Dialect::Npm)?;
+    /// let other = VersionRef::parse("1.2.3-rc.11", Dialect::Npm)?;
+    /// assert!(version.cmp_precedence(&other).is_lt());
+    /// assert!(version.cmp_precedence(&VersionRef::parse("1.2.3-rc.4", Dialect::Npm)?).is_eq());
+    /// # Ok::<(), semver_parser::Error>(())
+    /// ```
+    #[must_use]
+    #[inline(always)]
+    pub fn cmp_precedence(&self, other: &VersionRef<'_>) -> Ordering
+        ensures { result ≡ precedence (semver_of self.now) (semver_of other.now) }
+    {
+        self.read_by(Digits::AnySize)
+            .compare(&other.read_by(Digits::AnySize))
+    }
+
+    // Determined by: equation.
+    /// Compares two borrowed versions by precedence. Versions of equal precedence are compared by
+    /// the bytes of their pre-releases, and then by those of their build metadata. So the result is
+    /// `Equal` if and only if both have the same numbers, pre-release and build metadata. It does
+    /// not allocate.
+    #[must_use]
+    #[inline(always)]
+    pub fn cmp_all(&self, other: &VersionRef<'_>) -> Ordering
+        ensures { result ≡ order self.now other.now }
+    {
+        let by_precedence = self.cmp_precedence(other);
+        if by_precedence.is_ne() {
+            return by_precedence;
+        }
+        let by_pre = self.pre.cmp(other.pre);
+        if by_pre.is_ne() {
+            return by_pre;
+        }
+        self.build.cmp(other.build)
+    }
+}
+
+// Determined by: equation.
+/// Compares two versions by precedence, where numeric identifiers of both are read as `digits` says.
+/// It does not allocate.
+#[must_use]
+pub fn compare_by(digits: Digits, version: &Version, other: &Version) -> Ordering
+    ensures { result ≡ precedence (plain_by digits (version_value version.now).plain)
+        (plain_by digits (version_value other.now).plain) }
+{
+    compare(
+        (version.major, version.minor, version.patch),
+        ByDigits::of(version.pre.as_slice(), digits),
+        (other.major, other.minor, other.patch),
+        ByDigits::of(other.pre.as_slice(), digits),
+    )
+}
+
+// Determined by: equation.
+impl<'t> fmt::Display for VersionRef<'t> {
+    ghost use Rattle.semver_versions.specs.VersionOrder.{ref_text};
+
+    ghost output = { λ version. Some (ref_text version) };
+
+    /// Writes `major.minor.patch`, then `-` and the pre-release if there is one, and then `+` and
+    /// the build metadata if there is any. It does not allocate, and its only error is the writer's.
+    fn fmt<W: fmt::Write>(&self, f: &mut fmt::Formatter<W>) -> fmt::Result {
+        let (major, minor, patch) = (self.major, self.minor, self.patch);
+        write!(f, "{major}.{minor}.{patch}")?;
+        write_part(f, "-", self.pre())?;
+        write_part(f, "+", self.build())
+    }
+}
+
+/// Writes a part after its mark, if there is one.
+fn write_part<W: fmt::Write>(f: &mut fmt::Formatter<W>, mark: &str, part: &str) -> fmt::Result
+    ensures { WritesOnOk W.write_str_gives f.old result (part_text mark.now part.now) f.new }
+{
+    if part.is_empty() {
+        return Ok(());
+    }
+    write!(f, "{mark}{part}")
+}

@@ -1,0 +1,5 @@
+//! The program `compare-ranges`.
+
+fn main() -> std::process::ExitCode {
+    programs::compare_ranges()
+}

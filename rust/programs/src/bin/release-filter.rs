@@ -1,0 +1,5 @@
+//! The program `release-filter`.
+
+fn main() -> std::process::ExitCode {
+    programs::release_filter()
+}

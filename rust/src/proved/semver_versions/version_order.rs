@@ -1,0 +1,82 @@
+// Made by tools/erase.py from crates/semver_versions/src/version_order.rt; not edited by hand.
+//! The order of borrowed versions, and how they are printed.
+
+use crate::rattle_std::prelude::*;
+use crate::proved::semver_versions::version_ref::VersionRef;
+use crate::proved::semver_texts::grammar::Digits;
+use crate::proved::semver_texts::identifiers::ByDigits;
+use crate::proved::semver_texts::precedence::compare;
+use crate::proved::semver_texts::version::Version;
+use crate::rattle_std::cmp::Ordering;
+use crate::rattle_std::fmt;
+
+impl<'t> VersionRef<'t> {
+    /// Compares two borrowed versions by precedence (SemVer 2.0.0, section 11). Build metadata is
+    /// ignored. In whichever dialect a version was read, an identifier of digits is a number. It
+    /// does not allocate.
+    ///
+    /// ```
+    /// use semver_parser::{Dialect, VersionRef};
+    ///
+    /// let version = VersionRef::parse("1.2.3-rc.4+5aedf", Dialect::Npm)?;
+    /// let other = VersionRef::parse("1.2.3-rc.11", Dialect::Npm)?;
+    /// assert!(version.cmp_precedence(&other).is_lt());
+    /// assert!(version.cmp_precedence(&VersionRef::parse("1.2.3-rc.4", Dialect::Npm)?).is_eq());
+    /// # Ok::<(), semver_parser::Error>(())
+    /// ```
+    #[must_use]
+    #[inline(always)]
+    pub fn cmp_precedence(&self, other: &VersionRef<'_>) -> Ordering {
+        self.read_by(Digits::AnySize)
+            .compare(&other.read_by(Digits::AnySize))
+    }
+
+    /// Compares two borrowed versions by precedence. Versions of equal precedence are compared by
+    /// the bytes of their pre-releases, and then by those of their build metadata. So the result is
+    /// `Equal` if and only if both have the same numbers, pre-release and build metadata. It does
+    /// not allocate.
+    #[must_use]
+    #[inline(always)]
+    pub(crate) fn cmp_all(&self, other: &VersionRef<'_>) -> Ordering {
+        let by_precedence = self.cmp_precedence(other);
+        if by_precedence.is_ne() {
+            return by_precedence;
+        }
+        let by_pre = self.pre.cmp(other.pre);
+        if by_pre.is_ne() {
+            return by_pre;
+        }
+        self.build.cmp(other.build)
+    }
+}
+
+/// Compares two versions by precedence, where numeric identifiers of both are read as `digits` says.
+/// It does not allocate.
+#[must_use]
+pub fn compare_by(digits: Digits, version: &Version, other: &Version) -> Ordering {
+    compare(
+        (version.major, version.minor, version.patch),
+        ByDigits::of(version.pre.as_slice(), digits),
+        (other.major, other.minor, other.patch),
+        ByDigits::of(other.pre.as_slice(), digits),
+    )
+}
+
+impl<'t> fmt::Display for VersionRef<'t> {
+    /// Writes `major.minor.patch`, then `-` and the pre-release if there is one, and then `+` and
+    /// the build metadata if there is any. It does not allocate, and its only error is the writer's.
+    fn fmt(&self, f: &mut fmt::Formatter<'_>) -> fmt::Result {
+        let (major, minor, patch) = (self.major, self.minor, self.patch);
+        write!(f, "{major}.{minor}.{patch}")?;
+        write_part(f, "-", self.pre())?;
+        write_part(f, "+", self.build())
+    }
+}
+
+/// Writes a part after its mark, if there is one.
+fn write_part(f: &mut fmt::Formatter<'_>, mark: &str, part: &str) -> fmt::Result {
+    if part.is_empty() {
+        return Ok(());
+    }
+    write!(f, "{mark}{part}")
+}

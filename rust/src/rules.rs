@@ -1,0 +1,86 @@
+//! The rules by which a range is read, and their names.
+
+use crate::{Dialect, Error, PreReleases, Rules};
+use core::fmt::{self, Display, Formatter};
+use core::str::FromStr;
+
+impl Dialect {
+    /// All dialects.
+    ///
+    /// ```
+    /// use semver_parser::Dialect;
+    ///
+    /// let names = Dialect::ALL.map(Dialect::name);
+    /// assert_eq!(names, ["cargo", "npm", "crate-cargo", "crate-npm"]);
+    /// ```
+    pub const ALL: [Dialect; 4] = [
+        Dialect::Cargo,
+        Dialect::Npm,
+        Dialect::CrateCargo,
+        Dialect::CrateNpm,
+    ];
+
+    /// Returns the rules of the dialect with this rule for pre-releases.
+    ///
+    /// ```
+    /// use semver_parser::{satisfies, Dialect, PreReleases};
+    ///
+    /// let all = Dialect::Npm.with(PreReleases::Included);
+    /// assert!(satisfies("1.3.0-rc.1", "^1.2", all)?);
+    /// # Ok::<(), semver_parser::Error>(())
+    /// ```
+    #[must_use]
+    pub const fn with(self, pre_releases: PreReleases) -> Rules {
+        Rules { dialect: self, pre_releases }
+    }
+}
+
+impl PreReleases {
+    /// The rule of the dialect: a pre-release counts if Cargo or npm match it by default.
+    // Rattle still calls it `Default`.
+    #[allow(non_upper_case_globals)]
+    pub const ByDialect: PreReleases = PreReleases::Default;
+
+    const ALL: [PreReleases; 3] =
+        [PreReleases::ByDialect, PreReleases::Included, PreReleases::Excluded];
+}
+
+impl From<Dialect> for Rules {
+    /// Returns `dialect.with(PreReleases::ByDialect)`.
+    fn from(dialect: Dialect) -> Rules {
+        dialect.with(PreReleases::ByDialect)
+    }
+}
+
+impl Default for PreReleases {
+    /// Returns [`PreReleases::ByDialect`].
+    fn default() -> PreReleases {
+        PreReleases::ByDialect
+    }
+}
+
+macro_rules! named {
+    ($($type:ident: $expected:literal;)*) => {$(
+        impl Display for $type {
+            /// Writes the name.
+            fn fmt(&self, f: &mut Formatter<'_>) -> fmt::Result {
+                f.pad(self.name())
+            }
+        }
+
+        impl FromStr for $type {
+            type Err = Error;
+
+            /// Returns the value that has the name.
+            fn from_str(name: &str) -> Result<$type, Error> {
+                let found = $type::ALL.into_iter().find(|it| it.name() == name);
+                found.ok_or_else(|| Error::unknown_name(name, $expected))
+            }
+        }
+    )*};
+}
+
+named! {
+    Dialect: "cargo, npm, crate-cargo or crate-npm";
+    PreReleases: "by-dialect, included or excluded";
+}
