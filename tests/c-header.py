@@ -125,6 +125,8 @@ def constants_in_rust():
     ):
         body = re.search(rf'fn {function}\(.*?\n    \}}', read(f'rust/src/proved/{path}.rs'), re.S)[0]
         for name, number in re.findall(rf'{kind}::(\w+) => \(?\s*(\d+)', body):
+            # Rattle still calls the rule ByDialect by this name.
+            name = 'ByDialect' if name == 'Default' else name
             yield prefix + re.sub(r'([A-Z])', r'_\1', name).upper(), number
 
 

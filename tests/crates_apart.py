@@ -16,6 +16,8 @@ from pathlib import Path
 
 # The visibility of functions and traits. Rule 17 makes `main` public.
 VISIBLE = re.compile(r'^( *)(pub(?:\(\w+\))?)(?= (?:const )?(?:fn|trait) (?!main\())', re.M)
+# A type that rust/interface.txt lists is `#[non_exhaustive]` only in the Rust crate.
+OPEN = re.compile(r'^#\[non_exhaustive\]\n(pub (?:struct|enum) \w+)', re.M)
 PACKAGE = '[package]\nname = "{}"\nversion = "{}"\n'
 EDITION = 'edition = "2021"\n\n[features]\ndefault = ["std"]\nstd = []\n\n[dependencies]\n'
 
@@ -62,7 +64,9 @@ def write_crate(top, directory, crate, uses):
     for path in sorted(erased.rglob('*.rs')):
         module = path.relative_to(erased).with_suffix('').as_posix()
         text = path.read_text(encoding='utf-8')
-        text = as_in_source(text, source_of(top, crate, module), path)
+        source = source_of(top, crate, module)
+        text = as_in_source(text, source, path)
+        text = OPEN.sub(lambda found, source=source: found[found[0] not in source], text)
         text = text.replace(f'crate::proved::{crate}::', 'crate::')
         text = text.replace('crate::proved::', '').replace('crate::rattle_std::', 'rattle_std::')
         if module == 'mod':
@@ -97,7 +101,7 @@ def write_programs(top, directory, crates, modules):
     text = changed(text, r'^#\[path = "[^\n]*\nmod erased;\n', '')
     text = changed(text, r'^#\[path = "[^\n]*\n#\[allow[^\n]*\nmod rattle_std;\n', '')
     text = changed(text, r'^#\[path = "../../src/proved"\]\n.*?^mod proved \{.*?^\}\n', modules)
-    text = changed(text, r'^#\[cfg\(not\(feature = "std"\)\)\]\nuse erased as proved;\n', '')
+    text = changed(text, r'^#\[cfg[^\n]*\nuse erased as proved;\n', '')
     write(directory / 'programs/src/lib.rs', text)
     version = re.search('^version = "(.*)"$', (source / 'Cargo.toml').read_text('utf-8'), re.M)[1]
     write_manifest(directory / 'programs', 'programs', ['rattle_std', *crates], version)

@@ -208,7 +208,7 @@ def must_fail(top, right):
         for part in ('crates', 'rust/src/proved'):
             shutil.copytree(f'{top}/{part}', f'{copy}/{part}')
         shutil.copy(f'{top}/crates.txt', copy)
-        shutil.copy(f'{top}/rust/private.txt', f'{copy}/rust')
+        shutil.copy(f'{top}/rust/interface.txt', f'{copy}/rust')
         for what, name, changed in plants(copy):
             if [file for file, _ in refused(copy, right, changed)] != [name]:
                 missed.append(f'not refused: {what}, {name}')

@@ -115,8 +115,8 @@ class Source:
         return ('pub(crate) ' if less else match['public']) + match['signature']
 
     def unlisted(self, block, name):
-        """Returns the block of a type in which a function isn't public: rust/private.txt lists
-        it."""
+        """Returns the block of a type in which a function isn't public: rust/interface.txt
+        lists it."""
         made, times = re.subn(rf'\bpub (?=(?:const )?fn {name} )', 'pub(crate) ', block)
         self.counts[8] += times
         return made
@@ -233,9 +233,12 @@ class Source:
         for (owner, old), (new, count) in self.world.renames.items():
             self.put(9, rf'\b{owner} :: {old}\b', f'{owner} :: {new}')
             self.calls(9, old, count, new)
-        for owner, name in self.world.private:
-            self.code = re.sub(rf'\bimpl (?:<[^{{]*?> )?{owner} (?:<[^{{]*?> )?{pair("b")}',
-                               lambda match, name=name: self.unlisted(match[0], name), self.code)
+        for owner, *names in self.world.listed:
+            for name in names:
+                self.code = re.sub(rf'\bimpl (?:<[^{{]*?> )?{owner} (?:<[^{{]*?> )?{pair("b")}',
+                                   lambda match, name=name: self.unlisted(match[0], name), self.code)
+            if not names:
+                self.put(8, rf'\bpub (?=(?:struct|enum) {owner} )', '#[non_exhaustive] pub ')
         self.calls(12, r'(push|push_str|extend_from_slice|reserve_exact)', 1, r'fallible_\1')
         for step in LAST:
             self.put(*step)
@@ -282,9 +285,9 @@ class World:
         imported = {at: set(self.imported(*at)) for at in self.files}
         while more := {at for at in self.files if imported[at] & self.std} - self.std:
             self.std |= more
-        lists = f'{top}/rust/private.txt'
+        lists = f'{top}/rust/interface.txt'
         lines = read(lists).splitlines() if os.path.exists(lists) else []
-        self.private = [line.split('::') for line in lines if line and line[0] != '#']
+        self.listed = [line.split('::') for line in lines if line and line[0] != '#']
         self.renames = {}
         for code, _ in self.codes.values():
             self.renames.update(renames(code))

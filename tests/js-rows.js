@@ -13,7 +13,7 @@ const semver = require(path.resolve(process.argv[2]));
 // The dialects and rules for pre-releases, by the names in the rows.
 const meaning = (dialect, preReleases) => ({ dialect, preReleases });
 const MEANINGS = {
-    'meant-as-cargo': meaning('cargo', 'by-dialect'), 'meant-as-npm': meaning('npm', 'default'),
+    'meant-as-cargo': meaning('cargo', 'by-dialect'), 'meant-as-npm': meaning('npm', 'by-dialect'),
     'meant-with-all-as-cargo': meaning('cargo', 'included'), 'meant-with-all-as-npm': meaning('npm', 'included'),
 };
 const PAIRS = {}, SETS = {}, WHOLES = {}, WHOLE_PAIRS = {};

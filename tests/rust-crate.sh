@@ -60,7 +60,7 @@ cargo_tests() {
         quietly clippy cargo clippy --quiet --all-targets -- -D warnings $names
         # In what else is compiled, json.rs shifts by numbers whose type is a guess.
         for features in --all-features --no-default-features; do
-            quietly clippy cargo clippy --quiet --lib $features -- \
+            quietly clippy cargo clippy --quiet -p semver-parser-proved --lib $features -- \
                 -D warnings $names -D clippy::default_numeric_fallback
         done
         says_what_must_be_used

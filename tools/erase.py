@@ -217,10 +217,11 @@ def laws(code, files):
 
 
 def listed(top):
-    """Returns the functions of rust/private.txt, as pairs of a type and a name."""
-    path = f'{top}/rust/private.txt'
+    """Returns what rust/interface.txt lists: functions as pairs of a type and a name, and types as
+    pairs without a name."""
+    path = f'{top}/rust/interface.txt'
     lines = open(path).read().splitlines() if os.path.exists(path) else []
-    return {tuple(line.split('::')) for line in lines if line and not line.startswith('#')}
+    return {(*line.split('::'), '')[:2] for line in lines if line and not line.startswith('#')}
 
 
 def type_with(code, i):
@@ -238,8 +239,16 @@ def type_with(code, i):
 
 
 def visible(code, private, seen):
-    """Rule 8: makes a function with a `requires`, and one that rust/private.txt lists,
-    `pub(crate)`. Rule 17: makes `main` callable from another file."""
+    """Rule 8: makes a function with a `requires`, and one that rust/interface.txt lists,
+    `pub(crate)`, and a type that it lists `#[non_exhaustive]`. Rule 17: makes `main` callable from
+    another file."""
+    for kind in ('struct', 'enum'):
+        for pub, _, name in ((*found, code.after(found[1])) for found in code.find('pub', kind)):
+            if (code.text(name), '') in private:
+                if (code.text(name), '') in seen:
+                    code.stop(name, 'no rule for the name of two types, which is listed')
+                seen.add((code.text(name), ''))
+                code.t[pub].text = '#[non_exhaustive]\npub'
     for (i,) in code.find('fn'):
         before = code.before(i)
         if code.text(before) == 'const':
@@ -477,7 +486,7 @@ def erase():
         inner = 'mod' if code.module in ('lib', 'main') else code.module
         yield f'{code.crate}/{inner}.rs', layout(code, (code.crate, code.module) in needing)
     for owner, name in sorted(private - seen):
-        sys.exit(f'rust/private.txt: {owner}::{name}, which is no public function of a type')
+        sys.exit(f'rust/interface.txt: no public type or function {owner} {name}')
 
 
 if __name__ == '__main__':

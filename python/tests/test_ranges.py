@@ -266,7 +266,7 @@ class Keeping(unittest.TestCase):
         function."""
         stored = (
             b"csemver_parser\n_unpickled_range\n"
-            b"(Vnpm\nVdefault\n(V^1.2\nV>=1.4.0\n(V&\nI0\nI1\ntttR."
+            b"(Vnpm\nVby-dialect\n(V^1.2\nV>=1.4.0\n(V&\nI0\nI1\ntttR."
         )
         one, other = Range("^1.2", dialect="npm"), Range(">=1.4.0", dialect="npm")
         self.assertEqual(pickle.loads(stored), one & other)

@@ -187,28 +187,34 @@ fn the_dialect_says_what_the_highest_version_is() -> Result {
 
 #[test]
 fn each_error_converts() {
+    fn from_version() -> Result {
+        version::parse("1")?;
+        Ok(())
+    }
+    fn from_token() -> Result {
+        lexer::Lexer::new("/").next().unwrap()?;
+        Ok(())
+    }
+    fn from_range() -> Result {
+        RangeSet::try_parse("a", Compat::Npm)?;
+        Ok(())
+    }
     let cargo = VersionRange::parse("1", Dialect::Cargo).unwrap();
     let npm = VersionRange::parse("1", Dialect::Npm).unwrap();
     let different = "the ranges were read by different rules";
-    let all: [(ErrorKind, &str, Result<()>); 7] = [
-        (ErrorKind::InvalidVersion, "invalid version: expected more input", {
-            (|| Ok(drop(version::parse("1")?)))()
-        }),
-        (ErrorKind::InvalidVersion, "invalid version: unexpected character '/'", {
-            (|| Ok(drop(lexer::Lexer::new("/").next().unwrap()?)))()
-        }),
-        (ErrorKind::InvalidRange, "invalid range: not a range", {
-            (|| Ok(drop(RangeSet::try_parse("a", Compat::Npm)?)))()
-        }),
+    let all = [
+        (ErrorKind::InvalidVersion, "invalid version: expected more input", from_version()),
+        (ErrorKind::InvalidVersion, "invalid version: unexpected character '/'", from_token()),
+        (ErrorKind::InvalidRange, "invalid range: not a range", from_range()),
         (
             ErrorKind::UnknownName,
             "unknown name \"yarn\": expected cargo, npm, crate-cargo or crate-npm",
-            (|| Ok(drop("yarn".parse::<Dialect>()?)))(),
+            "yarn".parse::<Dialect>().map(drop),
         ),
         (
             ErrorKind::UnknownName,
             "unknown name \"\": expected by-dialect, included or excluded",
-            (|| Ok(drop("".parse::<PreReleases>()?)))(),
+            "".parse::<PreReleases>().map(drop),
         ),
         (ErrorKind::DifferentRules, different, cargo.union(&npm).map(drop)),
         (ErrorKind::DifferentRules, different, npm.difference(&cargo).map(drop)),

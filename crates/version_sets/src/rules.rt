@@ -16,7 +16,6 @@ ghost use Rattle.version_sets.specs.declared.rules.PreReleases.{PreReleases as S
 /// # Ok::<(), semver_parser::Error>(())
 /// ```
 #[derive(Clone, Copy, PartialEq, Eq, Hash, Debug)]
-#[non_exhaustive]
 pub enum PreReleases {
     /// No pre-release.
     Excluded,

@@ -9,9 +9,9 @@ mod erased;
 #[allow(dead_code, unused_imports, unused_macros)]
 mod rattle_std;
 
-// In `erased` the programs are only for tests.
+// `erased` has the programs only if it is compiled for tests.
 #[path = "../../src/proved"]
-#[cfg(feature = "std")]
+#[cfg(all(feature = "std", not(test)))]
 #[allow(clippy::complexity, clippy::style, unused)]
 mod proved {
     pub use crate::erased::*;
@@ -20,7 +20,7 @@ mod proved {
     pub mod release_filter_main;
     pub mod semver_parser_main;
 }
-#[cfg(not(feature = "std"))]
+#[cfg(any(test, not(feature = "std")))]
 use erased as proved;
 
 #[cfg(feature = "std")]

@@ -135,6 +135,7 @@ pub struct Span {
 /// # Ok::<(), semver_parser::Error>(())
 /// ```
 #[derive(Clone, Copy, PartialEq, Eq, Debug)]
+#[non_exhaustive]
 pub struct PartialVersion<'text> {
     /// The position in the string, including a `v`.
     pub span: Span,
@@ -261,6 +262,7 @@ fn write_part(f: &mut fmt::Formatter<'_>, mark: &str, part: &str) -> fmt::Result
 /// # Ok::<(), semver_parser::Error>(())
 /// ```
 #[derive(Clone, Copy, PartialEq, Eq, Debug)]
+#[non_exhaustive]
 pub struct Term<'text> {
     /// The index of its range: the number of `||` before it.
     pub range: usize,

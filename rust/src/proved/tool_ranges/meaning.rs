@@ -23,6 +23,7 @@ use crate::proved::version_sets::{PreReleases, VersionSet};
 /// # Ok::<(), semver_parser::Error>(())
 /// ```
 #[derive(Clone, Copy, PartialEq, Eq, Hash, Debug)]
+#[non_exhaustive]
 pub struct Meaning {
     /// The dialect in which the string is read.
     pub dialect: Dialect,
