@@ -1,15 +1,37 @@
-//! Makes the public calls that take a string, for tests/parallel/growth.py.
+//! Makes the calls that take a string, for tests/parallel/growth.py: the public ones of the Rust crate,
+//! and some for programs and for C, from the proved sources.
 //!
 //! - `growth` prints the names of the calls, a line each.
 //! - `growth CALL LENGTH` makes a call with a string of each shape, which has about so many bytes,
 //!   and then with one that is ten times as long. It prints a line for each shape.
 
-use semver_parser::filters::{filter_text, release_meets, LineOptions, Lines};
-use semver_parser::layers::version_at;
-use semver_parser::{check_range, check_version, comparators, satisfies, sets, terms, version};
+extern crate alloc;
+
+#[path = "../../rust/src/proved/mod.rs"]
+mod proved;
+#[path = "../../rust/src/rattle_std.rs"]
+#[allow(dead_code, unused_imports, unused_macros)]
+mod rattle_std;
+#[path = "../../rust/capi/src/shared.rs"]
+#[allow(dead_code, unused_imports)]
+mod shared;
+
+use proved::release_filter::{LineOptions, Lines};
+use proved::semver_versions::version::read;
+use proved::tool_ranges::meaning;
+use semver_parser::filters::{filter_text, release_meets};
+use semver_parser::{comparators, satisfies, terms, version};
 use semver_parser::{lexer::Lexer, parser::Parser};
-use semver_parser::{Compat, Dialect, RangeSet, VersionRange, VersionRef};
+use semver_parser::{Compat, Dialect, RangeSet, Version, VersionRange, VersionRef};
+use shared::{explain_version, read_ref_in, version_at, PreReleases, Rules};
 use std::hint::black_box;
+
+/// Returns the rules of a dialect in the proved sources, which this program has compiled itself.
+fn rules_of(dialect: Dialect) -> Rules {
+    let found = (0..).map_while(shared::Dialect::from_number).find(|it| it.name() == dialect.name());
+    let pre_releases = PreReleases::from_number(0).unwrap();
+    Rules { dialect: found.unwrap(), pre_releases }
+}
 
 /// A string is the first part, the second one repeated, and the third one.
 const SHAPES: [(&str, &str, &str); 27] = [
@@ -47,18 +69,18 @@ type NamedCall = (String, Box<dyn Fn(&str)>);
 
 /// The calls in a dialect.
 const OF_DIALECT: [Call<Dialect>; 13] = [
-    ("check_version", |text, dialect| show(check_version(text, dialect))),
-    ("VersionRef::parse_bytes", |text, dialect| {
+    ("Version::parse", |text, dialect| show(Version::parse(text, dialect))),
+    ("explain_version", |text, dialect| {
         let not_utf8: Vec<u8> = text.bytes().map(|byte| byte ^ 0x80).collect();
-        black_box(VersionRef::parse_bytes(&not_utf8, dialect)).ok();
+        black_box(explain_version(&not_utf8, rules_of(dialect).dialect)).ok();
     }),
-    ("VersionRef::parse, compare", |text, dialect| {
+    ("VersionRef::parse, cmp", |text, dialect| {
         let read = || VersionRef::parse(text, dialect);
-        show(read().and_then(|one| Ok((one.compare(&read()?), one.to_version()))));
+        show(read().and_then(|one| Ok((one.cmp(&read()?), one.to_version()))));
     }),
     ("satisfies, a version", |text, dialect| show(satisfies(text, "^1.2", dialect))),
     ("satisfies, a range", |text, dialect| show(satisfies("1.2.3-a", text, dialect))),
-    ("check_range", |text, dialect| show(check_range(text, dialect))),
+    ("check_range", |text, dialect| show(meaning::check(rules_of(dialect), text))),
     ("comparators", |text, dialect| show(comparators(text, dialect).map(|it| it.to_string()))),
     ("VersionRange::parse", |text, dialect| {
         show(VersionRange::parse(text, dialect).map(|it| it.to_string()));
@@ -69,20 +91,23 @@ const OF_DIALECT: [Call<Dialect>; 13] = [
         black_box(all.highest(["1.2.3", text]));
     }),
     ("Lines", |text, dialect| {
-        let range = VersionRange::parse(">1, <2", dialect);
-        let range = range.or_else(|_| VersionRange::parse(">1 <2", dialect)).unwrap();
+        let read = |range| shared::VersionRange::try_parse(range, rules_of(dialect));
+        let range = read(">1, <2").or_else(|_| read(">1 <2")).unwrap();
         let mut lines = Lines::new(range, Vec::new(), LineOptions::new());
         let mut kept = Vec::new();
         let pushed = lines.push(text.replace(' ', "\n").as_bytes(), &mut kept);
         black_box((pushed.is_ok(), lines.finish(&mut kept).is_ok(), kept));
     }),
-    ("sets::parse", |text, dialect| show(sets::parse(text, dialect).map(|it| it.lowest()))),
+    ("VersionRange::min_version", |text, dialect| {
+        show(VersionRange::parse(text, dialect).map(|it| it.min_version()));
+    }),
     ("terms", |text, dialect| show(terms(text, dialect).map(|it| it.map(black_box).count()))),
     ("version_at, with_version", |text, dialect| {
-        let version = VersionRef::parse("3.1.4-rc.1", dialect).unwrap();
+        let own = rules_of(dialect).dialect;
+        let version = read_ref_in(b"3.1.4-rc.1", own.grammar()).unwrap();
         let last = terms(text, dialect).ok().and_then(Iterator::last);
         let start = last.map_or(0, |term| term.upper.unwrap_or(term.version).span.start);
-        let found = version_at(text, start, dialect).ok().flatten();
+        let found = version_at(text, start, own).ok().flatten();
         let replaced = found.map(|(before, written, after)| {
             format!("{before}{}{after}", written.with_version(&version))
         });
@@ -110,7 +135,7 @@ const OTHERS: [Call<()>; 4] = [
         black_box(version::parse(text).map(|it| it.to_string()).map_err(|it| it.to_string())).ok();
     }),
     ("version::read", |text, ()| {
-        black_box(version::read(text)).ok();
+        black_box(read(text)).ok();
     }),
     ("Lexer", |text, ()| {
         black_box(Lexer::new(text).map(black_box).take_while(Result::is_ok).count());

@@ -1,8 +1,7 @@
 //! The names of the crate `semver` that its tests use, implemented by semver-parser-proved with
 //! `Dialect::Cargo`. The tests compare the calls of that crate; nothing is decided here.
 
-use semver_parser::version::read_ref_in;
-use semver_parser::{check_range, comparators, refusals, satisfies, Dialect, RangeSet};
+use semver_parser::{comparators, satisfies, Dialect, RangeSet, VersionRange, VersionRef};
 use std::cmp::Ordering;
 use std::fmt::{self, Display};
 use std::hash::{Hash, Hasher};
@@ -12,6 +11,12 @@ const CARGO: Dialect = Dialect::Cargo;
 /// An error: the sentence of its reason.
 #[derive(Debug)]
 pub struct Error(String);
+
+impl From<semver_parser::Error> for Error {
+    fn from(error: semver_parser::Error) -> Error {
+        Error(error.reason().unwrap().sentence().to_string())
+    }
+}
 
 impl Display for Error {
     fn fmt(&self, f: &mut fmt::Formatter<'_>) -> fmt::Result {
@@ -68,10 +73,7 @@ impl Version {
     }
 
     pub fn parse(text: &str) -> Result<Version, Error> {
-        if let Some(refusal) = refusals::of_version(text, CARGO) {
-            return Err(Error(refusal.reason.sentence().to_string()));
-        }
-        let read = read_ref_in(text.as_bytes(), CARGO.grammar()).unwrap();
+        let read = VersionRef::parse(text, CARGO)?;
         Ok(Version {
             major: read.major(),
             minor: read.minor(),
@@ -94,9 +96,8 @@ impl Display for Version {
 impl PartialOrd for Version {
     fn partial_cmp(&self, other: &Version) -> Option<Ordering> {
         let (one, two) = (self.to_string(), other.to_string());
-        let (one, two) = (one.as_bytes(), two.as_bytes());
-        let other = read_ref_in(two, CARGO.grammar())?;
-        Some(read_ref_in(one, CARGO.grammar())?.compare(&other))
+        let other = VersionRef::parse(&two, CARGO).ok()?;
+        Some(VersionRef::parse(&one, CARGO).ok()?.cmp_precedence(&other))
     }
 }
 
@@ -108,10 +109,7 @@ impl VersionReq {
     pub const STAR: VersionReq = VersionReq(std::borrow::Cow::Borrowed("*"));
 
     pub fn parse(text: &str) -> Result<VersionReq, Error> {
-        if let Some(refusal) = refusals::of_range(text, CARGO) {
-            return Err(Error(refusal.reason.sentence().to_string()));
-        }
-        assert_eq!(check_range(text, CARGO), Ok(()));
+        VersionRange::parse(text, CARGO)?;
         Ok(VersionReq(text.to_string().into()))
     }
 

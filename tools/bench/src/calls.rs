@@ -1,11 +1,12 @@
 //! The calls that are compared. Each returns a number that depends on everything that was parsed,
 //! or `REFUSED` if a text is invalid.
 
+use crate::proved::semver_versions::version::{read, read_ref, read_ref_in, Version as Plain};
+use crate::proved::tool_ranges::{cargo, meaning};
+use crate::proved::version_sets::VersionSet;
+use crate::shared::{self, version_at, PreReleases, Rules};
 use here::filters::filter_text;
-use here::layers::version_at;
-use here::proved::tool_ranges::cargo;
-use here::sets::{self, VersionSet};
-use here::{satisfies, terms, Compat, Dialect, Meaning, PreReleases, VersionRange, VersionRef};
+use here::{satisfies, terms, Compat, Dialect};
 use semver::{Version, VersionReq};
 use semver_parser::{version, RangeSet};
 use std::hint::black_box;
@@ -44,7 +45,7 @@ pub fn semver_version(text: &str) -> u64 {
 /// Returns 1 if a text is a version here, by the call that only checks this. The parsed version is
 /// dropped at once.
 pub fn here_is_version(text: &str) -> u64 {
-    is_read(matches!(here::version::read(text), Ok(Some(_))))
+    is_read(matches!(read(text), Ok(Some(_))))
 }
 
 /// Returns 1 if a text is a version in the crate `semver-parser`.
@@ -115,8 +116,13 @@ pub fn here_set(text: &str) -> u64 {
 }
 
 fn set_of(text: &str) -> Option<VersionSet> {
-    let meaning = Meaning { dialect: Dialect::CrateCargo, pre_releases: PreReleases::Default };
-    sets::parse(text, meaning).ok()
+    meaning::read(rules(0), text).ok()
+}
+
+/// Returns the crate's Cargo mode with the rule for pre-releases that has a number.
+fn rules(number: i32) -> Rules {
+    let pre_releases = PreReleases::from_number(number).expect("a rule");
+    Rules { dialect: shared::Dialect::CrateCargo, pre_releases }
 }
 
 /// Returns 1 if a text is a range set in the crate `semver-parser`, in Cargo mode.
@@ -138,9 +144,9 @@ pub fn here_terms(text: &str) -> u64 {
 /// the new range. The last version begins with the last digit of the text.
 pub fn here_replaced(text: &str) -> u64 {
     let start = text.rfind(|it: char| it.is_ascii_digit()).unwrap_or(0);
-    let version = VersionRef::parse("3.1.4", Dialect::Npm);
-    match (version_at(text, start, Dialect::Npm), version) {
-        (Ok(Some((before, written, after))), Ok(version)) => {
+    let version = read_ref_in(b"3.1.4", shared::Dialect::Npm.grammar());
+    match (version_at(text, start, shared::Dialect::Npm), version) {
+        (Ok(Some((before, written, after))), Some(version)) => {
             format!("{before}{}{after}", written.with_version(&version)).len() as u64
         }
         _ => REFUSED,
@@ -155,7 +161,8 @@ pub fn here_has(ranges: &str, versions: &str) -> u64 {
 }
 
 fn read_and_ask(ranges: &str, versions: &str) -> Option<u64> {
-    let versions = read_here(versions)?;
+    let read = versions.lines().map(|line| read(line).ok().flatten());
+    let versions = read.collect::<Option<Vec<Plain>>>()?;
     let mut count = 0;
     for range in ranges.lines() {
         let set = set_of(range)?;
@@ -215,10 +222,9 @@ pub fn here_read_kept(range: &str, versions: &str) -> u64 {
     read_kept(range, versions).map_or(REFUSED, |kept| kept.len() as u64)
 }
 
-fn read_kept(range: &str, versions: &str) -> Option<Vec<here::version::Version>> {
-    let meaning = Meaning { dialect: Dialect::CrateCargo, pre_releases: PreReleases::Excluded };
-    let range = VersionRange::parse(range, meaning).ok()?;
-    let borrowed = versions.lines().filter_map(here::version::read_ref);
+fn read_kept(range: &str, versions: &str) -> Option<Vec<Plain>> {
+    let range = shared::VersionRange::try_parse(range, rules(2)).ok()?;
+    let borrowed = versions.lines().filter_map(read_ref);
     let kept = borrowed.filter(|borrowed| range.contains_ref(borrowed));
     kept.map(|borrowed| borrowed.version()).collect::<Result<_, _>>().ok()
 }

@@ -7,6 +7,17 @@
 //! - `bench growth` counts the instructions of calls on texts of growing size.
 //! - `bench npm` compares the times for ranges in npm's dialect with node-semver's.
 
+extern crate alloc;
+
+#[path = "../../../rust/src/proved/mod.rs"]
+mod proved;
+#[path = "../../../rust/src/rattle_std.rs"]
+#[allow(dead_code, unused_imports, unused_macros)]
+mod rattle_std;
+#[path = "../../../rust/capi/src/shared.rs"]
+#[allow(dead_code, unused_imports)]
+mod shared;
+
 mod agreement;
 mod calls;
 mod cells;
