@@ -397,11 +397,17 @@ here=$PWD
 
 # ---- requirements
 
+# The examples at the top of the checkers' page, after the commands by which they run in a clone.
+# Standard error is shown after standard output, as at a terminal.
 sed '/^## /,$d' semver_parser/checks/README.md > "$work/examples"
-sed -n 's/^    \$ //p' "$work/examples" > "$work/commands"
+{
+    sed -n 's/^    \$ export /export /p' semver_parser/checks/README.md
+    sed -n 's/^    \$ //p' "$work/examples"
+} > "$work/commands"
+[ "$(wc -l < "$work/commands")" = 4 ] || refuse 'README.md has other commands'
 sed -n '/^    \$/d; s/^    //p' "$work/examples" > "$work/lines"
-same "README.md's example" 0 /dev/null "$work/lines" cases/monorepo/closing \
-    env -u SEMVER_PARSER_LIBRARY sh -c 'cd .. && . "$1"' - "$work/commands"
+same "README.md's examples" 0 /dev/null "$work/lines" /dev/null \
+    env -u SEMVER_PARSER_LIBRARY sh -c 'exec 2>&1; cd .. && . "$1"' - "$work/commands"
 
 # compared STATUS NAME ARGUMENT..: compares requirements. The lines are in cases/requirements/NAME.
 compared() {
