@@ -103,7 +103,7 @@ class Judge(unittest.TestCase):
         found = sentences(required("^1.0.1", "1.0.1", locked=other))
         self.assertEqual(found, [f"{wrong}, required by the project"])
         gone = same._replace(stated_kind=None, same=())
-        wrong = "part 1.0.0 is in the graph, but not required by the project"
+        wrong = "part 1.0.0 is listed as a dependency of the project, which does not require it"
         self.assertEqual(sentences(required("^1.0.0", "1.0.0", locked=gone)), [wrong])
 
     def test_what_only_counts_if_all_else_is_right(self) -> None:

@@ -370,7 +370,7 @@ same 'an interrupt' 0 /dev/null /dev/null /dev/null python3 "$work/interrupt.py"
 without_library() {
     entry=$(sed -n "s/^${1##*/} = \"\(.*\):\(.*\)\"$/from \1 import \2 as main/p" ../pyproject.toml)
     echo "${1##*/}: semver_parser needs its shared library, and found none that can be loaded. It looked for\
- /nowhere, which SEMVER_PARSER_LIBRARY names: cannot open shared object file: No such file or directory;\
+ /nowhere, which SEMVER_PARSER_LIBRARY names: cannot open shared object file: No such file or directory.\
  If the library is elsewhere, set SEMVER_PARSER_LIBRARY to its path." > "$work/told"
     same "${1##*/} without the library" 2 /dev/null /dev/null "$work/told" env SEMVER_PARSER_LIBRARY=/nowhere "$@"
     shift
@@ -510,8 +510,13 @@ found = json.load(sys.stdin)
 assert found[1][\"file\"].endswith(\"after/package.json\"), found[1]
 assert (found[1][\"table\"], found[1][\"new_table\"]) == (\"dependencies\", \"devDependencies\")"' - $compare $folder
 fi
-refused 'compare-requirements: one is a directory and the other a file; see compare-requirements --help' /dev/null \
+refused "compare-requirements: $folder is a directory, and $folder/old.json isn't; see compare-requirements --help" /dev/null \
     $compare $folder $folder/old.json
+refused "compare-requirements: $folder is a directory, and standard input isn't; see compare-requirements --help" /dev/null \
+    $compare - $folder
+for pair in "nowhere $folder" "$folder nowhere"; do
+    refused "compare-requirements: nowhere: it can't be read: No such file or directory" /dev/null $compare $pair
+done
 mkdir -p "$work/empty"
 refused "compare-requirements: $work/empty: it is a directory without a manifest" /dev/null $compare "$work/empty" "$work/empty"
 echo 'checkers: passed'

@@ -50,6 +50,14 @@ class Refusal(Exception):
         return f"{name_of(self.path)}: {self.why}"
 
 
+def version_stated(lock: Entry) -> str:
+    """Returns which lockfileVersion a file has, for a message. A long one is cut off."""
+    if "lockfileVersion" not in lock:
+        return "it has no lockfileVersion"
+    value = json.dumps(lock["lockfileVersion"])
+    return f"its lockfileVersion is {value if len(value) <= 40 else value[:40] + '...'}"
+
+
 class Unreadable(Exception):
     """A text isn't in its notation, and why."""
 
