@@ -12,7 +12,7 @@ for tool in cargo git python3; do
 done
 git rev-parse --git-dir > /dev/null 2>&1 ||
     { echo 'installs: this is not a repository of git, so nothing is tested' && exit; }
-top=$PWD page=$PWD/python/semver_parser/checks/README.md
+top=$PWD checkers=$PWD/python/semver_parser/checks/README.md
 work=$(mktemp -d)
 trap 'rm -rf "$work"' EXIT
 trap 'exit 2' HUP INT TERM
@@ -158,7 +158,7 @@ for_python_by_a_sum() {
     (cd "$clone" && ends 0 make wheel OUT="$work/wheels")
     wheel=$(echo "$work"/wheels/*.whl)
     sum=$(sha256sum "$wheel" | cut -d ' ' -f 1)
-    grep -q "^\.venv/bin/pip install 'WHEEL-URL#sha256=SUM' PyYAML$" "$page" ||
+    grep -q "^\.venv/bin/pip install 'WHEEL-URL#sha256=SUM' PyYAML$" "$checkers" ||
         fails 'the page of the checkers has another command for the wheel'
     ends 1 "$work/environment/bin/pip" install --force-reinstall "file://$wheel#sha256=0$sum"
     ends 0 "$work/environment/bin/pip" install --force-reinstall "file://$wheel#sha256=$sum"
@@ -191,7 +191,7 @@ yaml_of_page() {
             here = /^```yaml/; block = ""; has = 0
             next
         }
-        here { block = block $0 "\n"; if (index($0, text)) has = 1 }' "$page"
+        here { block = block $0 "\n"; if (index($0, text)) has = 1 }' "$checkers"
 }
 
 # hook ID STATUS ARGUMENT..: pre-commit runs the hook of the page under this name. It has to exit with
