@@ -306,7 +306,8 @@ at_terminal 'a dumb terminal' "$work/plain" env TERM=dumb $terminal cases/monore
 at_terminal '--color never' "$work/plain" $terminal --color never cases/monorepo/package-lock.json
 at_terminal '--color auto' "$work/plain" env NO_COLOR=1 $terminal --color=auto cases/monorepo/package-lock.json
 same '--color always' 1 /dev/null "$work/colored" /dev/null env NO_COLOR=1 $check --quiet --color always cases/monorepo/package-lock.json
-refused 'check-lock-file: unknown color: "red"; see check-lock-file --help' /dev/null $check --color red cases/missing.json
+refused 'check-lock-file: unknown color: "red" isn'"'"'t auto, always or never; see check-lock-file --help' /dev/null \
+    $check --color red cases/missing.json
 
 # A pipe whose content comes after more than a second.
 mkfifo "$work/slow"
@@ -475,7 +476,8 @@ refused "check-lock-file: --package-json is for exactly one file; see check-lock
 refused "check-lock-file: --package-json is for exactly one file; see check-lock-file --help" /dev/null \
     $check --package-json cases/stale/package.json cases/stale/package-lock.json cases/missing.json
 refused 'check-lock-file: two files are standard input; see check-lock-file --help' /dev/null $check --allow - -
-refused 'check-lock-file: unknown format: "xml"; see check-lock-file --help' /dev/null $check --format xml cases/missing.json
+refused 'check-lock-file: unknown format: "xml" isn'"'"'t text, tsv, json, github or sarif; see check-lock-file --help' /dev/null \
+    $check --format xml cases/missing.json
 refused 'check-lock-file: --json and --format tsv are both given; see check-lock-file --help' /dev/null \
     $check --format tsv --json cases/missing.json
 

@@ -297,9 +297,10 @@ mkdir "$work/waiting" && cp cases/nothing-wrong.json "$work/waiting/package-lock
 refused "$told $work/waiting/package.json: it can't be read: it is a pipe" /dev/null $check "$work/waiting/package-lock.json"
 refused "$told nowhere: it can't be read: No such file or directory" /dev/null $check nowhere
 refused "$told standard input: it is no lock file that is known" /dev/null $check -
-for option in --npm --strict=yes --stric -s; do
+for option in --npm --npm=yes --stric -s; do
     refused "$told unknown option: \"$option\"; see check-lock-file --help" /dev/null $check $good $option
 done
+refused "$told --strict is an option without a value, and \"yes\" is given; see check-lock-file --help" /dev/null $check $good --strict=yes
 refused "$told --strict is given twice; see check-lock-file --help" /dev/null $check --strict $good --strict
 refused "$told --strict: it can't be read: No such file or directory" /dev/null $check -- --strict
 refused "$told --package-json has no value; see check-lock-file --help" /dev/null $check $good --package-json
@@ -336,8 +337,7 @@ refused "$told standard input: it is no package.json: resolutions: numbers isn't
 # that can't be written.
 has_help() {
     "$1" --help > "$work/page"
-    head -n 1 "$work/page" > "$work/usage"
-    grep -q "^usage: ${1##*/} " "$work/usage"
+    head -n 1 "$work/page" | grep -q "^usage: ${1##*/} "
     echo "${1##*/} $(cat ../VERSION)" > "$work/version"
     for library in "$SEMVER_PARSER_LIBRARY" /nowhere; do
         same "${1##*/} -h" 0 /dev/null "$work/page" /dev/null env SEMVER_PARSER_LIBRARY="$library" "$1" nowhere -h
@@ -348,8 +348,13 @@ has_help() {
 }
 has_help $check
 has_help $compare
-refused "$(cat "$work/usage")" /dev/null $compare
-refused "$(cat "$work/usage")" /dev/null $compare nowhere nowhere nowhere
+see='see compare-requirements --help'
+refused "compare-requirements: without --git, OLD and NEW are needed, and none is given; $see" /dev/null $compare
+refused "compare-requirements: without --git, OLD and NEW are needed, and 1 is given; $see" /dev/null $compare nowhere
+refused "compare-requirements: without --git, OLD and NEW are needed, and 3 are given; $see" /dev/null $compare nowhere nowhere nowhere
+refused "compare-requirements: --git REV needs a PATH, or a second REV and a PATH, and none is given; $see" /dev/null $compare --git HEAD
+refused "compare-requirements: two files are standard input; $see" /dev/null $compare - -
+refused "compare-requirements: --fail-on: \"new\" isn't lost, gained or any; $see" /dev/null $compare --fail-on new nowhere nowhere
 same 'a reader that closes the pipe' 1 /dev/null /dev/null /dev/null sh -c '
     { status=0; "$@" || status=$?; echo "$status" > "$0"; } | :
     exit "$(cat "$0")"' "$work/status" $fields cases/package-lock.json
@@ -418,6 +423,7 @@ compared() {
 folder=cases/requirements
 compared 1 package.expected $folder/old.json $folder/new.json
 compared 1 package.json.expected --json $folder/old.json $folder/new.json
+for change in lost gained any; do compared 1 package.expected --fail-on $change $folder/old.json $folder/new.json; done
 { printf '\357\273\277' && cat $folder/old.json; } > "$work/marked"
 compared 1 package.expected "$work/marked" $folder/new.json
 
@@ -452,6 +458,25 @@ same 'what moved, and what did not' 1 /dev/null "$work/changes" /dev/null $compa
 echo '{"peerDependencies": {"a": "^1.0.0"}, "overrides": {"b": "^1.0.0"}}' > "$work/lines"
 sed -n 1p "$work/changes" > "$work/moved"
 same 'only a move' 1 /dev/null "$work/moved" /dev/null $compare "$work/package.json" "$work/lines"
+same 'only a move, which loses nothing' 0 /dev/null "$work/moved" /dev/null $compare --fail-on lost "$work/package.json" "$work/lines"
+# failing_on CHANGE STATUS OLD NEW: compares two ranges, of which only one contains the other.
+failing_on() {
+    for side in "one $3" "other $4"; do
+        echo "{\"dependencies\": {\"a\": \"${side#* }\"}}" > "$work/${side%% *}.json"
+    done
+    status=0
+    $compare --fail-on "$1" "$work/one.json" "$work/other.json" > "$work/output" || status=$?
+    [ "$status" = "$2" ] || { cat "$work/output" && echo "--fail-on $1, $3 -> $4: status $status" && exit 1; }
+    echo "--fail-on $1, $3 -> $4: passed"
+}
+failing_on lost 1 ^1.2.0 ^1.3.0
+failing_on gained 0 ^1.2.0 ^1.3.0
+failing_on lost 0 ^1.3.0 ^1.2.0
+failing_on gained 1 ^1.3.0 ^1.2.0
+failing_on any 1 ^1.3.0 ^1.2.0
+failing_on lost 1 1.2.3-rc 1.2.3
+failing_on gained 0 '1.2.3-rc || 1.2.3' 1.2.3
+failing_on any 0 ^1.2.0 1.2.0\ -\ 1
 git init -q "$work/tree"
 in_tree() { git -C "$work/tree" -c user.name=a -c user.email=a@b "$@"; }
 cp $folder/old.json "$work/tree/package.json" && in_tree add . && in_tree commit -qm old

@@ -12,10 +12,11 @@ from .program import open_output
 def refused(program: str, error: ImportError) -> int:
     """Prints in one line what a program needs. Returns the status."""
     open_output()
-    what, *lines = str(error).splitlines()
+    what, *lines = str(error).split("\n")
     details = "; ".join(line.strip() for line in lines if line.startswith(" "))
-    more = " ".join(line for line in lines if not line.startswith(" "))
-    print(f"{program}: {what} {details}. {more}" if lines else f"{program}: {what}", file=sys.stderr)
+    others = [line for line in lines if not line.startswith(" ")]
+    more = f" {details}. {' '.join(others)}" if lines else ""
+    print(f"{program}: {what}{more}", file=sys.stderr)
     return 2
 
 
