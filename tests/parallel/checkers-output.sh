@@ -495,7 +495,7 @@ for line in sys.stdin:
     pattern = line.rstrip("\n")
     print(pattern, " ".join(places_at(pattern, sys.argv[1])), sep="\t")' "$work/patterns" | diff -u cases/workspace-patterns -
 echo 'patterns of workspaces: passed'
-refused "$told $work/package.json: it is no package.json: workspaces: ../** is for directories outside of the project" \
+refused "$told $work/package.json: it isn't a valid package.json: workspaces: ../** is for directories outside of the project" \
     /dev/null sh -c 'cd "$1" && echo "{\"workspaces\": [\"../**\"]}" > package.json && exec "$2" --package-json "$1/package.json" "$3"' \
     - "$work" "$here/$check" "$here/cases/yarn/classic-right/yarn.lock"
 

@@ -112,12 +112,12 @@ if python3 -c 'import tomllib' 2> /dev/null; then
     refused "check-lock-file: $work/right/Cargo.toml: it isn't TOML: Expected '=' after a key in a key/value pair (at line 4, column 2)" \
         /dev/null $check "$work/right/Cargo.lock"
     printf '[package]\nname = "a"\n[features]\nx = ["dep:y"]\n' > "$work/right/Cargo.toml"
-    refused "check-lock-file: $work/right/Cargo.toml: it is no Cargo.toml: features: x: dep:y isn't there" \
+    refused "check-lock-file: $work/right/Cargo.toml: it isn't a valid Cargo.toml: features: x: dep:y isn't there" \
         /dev/null $check "$work/right/Cargo.lock"
     # refused_by_cargo WHY PACKAGE REST: checks a Cargo.toml that Cargo rejects, too.
     refused_by_cargo() {
         printf '[package]\nname = "a"\nversion = "0.1.0"\n%b\n%b\n' "$2" "$3" > "$work/right/Cargo.toml"
-        refused "check-lock-file: $work/right/Cargo.toml: it is no Cargo.toml: $1" /dev/null $check "$work/right/Cargo.lock"
+        refused "check-lock-file: $work/right/Cargo.toml: it isn't a valid Cargo.toml: $1" /dev/null $check "$work/right/Cargo.lock"
     }
     refused_by_cargo 'edition 2099 is unknown' 'edition = "2099"' ''
     refused_by_cargo 'resolver 9 is unknown' 'resolver = "9"' ''
@@ -139,11 +139,11 @@ if python3 -c 'import tomllib' 2> /dev/null; then
     refused_dependency 'branch is there without git' 'version = "1", branch = "b"'
     refused_dependency 'feature x/y has a slash or dep:' 'version = "1", features = ["x/y"]'
     printf '[workspace]\n[dependencies]\n' > "$work/right/Cargo.toml"
-    refused "check-lock-file: $work/right/Cargo.toml: it is no Cargo.toml: dependencies is there without a package" \
+    refused "check-lock-file: $work/right/Cargo.toml: it isn't a valid Cargo.toml: dependencies is there without a package" \
         /dev/null $check "$work/right/Cargo.lock"
     for line in 'name = "1a"' 'name = "a b"'; do
         printf '[package]\n%s\n' "$line" > "$work/right/Cargo.toml"
-        refused "check-lock-file: $work/right/Cargo.toml: it is no Cargo.toml: $(echo "$line" | cut -d '"' -f 2) is no name of a package" \
+        refused "check-lock-file: $work/right/Cargo.toml: it isn't a valid Cargo.toml: $(echo "$line" | cut -d '"' -f 2) isn't a valid name of a package" \
             /dev/null $check "$work/right/Cargo.lock"
     done
     cp -R cases/cargo-lock/wrong "$work/[a]*"
@@ -206,7 +206,7 @@ fi
 { echo '<<<<<<< HEAD' && cat cases/nothing-wrong.json; } > "$work/conflict"
 refused 'check-lock-file: standard input: merge conflict at line 1' "$work/conflict" $check -
 echo 'all' > "$work/unknown"
-refused 'check-lock-file: standard input: it is no lock file that is known' "$work/unknown" $check -
+refused "check-lock-file: standard input: it isn't a lock file that is known" "$work/unknown" $check -
 
 # ---- the smallest projects on which a tool and the checker might disagree
 
@@ -279,24 +279,24 @@ if python3 -c 'import yaml' 2> /dev/null; then
         refused "$told standard input: it isn't YAML" "$work/wrong" $check -
     done
     python3 -c 'print("lockfileVersion: 9.0\nx: " + "[" * 5000 + "]" * 5000)' > "$work/wrong"
-    refused "$told standard input: it is no lock file: it is nested too deep" "$work/wrong" $check -
+    refused "$told standard input: it isn't a valid lock file: it is nested too deep" "$work/wrong" $check -
     sed 's/^importers:/x: \&anchor {}\ny: *anchor\nimporters:/' cases/pnpm/wrong-9.yaml > "$work/lock"
     same 'a file of pnpm with an alias' 1 "$work/lock" cases/pnpm/wrong-9.expected /dev/null $fields -
 fi
 # What would take very long is rejected: a path, a key and nested lists that are too long, and a pipe.
 python3 -c 'print("{\"lockfileVersion\": 3, \"packages\": {\"" + "/".join(["node_modules/a"] * 100000) + "\": {}}}")' > "$work/wrong"
-refused "$told standard input: it is no lock file: a path in it has more than 4,096 characters" "$work/wrong" $check -
+refused "$told standard input: it isn't a valid lock file: a path in it has more than 4,096 characters" "$work/wrong" $check -
 if python3 -c 'import tomllib' 2> /dev/null; then
     { printf '[[package]]\n[' && python3 -c 'print(".".join(["a"] * 100000) + "]")'; } > "$work/wrong"
     refused "$told standard input: it isn't TOML: a key has more than 1,000 parts" "$work/wrong" $check -
     mkdir "$work/long" && cp cases/cargo-lock/package/Cargo.lock "$work/long"
     python3 -c 'print("[package]\nname = \"a\"\n[target.\"cfg(" + "all(" * 4000 + "unix" + ")" * 4001 + "\".dependencies]")' > "$work/long/Cargo.toml"
-    refused "$told $work/long/Cargo.toml: it is no Cargo.toml: a target has more than 100 lists" /dev/null $check "$work/long/Cargo.lock"
+    refused "$told $work/long/Cargo.toml: it isn't a valid Cargo.toml: a target has more than 100 lists" /dev/null $check "$work/long/Cargo.lock"
 fi
 mkdir "$work/waiting" && cp cases/nothing-wrong.json "$work/waiting/package-lock.json" && mkfifo "$work/waiting/package.json"
 refused "$told $work/waiting/package.json: it can't be read: it is a pipe" /dev/null $check "$work/waiting/package-lock.json"
 refused "$told nowhere: it can't be read: No such file or directory" /dev/null $check nowhere
-refused "$told standard input: it is no lock file that is known" /dev/null $check -
+refused "$told standard input: it isn't a lock file that is known" /dev/null $check -
 for option in --npm --npm=yes --stric -s; do
     refused "$told unknown option: \"$option\"; see check-lock-file --help" /dev/null $check $good $option
 done
@@ -315,22 +315,22 @@ done
 # refused_manifest WHY JSON: checks that a package.json is rejected.
 refused_manifest() {
     echo "$2" > "$work/package.json"
-    refused "$told standard input: it is no package.json: $1" "$work/package.json" $check --package-json - $good
+    refused "$told standard input: it isn't a valid package.json: $1" "$work/package.json" $check --package-json - $good
 }
 refused_manifest "the file isn't an object" '[]'
 refused_manifest "dependencies isn't an object" '{"dependencies": []}'
-refused_manifest "devDependencies: a isn't a text" '{"devDependencies": {"a": 1}}'
+refused_manifest "devDependencies: a isn't a string" '{"devDependencies": {"a": 1}}'
 refused_manifest "peerDependenciesMeta: a isn't an object" '{"peerDependenciesMeta": {"a": true}}'
 refused_manifest 'overrides: a is null' '{"overrides": {"a": null}}'
-refused_manifest "overrides: a: . isn't a text" '{"overrides": {"a": {".": 1}}}'
+refused_manifest "overrides: a: . isn't a string" '{"overrides": {"a": {".": 1}}}'
 refused_manifest 'overrides:  names no package' '{"overrides": {"": "1.0.0"}}'
 cp -R cases/workspaces "$work/workspaces" && echo '[]' > "$work/workspaces/packages/a/package.json"
-refused "$told $work/workspaces/packages/a/package.json: it is no package.json: the file isn't an object" /dev/null \
+refused "$told $work/workspaces/packages/a/package.json: it isn't a valid package.json: the file isn't an object" /dev/null \
     $check "$work/workspaces/package-lock.json"
 refused_manifest 'overrides: a@next has no range after its name' '{"overrides": {"a@next": "1.0.0"}}'
 
 echo '{"resolutions": {"numbers": 1}}' > "$work/package.json"
-refused "$told standard input: it is no package.json: resolutions: numbers isn't a text" "$work/package.json" \
+refused "$told standard input: it isn't a valid package.json: resolutions: numbers isn't a string" "$work/package.json" \
     $check --package-json - cases/yarn/classic/yarn.lock
 
 # has_help PROGRAM: checks the help and the version, also without the library, and with an output
@@ -429,7 +429,8 @@ compared 1 package.expected "$work/marked" $folder/new.json
 
 # refused_as_manifest WHY FILE: checks that a file is rejected because it isn't a manifest.
 refused_as_manifest() {
-    refused "compare-requirements: $2: it is no package.json, pnpm-workspace.yaml or Cargo.toml$1" /dev/null $compare "$2" "$2"
+    refused "compare-requirements: $2: it isn't a ${1:+valid }package.json, pnpm-workspace.yaml or Cargo.toml$1" /dev/null \
+        $compare "$2" "$2"
 }
 
 same 'one file' 0 /dev/null /dev/null /dev/null $compare $folder/old.json $folder/old.json
