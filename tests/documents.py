@@ -10,6 +10,8 @@
   crates.txt.
 - Each file of lemmas begins with what its lemmas show, and each lemma is cited.
 - The Rust crate has the licences, and docs/ERASURE.md counts the lines by hand.
+- docs/ratios.svg has the rows of docs/SPEED.md, and README.md and docs/SPEED.md say how far they
+  reach.
 
 tests/documents.py --must-fail       checks that it fails if one of these is changed.
 tests/documents.py --proofs          prints docs/PROOFS.md.
@@ -19,6 +21,7 @@ tests/documents.py --output-in-c     prints the output of that example, as the p
 """
 import os
 import re
+import runpy
 import shutil
 import subprocess
 import sys
@@ -436,11 +439,24 @@ def errors_of_licences():
             yield f'rust/{name} differs from {name}'
 
 
+def errors_of_the_ratios():
+    """Checks that the picture of ratios is drawn from the table, and that the pages that show it say
+    how far it reaches."""
+    page, draw = read('docs/SPEED.md'), runpy.run_path(os.path.join(TOP, 'tools/draw-ratios.py'))
+    if read('docs/ratios.svg') != draw['picture'](page):
+        yield "docs/ratios.svg isn't what tools/draw-ratios.py prints"
+    for path in ('README.md', 'docs/SPEED.md'):
+        words = ' '.join(read(path).split())
+        for lowest, highest in draw['spans_in'](page):
+            if f'{lowest} to {highest} ' not in words:
+                yield f"{path} doesn't say {lowest} to {highest}, which the picture shows"
+
+
 def errors():
     for check in (
         errors_of_links, errors_of_files, errors_of_promises, errors_of_proofs, errors_of_results, errors_of_clauses,
         errors_of_the_example, errors_of_paths, errors_of_the_readme, errors_of_crates, errors_of_lemmas,
-        errors_of_citations, errors_of_licences, errors_of_lines_by_hand,
+        errors_of_citations, errors_of_licences, errors_of_lines_by_hand, errors_of_the_ratios,
     ):
         yield from check()
 
@@ -473,6 +489,9 @@ EDITS = [
     ('docs/PROOFS.md', '`one_parse`', 'equation'),
     ('docs/COMING_FROM.md', '`VersionSet::lowest`', '`VersionSet::least`'),
     ('rust/LICENSE-MIT', 'WITHOUT WARRANTY', 'WITHOUT ANY WARRANTY'),
+    ('docs/SPEED.md', '| 0.31 | 0.82 |', '| 0.31 | 0.81 |'),
+    ('docs/ratios.svg', '>2.94<', '>2.95<'),
+    ('README.md', '0.10 to 0.40 of', '0.10 to 0.41 of'),
     ('crates.txt', 'version_sets: semver_texts semver_versions semver_ranges', 'version_sets: semver_texts semver_ranges'),
 ]
 

@@ -1,9 +1,9 @@
 #!/bin/sh
-# Tests each command with which README installs something, for a user who has cargo, Python and the
-# system, but no kit, nothing installed and no variable set, and no network if the system can hide
-# it. `URL` in the commands is a clone of the files that git lists, as they are now, and `REV` is
-# its commit. Needs cargo, git and python3. Skips what needs pipx, pre-commit, PyYAML or ensurepip if
-# that is missing.
+# Tests each command with which README and the page of the checkers install something, for a user who
+# has cargo, Python and the system, but no kit, nothing installed and no variable set, and no network
+# if the system can hide it. `URL` in the commands is a clone of the files that git lists, as they are
+# now, and `REV` is its commit. Needs cargo, git and python3. Skips what needs pipx, pre-commit, PyYAML
+# or ensurepip if that is missing.
 set -eu
 unset CDPATH
 cd "$(dirname "$0")/.."
@@ -12,7 +12,7 @@ for tool in cargo git python3; do
 done
 git rev-parse --git-dir > /dev/null 2>&1 ||
     { echo 'installs: this is not a repository of git, so nothing is tested' && exit; }
-top=$PWD
+top=$PWD checkers=$PWD/python/semver_parser/checks/README.md
 work=$(mktemp -d)
 trap 'rm -rf "$work"' EXIT
 trap 'exit 2' HUP INT TERM
@@ -150,15 +150,16 @@ for_pipx() {
     lists output found
 }
 
-# The wheel by its URL and SHA-256, as in README: pip installs it, and rejects any other sum.
+# The wheel by its URL and SHA-256, as in the page of the checkers: pip installs it, and rejects any
+# other sum.
 for_python_by_a_sum() {
     [ -e "$work/environment" ] || return 0
     mkdir "$work/wheels"
     (cd "$clone" && ends 0 make wheel OUT="$work/wheels")
     wheel=$(echo "$work"/wheels/*.whl)
     sum=$(sha256sum "$wheel" | cut -d ' ' -f 1)
-    grep -q "^\.venv/bin/pip install 'WHEEL-URL#sha256=SUM' PyYAML$" "$top/README.md" ||
-        fails 'README has another command for the wheel'
+    grep -q "^\.venv/bin/pip install 'WHEEL-URL#sha256=SUM' PyYAML$" "$checkers" ||
+        fails 'the page of the checkers has another command for the wheel'
     ends 1 "$work/environment/bin/pip" install --force-reinstall "file://$wheel#sha256=0$sum"
     ends 0 "$work/environment/bin/pip" install --force-reinstall "file://$wheel#sha256=$sum"
     (cd "$work/monorepo" && ends 1 "$work/environment/bin/check-lock-file")
@@ -182,23 +183,24 @@ fn main() { println!("{}", satisfies("1.9.0", "^1.2", Npm).unwrap()) }' > "$work
     lists output wanted
 }
 
-# yaml_of_readme TEXT: prints the block of YAML in README that contains the text.
-yaml_of_readme() {
+# yaml_of_page TEXT: prints the first block of YAML in the page of the checkers that contains the
+# text.
+yaml_of_page() {
     awk -v text="$1" '/^```/ {
-            if (has) printf "%s", block
+            if (has) { printf "%s", block; exit }
             here = /^```yaml/; block = ""; has = 0
             next
         }
-        here { block = block $0 "\n"; if (index($0, text)) has = 1 }' "$top/README.md"
+        here { block = block $0 "\n"; if (index($0, text)) has = 1 }' "$checkers"
 }
 
-# hook ID STATUS ARGUMENT..: pre-commit runs the hook of README under this name. It has to exit with
+# hook ID STATUS ARGUMENT..: pre-commit runs the hook of the page under this name. It has to exit with
 # this status.
 hook() {
     id=$1 wanted_status=$2
     shift 2
-    yaml_of_readme 'id: check-lock-file' | sed "s|URL|$clone|; s|REV|$revision|; s|id: .*|id: $id|
-        s|args: .*|args: [--quiet]|" > "$work/hooked/.pre-commit-config.yaml"
+    yaml_of_page 'id: check-lock-file' | sed "s|URL|$clone|; s|REV|$revision|; s|id: .*|id: $id|" \
+        > "$work/hooked/.pre-commit-config.yaml"
     git -C "$work/hooked" add .pre-commit-config.yaml
     (cd "$work/hooked" && ends "$wanted_status" pre-commit run "$@")
 }
@@ -272,10 +274,10 @@ action() {
     has_ended 'the action'
 }
 
-# GitHub: the action, without inputs and with the inputs of README.
+# GitHub: the action, without inputs and with those that the page of the checkers shows.
 for_github() {
     has_yaml 'the action' || return 0
-    yaml_of_readme 'uses: OWNER/REPO@REV' > "$work/workflow"
+    yaml_of_page 'uses: OWNER/REPO@REV' > "$work/workflow"
     "$python" "$top/tests/action-steps.py" --workflow "$clone/action.yml" "$work/workflow"
     git -C "$work/monorepo" init -q && git -C "$work/monorepo" add -f .
     action '' github 1

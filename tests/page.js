@@ -1,14 +1,20 @@
 // Types into the page in Chromium, by its DevTools protocol, and compares what the page shows. It
-// also loads the package's file for browsers, even where a policy forbids compiling.
+// also loads the package's file for browsers, even where a policy forbids compiling. The picture has
+// to have the text that the page shows, or with `draw` it is taken anew.
 //
-//     node tests/page.js PAGE PACKAGE PROFILE [PICTURE]
+//     node tests/page.js PAGE PACKAGE PROFILE PICTURE [draw]
 'use strict';
 const { spawn } = require('child_process');
 const fs = require('fs');
 const http = require('http');
 const path = require('path');
 
-const [page, package_, profile, picture] = process.argv.slice(2);
+const [page, package_, profile, picture, draw] = process.argv.slice(2);
+
+// What the picture shows. No error in it names a dialect's own rule.
+const SHOWN = {
+    range: '1.2.3', other: '^1.2.4', versions: '1.2.3\n1.2.4\n1.3.0-rc.1\nv1.2.3\n1.2.03', preReleases: 'default', dialect: 'npm',
+};
 
 // Chromium with two pipes, one for requests and one for responses.
 const chromium = spawn('chromium', [
@@ -84,31 +90,31 @@ async function main() {
     ]);
     expect('the marked rows', await marked(), ['1.2.4', 'v1.2.3']);
     expect('the errors', await errors(), [
-        'Cargo refuses the version: Cargo takes no leading v; npm does\nv1.2.3\n^',
-        'Cargo refuses the version: numbers and identifiers of digits may not have a leading zero\n1.2.03\n     ^',
+        'Cargo: invalid version: Cargo takes no leading v; npm does\nv1.2.3\n^',
+        'Cargo: invalid version: numbers and identifiers of digits may not have a leading zero\n1.2.03\n     ^',
     ]);
-    expect('the comparators', await ranges(), [
-        'Cargo: >=1.2.3 <2.0.0-0', 'npm: 1.2.3', 'crate, Cargo mode: >=1.2.3 <2.0.0-0', 'crate, npm mode: 1.2.3',
+    expect('what the range contains', await ranges(), [
+        'Cargo: >=1.2.3 <2.0.0', 'npm: =1.2.3', 'semver-parser 0.10, Cargo mode: >=1.2.3 <2.0.0', 'semver-parser 0.10, npm mode: =1.2.3',
     ]);
     await type('range', '1 || 2');
-    expect('the heads', await heads(), ['version', 'Cargo: refused', 'npm', 'crate, Cargo mode', 'crate, npm mode']);
-    expect('the first error', (await errors())[0], 'Cargo refuses the range: Cargo takes no ||; npm does\n1 || 2\n  ^');
+    expect('the heads', await heads(), ['version', 'Cargo: invalid', 'npm', 'semver-parser 0.10, Cargo mode', 'semver-parser 0.10, npm mode']);
+    expect('the first error', (await errors())[0], 'Cargo: invalid range: Cargo takes no ||; npm does\n1 || 2\n  ^');
     expect('a row', (await rows())[1], '1.2.4 – yes yes yes');
     expect('the address', new URLSearchParams(new URL(await value('location.href')).hash.slice(1)).get('range'), '1 || 2');
     await type('range', '>=18446744073709551616');
     expect('a number too large', (await errors())[0],
-        'Cargo refuses the range: numbers are at most 2^64 - 1\n>=18446744073709551616\n  ^');
+        'Cargo: invalid range: numbers are at most 2^64 - 1\n>=18446744073709551616\n  ^');
 
     await type('range', '^1.2');
     await type('other', '>=1.2.1');
     expect('what is lost and gained', await ranges(), [
-        'Cargo: >=1.2.0 <2.0.0-0: =1.2.0: >=2.0.0', 'npm: >=1.2.0 <2.0.0-0: =1.2.0: >=2.0.0',
-        'crate, Cargo mode: >=1.2.0 <2.0.0-0: =1.2.0: >=2.0.0', 'crate, npm mode: >=1.2.0 <2.0.0-0: =1.2.0: >=2.0.0',
+        'Cargo: >=1.2.0 <2.0.0: =1.2.0: >=2.0.0', 'npm: >=1.2.0 <2.0.0: =1.2.0: >=2.0.0',
+        'semver-parser 0.10, Cargo mode: >=1.2.0 <2.0.0: =1.2.0: >=2.0.0', 'semver-parser 0.10, npm mode: >=1.2.0 <2.0.0: =1.2.0: >=2.0.0',
     ]);
     await type('other', '>=1.2.1 <2');
-    expect('another range that is rejected', (await ranges())[0], 'Cargo: >=1.2.0 <2.0.0-0: refused: refused');
-    expect('its error', (await errors())[0], 'Cargo refuses the range: Cargo separates comparators by commas\n>=1.2.1 <2\n        ^');
-    expect('the same range by npm', (await ranges())[1], 'npm: >=1.2.0 <2.0.0-0: =1.2.0: nothing');
+    expect('another range that is rejected', (await ranges())[0], 'Cargo: >=1.2.0 <2.0.0: invalid: invalid');
+    expect('its error', (await errors())[0], 'Cargo: invalid range: Cargo separates comparators by commas\n>=1.2.1 <2\n        ^');
+    expect('the same range by npm', (await ranges())[1], 'npm: >=1.2.0 <2.0.0: =1.2.0: nothing');
 
     // Colours, on a page with each kind of text.
     for (const scheme of ['light', 'dark']) {
@@ -124,7 +130,7 @@ async function main() {
     await open('');
     await value(`{ const it = document.getElementById('range'); it.value = ' '.repeat(1e6) + '1.2 || 3.0.0'; it.dispatchEvent(new Event('input')) }`);
     expect('a range of a megabyte', (await rows())[1], '1.2.3 – yes yes yes');
-    expect('its comparators', (await ranges())[1], 'npm: >=1.2.0 <1.3.0-0||3.0.0');
+    expect('what it contains', (await ranges())[1], 'npm: >=1.2.0 <1.3.0 || =3.0.0');
     await value(`{ const it = document.getElementById('range'); it.value = Array.from({ length: 1e5 }, (_, at) => '1.' + at).join(' || '); it.dispatchEvent(new Event('input')) }`);
     expect('many ranges', (await rows())[1], '1.2.3 – yes yes yes');
     await type('range', '1');
@@ -140,14 +146,65 @@ async function main() {
     expect('a link with unknown options', await rows(), ['1.3.0 yes yes yes yes']);
     expect('requests', await value("performance.getEntriesByType('resource').length"), 0);
 
+    await ask('Emulation.setEmulatedMedia', { features: [{ name: 'prefers-color-scheme', value: 'light' }] });
+    await open(`#${new URLSearchParams(SHOWN)}`);
+    const words = await value(`(${wordsOf})()`);
+    if (draw) {
+        const size = async (height) => ask('Emulation.setDeviceMetricsOverride', { width: 860, height, deviceScaleFactor: 1, mobile: false });
+        await size(100);
+        await size(await value('document.documentElement.scrollHeight'));
+        const { data } = await ask('Page.captureScreenshot', { format: 'png' });
+        fs.writeFileSync(picture, withText(Buffer.from(data, 'base64'), words));
+    } else {
+        expect('the text of the picture, which `tests/page.sh draw` takes anew,', textOf(fs.readFileSync(picture)), words);
+    }
     await ask('Emulation.setEmulatedMedia', { features: [] });
     await openPackage(ask, value);
-    if (picture) {
-        await open('#range=1.2.3&other=%5E1.2.4&versions=1.2.2%0A1.2.3%0A1.2.4%0A1.3.0-rc.1%0Av1.2.3&preReleases=default&dialect=cargo');
-        await ask('Emulation.setDeviceMetricsOverride', { width: 860, height: 1000, deviceScaleFactor: 1, mobile: false });
-        const { data } = await ask('Page.captureScreenshot', { format: 'png' });
-        fs.writeFileSync(picture, Buffer.from(data, 'base64'));
+}
+
+// ---- the picture, which has the text of the page in a chunk of PNG
+
+// Runs in the page. Returns all words that it shows, also those in fields.
+function wordsOf() {
+    const fields = [...document.querySelectorAll('input, textarea, select')];
+    const shown = fields.map((it) => (it.selectedOptions ? it.selectedOptions[0].textContent : it.value));
+    return [document.querySelector('main').innerText, ...shown].join('\n');
+}
+
+const KEYWORD = 'Description';
+
+// The chunks of a file of PNG: the type of each, its data, and where it begins and ends.
+function* chunksOf(file) {
+    for (let at = 8; at < file.length;) {
+        const end = at + 12 + file.readUInt32BE(at);
+        yield { type: file.toString('latin1', at + 4, at + 8), data: file.subarray(at + 8, end - 4), at, end };
+        at = end;
     }
+}
+
+function crc32(bytes) {
+    let crc = ~0;
+    for (const byte of bytes) {
+        crc ^= byte;
+        for (let bit = 0; bit < 8; bit += 1) crc = (crc >>> 1) ^ (crc & 1 ? 0xedb88320 : 0);
+    }
+    return ~crc >>> 0;
+}
+
+// A file of PNG with a text, which is not compressed and without a language (iTXt), after its head.
+function withText(file, text) {
+    const [{ end }] = chunksOf(file);
+    const body = Buffer.from(`iTXt${KEYWORD}\0\0\0\0\0${text}`);
+    const numbers = Buffer.alloc(8);
+    numbers.writeUInt32BE(body.length - 4);
+    numbers.writeUInt32BE(crc32(body), 4);
+    return Buffer.concat([file.subarray(0, end), numbers.subarray(0, 4), body, numbers.subarray(4), file.subarray(end)]);
+}
+
+// The text of such a file; null if it has none.
+function textOf(file) {
+    const found = [...chunksOf(file)].find(({ type, data }) => type === 'iTXt' && data.toString('latin1').startsWith(`${KEYWORD}\0`));
+    return found ? found.data.toString('utf8', KEYWORD.length + 5) : null;
 }
 
 // What is served next to the package: a page that compiles its module, and one that its policy

@@ -80,7 +80,7 @@ def in_bash(program, options, takes_files):
     if takes_files:
         other.append('    *) COMPREPLY=($(compgen -f -- "$word")) ;;')
     return '\n'.join([
-        f'# bash completion for {program}, made of its help text by tools/make-completions.py.',
+        f'# bash completion for {program}, generated from its help text by tools/make-completions.py.',
         f'{function}() {{',
         '    local word=${COMP_WORDS[COMP_CWORD]} before=${COMP_WORDS[COMP_CWORD - 1]}',
         '    [ "$word" != = ] || word=',
@@ -98,7 +98,7 @@ def in_zsh(program, options, takes_files):
         lines.append(f"    '*{name}{'=' if value and name.startswith('--') else ''}[{told}]{action}'")
     if takes_files:
         lines.append("    '*:file:_files'")
-    return '\n'.join([f'#compdef {program}', f'# zsh completion for {program}, made of its help text by tools/make-completions.py.',
+    return '\n'.join([f'#compdef {program}', f'# zsh completion for {program}, generated from its help text by tools/make-completions.py.',
                       '_arguments \\', ' \\\n'.join(lines), ''])
 
 

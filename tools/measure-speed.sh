@@ -21,14 +21,13 @@
 #   with the library of this one: on large lock files that it makes, on the same files with
 #   something wrong, in each format, and on files that are made to take long. It needs only python3
 #   with PyYAML.
-# - tools/measure-speed.sh plot draws docs/ratios.svg and docs/growth.svg from the tables in
-#   docs/SPEED.md by gnuplot, and measures nothing.
 #
-# All except locks and plot need cargo and Debian's packages librust-semver-parser-dev and
+# tools/draw-ratios.py draws docs/ratios.svg from the tables in docs/SPEED.md.
+#
+# All except locks need cargo and Debian's packages librust-semver-parser-dev and
 # librust-semver-dev; growth also needs valgrind.
 set -eu
 cd "$(dirname "$0")/.."
-[ "${1-}" != plot ] || exec tools/plot-speed.sh docs/SPEED.md docs
 
 # Builds what is measured, and what it is compared with, with Debian's crates.
 build_bench() {

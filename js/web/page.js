@@ -1,8 +1,8 @@
-// The page: what is typed, asked of the package, which comes before this in the same script.
+// The page: it passes what is typed to the package, which comes before this in the same script.
 
 const COLUMNS = [
   ['cargo', 'Cargo'], ['npm', 'npm'],
-  ['crate-cargo', 'crate, Cargo mode'], ['crate-npm', 'crate, npm mode'],
+  ['crate-cargo', 'semver-parser 0.10, Cargo mode'], ['crate-npm', 'semver-parser 0.10, npm mode'],
 ]
 const FIELDS = ['range', 'other', 'versions', 'preReleases', 'dialect']
 
@@ -22,7 +22,7 @@ function made(tag, className, text) {
   return it
 }
 
-// A range that was read in a dialect; null if it is refused.
+// A range that was read in a dialect; null if it is invalid.
 function readIn(dialect, range, preReleases) {
   try {
     return new Range(range, { dialect, preReleases })
@@ -32,66 +32,72 @@ function readIn(dialect, range, preReleases) {
   }
 }
 
-// What is lost or gained, in words.
+// What is contained, lost or gained, in words.
 function shownPart(part) {
   if (part === null) return 'nothing'
   const { releases, preReleases } = part
   return [releases, preReleases && `pre-releases ${preReleases}`].filter(Boolean).join(', ')
 }
 
-// ---- the comparators of the range by each dialect, and what another range loses and gains
+// ---- what the range contains in each dialect, and what another range loses and gains
+
+// A range without any version: what a range loses to it is all that the range contains, printed as
+// what is lost and gained.
+const WITHOUT_VERSIONS = '<0.0.0-0'
 
 function rangeRow([dialect, title], range, now) {
   const row = made('tr', '', '')
   const chosen = dialect === now.dialect ? ' chosen' : ''
-  const comparators = range === null ? 'refused' : range.range || '*'
-  row.append(made('td', chosen, title), made('td', `range${chosen}`, comparators))
+  const options = { dialect, preReleases: now.preReleases }
+  const contained = range && compareRanges(range, WITHOUT_VERSIONS, options).lost
+  const shown = range ? shownPart(contained) : 'invalid'
+  row.append(made('td', chosen, title), made('td', `range${chosen}`, shown))
   if (now.other.trim() === '') return row
   const other = readIn(dialect, now.other, now.preReleases)
-  const options = { dialect, preReleases: now.preReleases }
   const changes = range && other && compareRanges(range, other, options)
   for (const part of ['lost', 'gained']) {
-    row.append(made('td', `range${chosen}`, changes ? shownPart(changes[part]) : 'refused'))
+    row.append(made('td', `range${chosen}`, changes ? shownPart(changes[part]) : 'invalid'))
   }
   return row
 }
 
 function showRanges(ranges, now) {
-  const heads = ['dialect', 'comparators', ...(now.other.trim() === '' ? [] : ['lost', 'gained'])]
+  const heads = ['dialect', 'contains', ...(now.other.trim() === '' ? [] : ['lost', 'gained'])]
   element('range-heads').replaceChildren(...heads.map((it) => made('th', '', it)))
   element('ranges').replaceChildren(...COLUMNS.map((column, at) => rangeRow(column, ranges[at], now)))
 }
 
 // ---- the versions
 
-// What a version is to a range by a dialect: `yes`, `no`, `invalid`, or `–` if that is refused.
-function answer(version, range, dialect) {
+// Whether a version is in a range in a dialect: `yes`, `no`, `invalid`, or `–` if the range is
+// invalid.
+function resultFor(version, range, dialect) {
   if (range === null) return '–'
   if (valid(version, { dialect }) === null) return 'invalid'
   return range.test(version) ? 'yes' : 'no'
 }
 
 function rowOf(version, ranges, now) {
-  const answers = COLUMNS.map(([dialect], at) => answer(version, ranges[at], dialect))
-  const row = made('tr', new Set(answers).size > 1 ? 'differs' : '', '')
+  const results = COLUMNS.map(([dialect], at) => resultFor(version, ranges[at], dialect))
+  const row = made('tr', new Set(results).size > 1 ? 'differs' : '', '')
   row.append(made('td', 'version', version))
   COLUMNS.forEach(([dialect], at) => {
     const chosen = dialect === now.dialect ? ' chosen' : ''
-    row.append(made('td', (answers[at] === '–' ? 'invalid' : answers[at]) + chosen, answers[at]))
+    row.append(made('td', (results[at] === '–' ? 'invalid' : results[at]) + chosen, results[at]))
   })
   return row
 }
 
 // ---- errors
 
-// A string that is refused, with a caret under the character, and why.
+// An invalid string, with a caret under the character, and why it is invalid.
 function errorOf(what, { dialect }, string, { offset, sentence }) {
   const [, title] = COLUMNS.find(([name]) => name === dialect)
   const from = Math.max(0, offset - AROUND)
   const before = (from > 0 ? '…' : '') + string.slice(from, offset)
   const after = string.slice(offset, offset + AROUND) + (string.length > offset + AROUND ? '…' : '')
   const section = made('div', 'error', '')
-  section.append(made('div', '', `${title} refuses the ${what}: ${sentence}`))
+  section.append(made('div', '', `${title}: invalid ${what}: ${sentence}`))
   section.append(made('pre', '', `${before}${after}\n${' '.repeat([...before].length)}^`))
   return section
 }
@@ -99,11 +105,11 @@ function errorOf(what, { dialect }, string, { offset, sentence }) {
 function errorsOf(versions, now) {
   const { range, other, dialect } = now
   const ranges = other.trim() === '' ? [range] : [range, other]
-  const refused = [
+  const explained = [
     ...ranges.map((it) => ['range', it, explainRange(it, { dialect })]),
     ...versions.map((it) => ['version', it, explainVersion(it, { dialect })]),
   ]
-  return refused.filter(([, , why]) => why !== null).slice(0, MOST_ERRORS)
+  return explained.filter(([, , why]) => why !== null).slice(0, MOST_ERRORS)
     .map(([what, string, why]) => errorOf(what, now, string, why))
 }
 
@@ -121,7 +127,7 @@ function show() {
   const ranges = COLUMNS.map(([dialect]) => readIn(dialect, now.range, now.preReleases))
   showRanges(ranges, now)
   const heads = COLUMNS.map(([name, title], at) =>
-    made('th', name === now.dialect ? 'chosen' : '', ranges[at] ? title : `${title}: refused`))
+    made('th', name === now.dialect ? 'chosen' : '', ranges[at] ? title : `${title}: invalid`))
   element('heads').replaceChildren(made('th', '', 'version'), ...heads)
   element('rows').replaceChildren(...versions.map((version) => rowOf(version, ranges, now)))
   element('more').hidden = lines.length === versions.length

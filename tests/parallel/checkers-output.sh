@@ -177,31 +177,37 @@ repaired() {
 repaired stale/package-lock.json 'npm install'
 repaired hiding/older/package-lock.json 'npm install'
 repaired hiding/another-above/package-lock.json 'npm install'
-# advised FILE ADVICE..: compares the lines that say what to change to repair a file of cases/.
+# advised FILE PACKAGES ADVICE..: compares the lines that say what to change to repair a file of
+# cases/, each with the packages that it is for, or none.
 advised() {
     file=$1
     shift
     $check "cases/$file" 2>&1 > "$work/output" | grep '^to repair' > "$work/errors" || :
-    printf "to repair cases/$file, %s\n" "$@" | diff -u - "$work/errors"
+    for _ in "$@"; do
+        [ "$#" = 0 ] || { echo "to repair ${1:+$1 in }cases/$file, $2" && shift 2; }
+    done | diff -u - "$work/errors"
     echo "what to change for $file: passed"
 }
 # untried FILE TOOL COMMAND: compares the line for a file of a tool whose command wasn't run.
 untried() {
-    ! may_read "$1" || advised "$1" "have $2 write it anew; $3 may do that, but was not tried"
+    ! may_read "$1" || advised "$1" '' "have $2 write it anew; $3 may do that, but was not tried"
 }
-advised monorepo/package-lock.json 'change the version in the manifest of the package, or the requirement'
-advised overrides-conflict/package-lock.json 'have the override and the requirement say the same'
-advised hiding/newer/package-lock.json 'remove the lock file and node_modules, and have npm write a new lock file'
-advised peers-conflict/package-lock.json 'have the requirement and the peer dependency agree, or set legacy-peer-deps=true in .npmrc'
-! has_toml || advised cargo-lock/conflicts/Cargo.lock 'correct the manifests: no lock file is right for them'
-! has_toml || advised cargo-lock/checksums/Cargo.lock 'remove the checksum from the lock file, and have Cargo write it anew'
+advised monorepo/package-lock.json a 'change the version in the manifest, or the requirement'
+advised overrides-conflict/package-lock.json 'by-range, differs and workspace' 'make the override and the requirement agree'
+advised hiding/newer/package-lock.json 'ada and @of/ada' \
+    'remove the lock file and node_modules, and have npm write a new lock file'
+advised peers-conflict/package-lock.json frame \
+    'make the requirement and the peer dependency agree, or set legacy-peer-deps=true in .npmrc'
+! has_toml || advised cargo-lock/conflicts/Cargo.lock 'b, c and a' 'correct the manifests: no lock file is right for them'
+! has_toml || advised cargo-lock/checksums/Cargo.lock 'low, malformed and none' \
+    'remove the checksum from the lock file, and have Cargo write it anew'
 repaired monorepo/web/yarn.lock 'yarn install'
-advised yarn/stale/yarn.lock 'have the resolution and the requirement say the same' \
-    'correct the manifests: no lock file is right for them'
-advised yarn/classic/yarn.lock 'run yarn install in cases/yarn/classic' \
-    'remove the entry from the lock file, and have the tool write it anew' 'correct the version of the package'
-advised yarn/contradicted/yarn.lock 'have the resolution and the requirement say the same'
-advised yarn/gone/yarn.lock 'put the directory there, or remove what requires it'
+advised yarn/stale/yarn.lock replaced 'make the resolution and the requirement agree' \
+    app 'correct the manifests: no lock file is right for them'
+advised yarn/classic/yarn.lock 'canary, odd, wrongly-replaced and 2 others' 'run yarn install in cases/yarn/classic' \
+    'texts and never' 'remove the entry from the lock file, and have the tool write it anew' odd 'correct the version'
+advised yarn/contradicted/yarn.lock num 'make the resolution and the requirement agree'
+advised yarn/gone/yarn.lock gone 'put the directory there, or remove what requires it'
 untried yarn/stale-berry/yarn.lock yarn 'yarn install'
 untried pnpm/stale/pnpm-lock.yaml pnpm 'pnpm install'
 untried bun/beside/bun.lock Bun 'bun install'
@@ -300,7 +306,8 @@ at_terminal 'a dumb terminal' "$work/plain" env TERM=dumb $terminal cases/monore
 at_terminal '--color never' "$work/plain" $terminal --color never cases/monorepo/package-lock.json
 at_terminal '--color auto' "$work/plain" env NO_COLOR=1 $terminal --color=auto cases/monorepo/package-lock.json
 same '--color always' 1 /dev/null "$work/colored" /dev/null env NO_COLOR=1 $check --quiet --color always cases/monorepo/package-lock.json
-refused 'check-lock-file: unknown color: "red"; see check-lock-file --help' /dev/null $check --color red cases/missing.json
+refused 'check-lock-file: unknown color: "red" isn'"'"'t auto, always or never; see check-lock-file --help' /dev/null \
+    $check --color red cases/missing.json
 
 # A pipe whose content comes after more than a second.
 mkfifo "$work/slow"
@@ -469,7 +476,8 @@ refused "check-lock-file: --package-json is for exactly one file; see check-lock
 refused "check-lock-file: --package-json is for exactly one file; see check-lock-file --help" /dev/null \
     $check --package-json cases/stale/package.json cases/stale/package-lock.json cases/missing.json
 refused 'check-lock-file: two files are standard input; see check-lock-file --help' /dev/null $check --allow - -
-refused 'check-lock-file: unknown format: "xml"; see check-lock-file --help' /dev/null $check --format xml cases/missing.json
+refused 'check-lock-file: unknown format: "xml" isn'"'"'t text, tsv, json, github or sarif; see check-lock-file --help' /dev/null \
+    $check --format xml cases/missing.json
 refused 'check-lock-file: --json and --format tsv are both given; see check-lock-file --help' /dev/null \
     $check --format tsv --json cases/missing.json
 
@@ -487,7 +495,7 @@ for line in sys.stdin:
     pattern = line.rstrip("\n")
     print(pattern, " ".join(places_at(pattern, sys.argv[1])), sep="\t")' "$work/patterns" | diff -u cases/workspace-patterns -
 echo 'patterns of workspaces: passed'
-refused "$told $work/package.json: it is no package.json: workspaces: ../** is for directories outside of the project" \
+refused "$told $work/package.json: it isn't a valid package.json: workspaces: ../** is for directories outside of the project" \
     /dev/null sh -c 'cd "$1" && echo "{\"workspaces\": [\"../**\"]}" > package.json && exec "$2" --package-json "$1/package.json" "$3"' \
     - "$work" "$here/$check" "$here/cases/yarn/classic-right/yarn.lock"
 
@@ -552,7 +560,7 @@ echo 'x 1.0.0 cannot be checked: "1 # 2" is an invalid range, required by the pr
 same 'a known finding with a mark in it' 0 "$work/lock" /dev/null /dev/null $check --quiet --allow "$work/known.txt" -
 printf '%s # later\n' "$lodash" > "$work/known.txt"
 echo 'checked 2 requirements and 1 package in cases/monorepo/package-lock.json (npm); 1 allowed
-to repair cases/monorepo/package-lock.json, change the version in the manifest of the package, or the requirement' > "$work/told"
+to repair a in cases/monorepo/package-lock.json, change the version in the manifest, or the requirement' > "$work/told"
 echo "$a" > "$work/lines"
 same 'known findings are counted' 1 /dev/null "$work/lines" "$work/told" \
     $check --allow "$work/known.txt" cases/monorepo/package-lock.json

@@ -112,12 +112,12 @@ if python3 -c 'import tomllib' 2> /dev/null; then
     refused "check-lock-file: $work/right/Cargo.toml: it isn't TOML: Expected '=' after a key in a key/value pair (at line 4, column 2)" \
         /dev/null $check "$work/right/Cargo.lock"
     printf '[package]\nname = "a"\n[features]\nx = ["dep:y"]\n' > "$work/right/Cargo.toml"
-    refused "check-lock-file: $work/right/Cargo.toml: it is no Cargo.toml: features: x: dep:y isn't there" \
+    refused "check-lock-file: $work/right/Cargo.toml: it isn't a valid Cargo.toml: features: x: dep:y isn't there" \
         /dev/null $check "$work/right/Cargo.lock"
     # refused_by_cargo WHY PACKAGE REST: checks a Cargo.toml that Cargo rejects, too.
     refused_by_cargo() {
         printf '[package]\nname = "a"\nversion = "0.1.0"\n%b\n%b\n' "$2" "$3" > "$work/right/Cargo.toml"
-        refused "check-lock-file: $work/right/Cargo.toml: it is no Cargo.toml: $1" /dev/null $check "$work/right/Cargo.lock"
+        refused "check-lock-file: $work/right/Cargo.toml: it isn't a valid Cargo.toml: $1" /dev/null $check "$work/right/Cargo.lock"
     }
     refused_by_cargo 'edition 2099 is unknown' 'edition = "2099"' ''
     refused_by_cargo 'resolver 9 is unknown' 'resolver = "9"' ''
@@ -139,11 +139,11 @@ if python3 -c 'import tomllib' 2> /dev/null; then
     refused_dependency 'branch is there without git' 'version = "1", branch = "b"'
     refused_dependency 'feature x/y has a slash or dep:' 'version = "1", features = ["x/y"]'
     printf '[workspace]\n[dependencies]\n' > "$work/right/Cargo.toml"
-    refused "check-lock-file: $work/right/Cargo.toml: it is no Cargo.toml: dependencies is there without a package" \
+    refused "check-lock-file: $work/right/Cargo.toml: it isn't a valid Cargo.toml: dependencies is there without a package" \
         /dev/null $check "$work/right/Cargo.lock"
     for line in 'name = "1a"' 'name = "a b"'; do
         printf '[package]\n%s\n' "$line" > "$work/right/Cargo.toml"
-        refused "check-lock-file: $work/right/Cargo.toml: it is no Cargo.toml: $(echo "$line" | cut -d '"' -f 2) is no name of a package" \
+        refused "check-lock-file: $work/right/Cargo.toml: it isn't a valid Cargo.toml: $(echo "$line" | cut -d '"' -f 2) isn't a valid name of a package" \
             /dev/null $check "$work/right/Cargo.lock"
     done
     cp -R cases/cargo-lock/wrong "$work/[a]*"
@@ -206,7 +206,7 @@ fi
 { echo '<<<<<<< HEAD' && cat cases/nothing-wrong.json; } > "$work/conflict"
 refused 'check-lock-file: standard input: merge conflict at line 1' "$work/conflict" $check -
 echo 'all' > "$work/unknown"
-refused 'check-lock-file: standard input: it is no lock file that is known' "$work/unknown" $check -
+refused "check-lock-file: standard input: it isn't a lock file that is known" "$work/unknown" $check -
 
 # ---- the smallest projects on which a tool and the checker might disagree
 
@@ -279,27 +279,28 @@ if python3 -c 'import yaml' 2> /dev/null; then
         refused "$told standard input: it isn't YAML" "$work/wrong" $check -
     done
     python3 -c 'print("lockfileVersion: 9.0\nx: " + "[" * 5000 + "]" * 5000)' > "$work/wrong"
-    refused "$told standard input: it is no lock file: it is nested too deep" "$work/wrong" $check -
+    refused "$told standard input: it isn't a valid lock file: it is nested too deep" "$work/wrong" $check -
     sed 's/^importers:/x: \&anchor {}\ny: *anchor\nimporters:/' cases/pnpm/wrong-9.yaml > "$work/lock"
     same 'a file of pnpm with an alias' 1 "$work/lock" cases/pnpm/wrong-9.expected /dev/null $fields -
 fi
 # What would take very long is rejected: a path, a key and nested lists that are too long, and a pipe.
 python3 -c 'print("{\"lockfileVersion\": 3, \"packages\": {\"" + "/".join(["node_modules/a"] * 100000) + "\": {}}}")' > "$work/wrong"
-refused "$told standard input: it is no lock file: a path in it has more than 4,096 characters" "$work/wrong" $check -
+refused "$told standard input: it isn't a valid lock file: a path in it has more than 4,096 characters" "$work/wrong" $check -
 if python3 -c 'import tomllib' 2> /dev/null; then
     { printf '[[package]]\n[' && python3 -c 'print(".".join(["a"] * 100000) + "]")'; } > "$work/wrong"
     refused "$told standard input: it isn't TOML: a key has more than 1,000 parts" "$work/wrong" $check -
     mkdir "$work/long" && cp cases/cargo-lock/package/Cargo.lock "$work/long"
     python3 -c 'print("[package]\nname = \"a\"\n[target.\"cfg(" + "all(" * 4000 + "unix" + ")" * 4001 + "\".dependencies]")' > "$work/long/Cargo.toml"
-    refused "$told $work/long/Cargo.toml: it is no Cargo.toml: a target has more than 100 lists" /dev/null $check "$work/long/Cargo.lock"
+    refused "$told $work/long/Cargo.toml: it isn't a valid Cargo.toml: a target has more than 100 lists" /dev/null $check "$work/long/Cargo.lock"
 fi
 mkdir "$work/waiting" && cp cases/nothing-wrong.json "$work/waiting/package-lock.json" && mkfifo "$work/waiting/package.json"
 refused "$told $work/waiting/package.json: it can't be read: it is a pipe" /dev/null $check "$work/waiting/package-lock.json"
 refused "$told nowhere: it can't be read: No such file or directory" /dev/null $check nowhere
-refused "$told standard input: it is no lock file that is known" /dev/null $check -
-for option in --npm --strict=yes --stric -s; do
+refused "$told standard input: it isn't a lock file that is known" /dev/null $check -
+for option in --npm --npm=yes --stric -s; do
     refused "$told unknown option: \"$option\"; see check-lock-file --help" /dev/null $check $good $option
 done
+refused "$told --strict is an option without a value, and \"yes\" is given; see check-lock-file --help" /dev/null $check $good --strict=yes
 refused "$told --strict is given twice; see check-lock-file --help" /dev/null $check --strict $good --strict
 refused "$told --strict: it can't be read: No such file or directory" /dev/null $check -- --strict
 refused "$told --package-json has no value; see check-lock-file --help" /dev/null $check $good --package-json
@@ -314,30 +315,29 @@ done
 # refused_manifest WHY JSON: checks that a package.json is rejected.
 refused_manifest() {
     echo "$2" > "$work/package.json"
-    refused "$told standard input: it is no package.json: $1" "$work/package.json" $check --package-json - $good
+    refused "$told standard input: it isn't a valid package.json: $1" "$work/package.json" $check --package-json - $good
 }
 refused_manifest "the file isn't an object" '[]'
 refused_manifest "dependencies isn't an object" '{"dependencies": []}'
-refused_manifest "devDependencies: a isn't a text" '{"devDependencies": {"a": 1}}'
+refused_manifest "devDependencies: a isn't a string" '{"devDependencies": {"a": 1}}'
 refused_manifest "peerDependenciesMeta: a isn't an object" '{"peerDependenciesMeta": {"a": true}}'
 refused_manifest 'overrides: a is null' '{"overrides": {"a": null}}'
-refused_manifest "overrides: a: . isn't a text" '{"overrides": {"a": {".": 1}}}'
+refused_manifest "overrides: a: . isn't a string" '{"overrides": {"a": {".": 1}}}'
 refused_manifest 'overrides:  names no package' '{"overrides": {"": "1.0.0"}}'
 cp -R cases/workspaces "$work/workspaces" && echo '[]' > "$work/workspaces/packages/a/package.json"
-refused "$told $work/workspaces/packages/a/package.json: it is no package.json: the file isn't an object" /dev/null \
+refused "$told $work/workspaces/packages/a/package.json: it isn't a valid package.json: the file isn't an object" /dev/null \
     $check "$work/workspaces/package-lock.json"
 refused_manifest 'overrides: a@next has no range after its name' '{"overrides": {"a@next": "1.0.0"}}'
 
 echo '{"resolutions": {"numbers": 1}}' > "$work/package.json"
-refused "$told standard input: it is no package.json: resolutions: numbers isn't a text" "$work/package.json" \
+refused "$told standard input: it isn't a valid package.json: resolutions: numbers isn't a string" "$work/package.json" \
     $check --package-json - cases/yarn/classic/yarn.lock
 
 # has_help PROGRAM: checks the help and the version, also without the library, and with an output
 # that can't be written.
 has_help() {
     "$1" --help > "$work/page"
-    head -n 1 "$work/page" > "$work/usage"
-    grep -q "^usage: ${1##*/} " "$work/usage"
+    head -n 1 "$work/page" | grep -q "^usage: ${1##*/} "
     echo "${1##*/} $(cat ../VERSION)" > "$work/version"
     for library in "$SEMVER_PARSER_LIBRARY" /nowhere; do
         same "${1##*/} -h" 0 /dev/null "$work/page" /dev/null env SEMVER_PARSER_LIBRARY="$library" "$1" nowhere -h
@@ -348,8 +348,13 @@ has_help() {
 }
 has_help $check
 has_help $compare
-refused "$(cat "$work/usage")" /dev/null $compare
-refused "$(cat "$work/usage")" /dev/null $compare nowhere nowhere nowhere
+see='see compare-requirements --help'
+refused "compare-requirements: without --git, OLD and NEW are needed, and none is given; $see" /dev/null $compare
+refused "compare-requirements: without --git, OLD and NEW are needed, and 1 is given; $see" /dev/null $compare nowhere
+refused "compare-requirements: without --git, OLD and NEW are needed, and 3 are given; $see" /dev/null $compare nowhere nowhere nowhere
+refused "compare-requirements: --git REV needs a PATH, or a second REV and a PATH, and none is given; $see" /dev/null $compare --git HEAD
+refused "compare-requirements: two files are standard input; $see" /dev/null $compare - -
+refused "compare-requirements: --fail-on: \"new\" isn't lost, gained or any; $see" /dev/null $compare --fail-on new nowhere nowhere
 same 'a reader that closes the pipe' 1 /dev/null /dev/null /dev/null sh -c '
     { status=0; "$@" || status=$?; echo "$status" > "$0"; } | :
     exit "$(cat "$0")"' "$work/status" $fields cases/package-lock.json
@@ -370,7 +375,7 @@ same 'an interrupt' 0 /dev/null /dev/null /dev/null python3 "$work/interrupt.py"
 without_library() {
     entry=$(sed -n "s/^${1##*/} = \"\(.*\):\(.*\)\"$/from \1 import \2 as main/p" ../pyproject.toml)
     echo "${1##*/}: semver_parser needs its shared library, and found none that can be loaded. It looked for\
- /nowhere, which SEMVER_PARSER_LIBRARY names: cannot open shared object file: No such file or directory;\
+ /nowhere, which SEMVER_PARSER_LIBRARY names: cannot open shared object file: No such file or directory.\
  If the library is elsewhere, set SEMVER_PARSER_LIBRARY to its path." > "$work/told"
     same "${1##*/} without the library" 2 /dev/null /dev/null "$work/told" env SEMVER_PARSER_LIBRARY=/nowhere "$@"
     shift
@@ -397,11 +402,17 @@ here=$PWD
 
 # ---- requirements
 
+# The examples at the top of the checkers' page, after the commands by which they run in a clone.
+# Standard error is shown after standard output, as at a terminal.
 sed '/^## /,$d' semver_parser/checks/README.md > "$work/examples"
-sed -n 's/^    \$ //p' "$work/examples" > "$work/commands"
+{
+    sed -n 's/^    \$ export /export /p' semver_parser/checks/README.md
+    sed -n 's/^    \$ //p' "$work/examples"
+} > "$work/commands"
+[ "$(wc -l < "$work/commands")" = 4 ] || refuse 'README.md has other commands'
 sed -n '/^    \$/d; s/^    //p' "$work/examples" > "$work/lines"
-same "README.md's example" 0 /dev/null "$work/lines" cases/monorepo/closing \
-    env -u SEMVER_PARSER_LIBRARY sh -c 'cd .. && . "$1"' - "$work/commands"
+same "README.md's examples" 0 /dev/null "$work/lines" /dev/null \
+    env -u SEMVER_PARSER_LIBRARY sh -c 'exec 2>&1; cd .. && . "$1"' - "$work/commands"
 
 # compared STATUS NAME ARGUMENT..: compares requirements. The lines are in cases/requirements/NAME.
 compared() {
@@ -412,12 +423,14 @@ compared() {
 folder=cases/requirements
 compared 1 package.expected $folder/old.json $folder/new.json
 compared 1 package.json.expected --json $folder/old.json $folder/new.json
+for change in lost gained any; do compared 1 package.expected --fail-on $change $folder/old.json $folder/new.json; done
 { printf '\357\273\277' && cat $folder/old.json; } > "$work/marked"
 compared 1 package.expected "$work/marked" $folder/new.json
 
 # refused_as_manifest WHY FILE: checks that a file is rejected because it isn't a manifest.
 refused_as_manifest() {
-    refused "compare-requirements: $2: it is no package.json, pnpm-workspace.yaml or Cargo.toml$1" /dev/null $compare "$2" "$2"
+    refused "compare-requirements: $2: it isn't a ${1:+valid }package.json, pnpm-workspace.yaml or Cargo.toml$1" /dev/null \
+        $compare "$2" "$2"
 }
 
 same 'one file' 0 /dev/null /dev/null /dev/null $compare $folder/old.json $folder/old.json
@@ -446,6 +459,25 @@ same 'what moved, and what did not' 1 /dev/null "$work/changes" /dev/null $compa
 echo '{"peerDependencies": {"a": "^1.0.0"}, "overrides": {"b": "^1.0.0"}}' > "$work/lines"
 sed -n 1p "$work/changes" > "$work/moved"
 same 'only a move' 1 /dev/null "$work/moved" /dev/null $compare "$work/package.json" "$work/lines"
+same 'only a move, which loses nothing' 0 /dev/null "$work/moved" /dev/null $compare --fail-on lost "$work/package.json" "$work/lines"
+# failing_on CHANGE STATUS OLD NEW: compares two ranges, of which only one contains the other.
+failing_on() {
+    for side in "one $3" "other $4"; do
+        echo "{\"dependencies\": {\"a\": \"${side#* }\"}}" > "$work/${side%% *}.json"
+    done
+    status=0
+    $compare --fail-on "$1" "$work/one.json" "$work/other.json" > "$work/output" || status=$?
+    [ "$status" = "$2" ] || { cat "$work/output" && echo "--fail-on $1, $3 -> $4: status $status" && exit 1; }
+    echo "--fail-on $1, $3 -> $4: passed"
+}
+failing_on lost 1 ^1.2.0 ^1.3.0
+failing_on gained 0 ^1.2.0 ^1.3.0
+failing_on lost 0 ^1.3.0 ^1.2.0
+failing_on gained 1 ^1.3.0 ^1.2.0
+failing_on any 1 ^1.3.0 ^1.2.0
+failing_on lost 1 1.2.3-rc 1.2.3
+failing_on gained 0 '1.2.3-rc || 1.2.3' 1.2.3
+failing_on any 0 ^1.2.0 1.2.0\ -\ 1
 git init -q "$work/tree"
 in_tree() { git -C "$work/tree" -c user.name=a -c user.email=a@b "$@"; }
 cp $folder/old.json "$work/tree/package.json" && in_tree add . && in_tree commit -qm old
@@ -504,8 +536,13 @@ found = json.load(sys.stdin)
 assert found[1][\"file\"].endswith(\"after/package.json\"), found[1]
 assert (found[1][\"table\"], found[1][\"new_table\"]) == (\"dependencies\", \"devDependencies\")"' - $compare $folder
 fi
-refused 'compare-requirements: one is a directory and the other a file; see compare-requirements --help' /dev/null \
+refused "compare-requirements: $folder is a directory, and $folder/old.json isn't; see compare-requirements --help" /dev/null \
     $compare $folder $folder/old.json
+refused "compare-requirements: $folder is a directory, and standard input isn't; see compare-requirements --help" /dev/null \
+    $compare - $folder
+for pair in "nowhere $folder" "$folder nowhere"; do
+    refused "compare-requirements: nowhere: it can't be read: No such file or directory" /dev/null $compare $pair
+done
 mkdir -p "$work/empty"
 refused "compare-requirements: $work/empty: it is a directory without a manifest" /dev/null $compare "$work/empty" "$work/empty"
 echo 'checkers: passed'

@@ -1,4 +1,4 @@
-# bash completion for check-lock-file, made of its help text by tools/make-completions.py.
+# bash completion for check-lock-file, generated from its help text by tools/make-completions.py.
 _check_lock_file() {
     local word=${COMP_WORDS[COMP_CWORD]} before=${COMP_WORDS[COMP_CWORD - 1]}
     [ "$word" != = ] || word=

@@ -1,4 +1,4 @@
-# bash completion for compare-ranges, made of its help text by tools/make-completions.py.
+# bash completion for compare-ranges, generated from its help text by tools/make-completions.py.
 _compare_ranges() {
     local word=${COMP_WORDS[COMP_CWORD]} before=${COMP_WORDS[COMP_CWORD - 1]}
     [ "$word" != = ] || word=

@@ -1,4 +1,4 @@
-# bash completion for release-filter, made of its help text by tools/make-completions.py.
+# bash completion for release-filter, generated from its help text by tools/make-completions.py.
 _release_filter() {
     local word=${COMP_WORDS[COMP_CWORD]} before=${COMP_WORDS[COMP_CWORD - 1]}
     [ "$word" != = ] || word=

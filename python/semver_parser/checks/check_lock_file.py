@@ -83,7 +83,7 @@ PROGRAM = Program(
         "--color": True,
         "--quiet": False,
     },
-    lambda options: True,
+    lambda options: None,
     check,
 )
 

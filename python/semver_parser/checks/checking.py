@@ -10,7 +10,7 @@ from .discovery import Discovery, discover
 from .files import STANDARD_INPUT
 from .model import Scope
 from .output import github, json_object, sarif, text, tsv
-from .program import Misuse, Options, Outcome, escaped
+from .program import Misuse, Options, Outcome, escaped, one_of
 from .progress import Progress
 from .repairs import repair_lines
 from .reports import Report, Results, Wanted, report_on
@@ -38,7 +38,7 @@ def format_of(options: Options) -> str:
             raise Misuse(f"--json and --format {named} are both given")
         return "json"
     if named not in FORMATS:
-        raise Misuse(f'unknown format: "{named}"')
+        raise Misuse(f'unknown format: "{named}" isn\'t {one_of(FORMATS)}')
     return named
 
 
@@ -56,7 +56,7 @@ def is_colored(options: Options) -> bool:
     the environment forbids it."""
     asked = options.given.get("--color", "auto")
     if asked not in COLORS:
-        raise Misuse(f'unknown color: "{asked}"')
+        raise Misuse(f'unknown color: "{asked}" isn\'t {one_of(COLORS)}')
     if asked != "auto":
         return asked == "always"
     is_refused = os.environ.get("NO_COLOR") or os.environ.get("TERM") == "dumb"

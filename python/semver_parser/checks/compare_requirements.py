@@ -7,12 +7,12 @@ something is compared.
 
 import sys
 
-from .program import Options, Outcome, Program, run
+from .program import Misuse, Options, Outcome, Program, run
 
 PAGE = """\
-usage: compare-requirements [--json] OLD NEW
-       compare-requirements [--json] --git REV[..REV] PATH
-       compare-requirements [--json] --git REV REV PATH
+usage: compare-requirements [OPTION]... OLD NEW
+       compare-requirements [OPTION]... --git REV[..REV] PATH
+       compare-requirements [OPTION]... --git REV REV PATH
 
 Prints what changed between two manifests, which are package.json,
 pnpm-workspace.yaml or Cargo.toml files, or between all manifests below two
@@ -24,16 +24,19 @@ pnpm-workspace.yaml needs PyYAML.
 
 As OLD or NEW, - is standard input.
 
-    --git        compare PATH, a file or a directory, in the first revision with
-                 PATH in the second one, or in the work tree if only one is given
-    --json       print the changes as a list of objects
-    --version    print the version
-    -h, --help   print this
-    --           end the options
+    --git             compare PATH, a file or a directory, in the first revision
+                      with PATH in the second one, or in the work tree if only
+                      one is given
+    --fail-on CHANGE  exit with 1 only if versions are lost, gained, or if
+                      something differs: lost, gained or any (the default)
+    --json            print the changes as a list of objects
+    --version         print the version
+    -h, --help        print this
+    --                end the options
 
 The status is 0 if all requirements contain the same versions as before and none
-moved, 1 if something differs, and 2 after an error, which standard error
-reports."""
+moved, 1 if something differs that --fail-on names, and 2 after an error, which
+standard error reports."""
 
 
 def compare(options: Options) -> Outcome:
@@ -43,14 +46,29 @@ def compare(options: Options) -> Outcome:
     return compare(options)
 
 
-def takes(options: Options) -> bool:
-    """Returns whether the number of files is right."""
-    if "--git" in options.given:
-        return len(options.files) in (1, 2)
-    return len(options.files) == 2 and options.files != ["-", "-"]
+def refuse(options: Options) -> None:
+    """Raises `Misuse` if the number of files is wrong, or both are standard input."""
+    count = len(options.files)
+    if "--git" in options.given and count not in (1, 2):
+        raise Misuse(f"--git REV needs a PATH, or a second REV and a PATH, and {given(count)}")
+    if "--git" not in options.given and count != 2:
+        raise Misuse(f"without --git, OLD and NEW are needed, and {given(count)}")
+    if options.files == ["-", "-"]:
+        raise Misuse("two files are standard input")
 
 
-PROGRAM = Program("compare-requirements", PAGE, {"--json": False, "--git": True}, takes, compare)
+def given(count: int) -> str:
+    """Returns how many arguments are given, in words."""
+    return f"{count or 'none'} {'is' if count < 2 else 'are'} given"
+
+
+PROGRAM = Program(
+    "compare-requirements",
+    PAGE,
+    {"--json": False, "--git": True, "--fail-on": True},
+    refuse,
+    compare,
+)
 
 
 def main() -> int:

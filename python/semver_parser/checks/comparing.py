@@ -4,11 +4,14 @@ import json
 from typing import Iterator, List, Optional, Tuple
 
 from .files import Refusal
-from .program import Options, Outcome, escaped, visible
-from .requirements.changes import SAME, WHOLE, Change, changes
+from .program import Misuse, Options, Outcome, escaped, one_of, visible
+from .requirements.changes import FIELDS, SAME, WHOLE, Change, changes
 from .requirements.sources import pairs_of
 
 NAME = "compare-requirements"
+
+ANY = "any"
+"""The value of `--fail-on` that names all changes."""
 
 
 def shown(text: Optional[str]) -> str:
@@ -30,8 +33,25 @@ def lines_of(it: Change) -> Iterator[str]:
             yield f"  {field.replace('_pre_', ' pre-')}: {versions}"
 
 
+def failing(options: Options) -> str:
+    """Returns which changes make the status 1."""
+    what = options.given.get("--fail-on", ANY)
+    values = (*FIELDS, ANY)
+    if what not in values:
+        raise Misuse(f'--fail-on: "{what}" isn\'t {one_of(values)}')
+    return what
+
+
+def fails(it: Change, what: str) -> bool:
+    """Returns whether a change makes the status 1."""
+    if what == ANY:
+        return it.differs
+    return any(getattr(it, field) is not None for field in FIELDS[what])
+
+
 def compare(options: Options) -> Outcome:
     """Returns the lines about what changed."""
+    what = failing(options)
     refusals: List[Refusal] = []
     found: List[Tuple[Optional[str], Change]] = [
         (pair.file, it)
@@ -49,4 +69,4 @@ def compare(options: Options) -> Outcome:
             for line in lines_of(it)
         ]
     notes = [f"{NAME}: {escaped(str(it))}" for it in refusals]
-    return Outcome(lines, notes, 2 if refusals else int(any(it.differs for _, it in found)))
+    return Outcome(lines, notes, 2 if refusals else int(any(fails(it, what) for _, it in found)))

@@ -12,9 +12,11 @@ from .program import open_output
 def refused(program: str, error: ImportError) -> int:
     """Prints in one line what a program needs. Returns the status."""
     open_output()
-    what, _, more = str(error).partition("\n")
-    details = "; ".join(line.strip() for line in more.splitlines())
-    print(f"{program}: {what} {details}".rstrip(), file=sys.stderr)
+    what, *lines = str(error).split("\n")
+    details = "; ".join(line.strip() for line in lines if line.startswith(" "))
+    others = [line for line in lines if not line.startswith(" ")]
+    more = f" {details}. {' '.join(others)}" if lines else ""
+    print(f"{program}: {what}{more}", file=sys.stderr)
     return 2
 
 

@@ -50,6 +50,14 @@ class Refusal(Exception):
         return f"{name_of(self.path)}: {self.why}"
 
 
+def version_stated(file: Entry, field: str = "lockfileVersion") -> str:
+    """Returns which version a file has in a field, for a message. A long one is cut off."""
+    if field not in file:
+        return f"it has no {field}"
+    value = json.dumps(file[field])
+    return f"its {field} is {value if len(value) <= 40 else value[:40] + '...'}"
+
+
 class Unreadable(Exception):
     """A text isn't in its notation, and why."""
 
@@ -104,9 +112,10 @@ def taking(path: str, what: str) -> Iterator[None]:
     except Unreadable as error:
         raise Refusal(path, str(error)) from None
     except WrongShape as error:
-        raise Refusal(path, f"it is no {what}{error}") from None
+        valid = "valid " if str(error).startswith(":") else ""
+        raise Refusal(path, f"it isn't a {valid}{what}{error}") from None
     except RecursionError:
-        raise Refusal(path, f"it is no {what}: it is nested too deep") from None
+        raise Refusal(path, f"it isn't a valid {what}: it is nested too deep") from None
     except MemoryError:
         raise Refusal(path, "out of memory") from None
 
@@ -237,4 +246,4 @@ def text_at(value: Any, where: str) -> str:
     """Returns a value that has to be a text."""
     if isinstance(value, str):
         return value
-    raise WrongShape(f": {where} isn't a text")
+    raise WrongShape(f": {where} isn't a string")

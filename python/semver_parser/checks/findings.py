@@ -8,7 +8,7 @@ command of its tool repairs has an `advice`; if it makes that command fail, it i
 from dataclasses import dataclass
 from typing import ClassVar, Dict, List, NamedTuple, Optional, Tuple, Type, TypeVar
 
-from .model import PROJECT, Keys, Package, Requirement
+from .model import PEERS, PROJECT, Keys, Package, Requirement
 from .wording import PACKAGE, RANGE, VERSION, Paint, escaped, plain, quoted
 
 F = TypeVar("F", bound="Finding")
@@ -141,6 +141,8 @@ class OfRequirement(Finding):
         requirer = place_of(who.name) + (f" {quoted(who.version)}" if who.version else "")
         is_renamed = bool(it.alias) or bool(own_name and own_name != it.name)
         known_as = f" as {quoted(it.alias or it.name)}" if is_renamed else ""
+        if it.kind == PEERS:
+            known_as = f" as the peer{known_as[3:]}" if is_renamed else " as a peer"
         return {
             "name": name,
             "found": f"{name} {paint(quoted(version), VERSION)}" if version else name,
@@ -219,7 +221,7 @@ class NoVersion(OfFound):
 
     kind, title = "invalid-version", "A version is invalid"
     text = "{name} has no version for {range}, {required}"
-    advice = "give the package a valid version"
+    advice = "add a valid version"
 
 
 class NotChecked(OfFound):
@@ -249,7 +251,7 @@ class NotRequired(OfRequirement):
     """A package that the lock file has for a requirer that doesn't require it."""
 
     kind, title = "not-required", "Nothing requires a package"
-    text = "{found} is in the graph, but not required by {requirer}"
+    text = "{found} is listed as a dependency of {requirer}, which does not require it"
 
     @property
     def found(self) -> Optional[Package]:
@@ -270,7 +272,7 @@ class Conflict(OfRequirement):
 
     kind, title = "conflict", "An override is not what the project requires"
     text = "the override {override} of {name} conflicts with {stated}, {required}"
-    advice, is_blocking = "have the override and the requirement say the same", True
+    advice, is_blocking = "make the override and the requirement agree", True
 
     @property
     def record(self) -> Record:
@@ -305,6 +307,12 @@ class Stale(OfRequirement):
         """Returns the parts of the sentence."""
         stated, locked = or_missing(self.stated), or_missing(self.locked)
         return {**super().parts(paint), "stated": stated, "locked": locked, "file": self.file}
+
+
+class StaleTable(Stale):
+    """A requirement that is in another table of a manifest than in the lock file."""
+
+    text = "{name} is in {stated} in {file}, and in {locked} in the lock file, {required}"
 
 
 @dataclass(eq=False)
@@ -378,7 +386,7 @@ class InvalidVersion(OfPackage):
 
     kind, title = NoVersion.kind, NoVersion.title
     text = "{found} has an invalid version{inside}"
-    advice = "correct the version of the package"
+    advice = "correct the version"
 
 
 class TwoVersions(OfPackage):
@@ -444,19 +452,19 @@ class MissingMember(OfPackage):
     """A workspace member that the lock file lacks."""
 
     kind, title = Missing.kind, Missing.title
-    text = "{found} is missing, a member of the workspace{inside}"
+    text = "the workspace member {found} is missing{inside}"
 
 
 class MissingEntry(MissingMember):
-    """A package that the lock file lacks, and what it is."""
+    """A package that the lock file lacks, and why it has to be there."""
 
-    text = "{found} is missing, {what}"
+    text = "{found} is missing: {what}"
 
 
 class MissingTarget(MissingMember):
     """A link to a directory that isn't there."""
 
-    text = "{other} is missing, the target of the link {where}"
+    text = "{other}, the target of the link {where}, is missing"
     advice, is_blocking = "remove the entry of the link", True
 
 

@@ -19,6 +19,7 @@ from .findings import (
     OfFound,
     Overridden,
     Stale,
+    StaleTable,
     Unreached,
     Unsatisfied,
 )
@@ -122,7 +123,7 @@ def stale_findings(it: Requirement) -> Iterator[Finding]:
     if locked.stated_kind is None or not locked.same:
         yield NotRequired(it)
     elif locked.kind != locked.stated_kind:
-        yield Stale(it, locked.stated_kind, locked.kind, locked.manifest)
+        yield StaleTable(it, locked.stated_kind, locked.kind, locked.manifest)
     elif locked.specifier not in locked.same:
         yield Stale(it, locked.stated, locked.specifier, locked.manifest)
 

@@ -75,16 +75,16 @@ class Outcome(NamedTuple):
 class Program(NamedTuple):
     """A program.
 
-    - `page` is what `--help` prints. Its first line is the usage.
+    - `page` is what `--help` prints.
     - `options` has its options, each with whether a value follows it.
-    - `takes` returns whether the number of files is right.
+    - `refuse` raises `Misuse` if the number of files is wrong.
     - `run` does what the program is for.
     """
 
     name: str
     page: str
     options: Dict[str, bool]
-    takes: Callable[[Options], bool]
+    refuse: Callable[[Options], None]
     run: Callable[[Options], Outcome]
 
 
@@ -107,14 +107,22 @@ def read_arguments(
         if argument == STANDARD_INPUT or not argument.startswith("-"):
             files.append(argument)
             continue
-        if name not in options or (equals and not options[name]):
+        if name not in options:
             raise Misuse(f'unknown option: "{argument}"')
+        if equals and not options[name]:
+            raise Misuse(f'{name} is an option without a value, and "{value}" is given')
         if name in given:
             raise Misuse(f"{name} is given twice")
         given[name] = value if equals or not options[name] else next(left, "")
         if options[name] and not given[name]:
             raise Misuse(f"{name} has no value")
     return files, given
+
+
+def one_of(names: Iterable[str]) -> str:
+    """Returns the values of an option, for a message: `a, b or c`."""
+    *first, last = names
+    return f"{', '.join(first)} or {last}"
 
 
 def let_interrupt() -> None:
@@ -150,9 +158,9 @@ def outcome_of(program: Program, arguments: List[str]) -> Outcome:
         return Outcome([program.page], [], 0)
     if "--version" in given:
         return Outcome([f"{program.name} {__version__}"], [], 0)
-    if not program.takes(Options(files, given)):
-        return Outcome([], [program.page.partition("\n")[0]], 2)
-    return program.run(Options(files, given))
+    options = Options(files, given)
+    program.refuse(options)
+    return program.run(options)
 
 
 def write(outcome: Outcome) -> int:

@@ -1,4 +1,4 @@
-"""Differences between the checker and a tool, including those that the README lists as choices."""
+"""Differences between the checker and a tool, including those that DIFFERENCES.md lists."""
 
 import json
 import os
@@ -21,8 +21,8 @@ from semver_parser.checks.model import PROJECT, Scope  # noqa: E402
 from semver_parser.checks.reports import Wanted, report_on  # noqa: E402
 
 AS_WRITTEN = "a finding for a lock file as the tool wrote it"
-"""A difference that the README doesn't excuse: the tool wrote the file, and accepts it. The only
-exceptions are what npm left out, and peers that it kept, by what the registry has."""
+"""A difference that DIFFERENCES.md doesn't excuse: the tool wrote the file, and accepts it. The
+only exceptions are what npm left out, and peers that it kept, by what the registry has."""
 
 RECORD = Path(__file__).with_name("repaired")
 """The record of what commands repaired: a tool and a kind of findings on each line."""
@@ -95,7 +95,7 @@ def recorded(tool: str) -> Set[str]:
 
 
 class Differences:
-    """How much was compared; the differences by kind, and those that a choice of the README names;
+    """How much was compared; the differences by kind, and those that a row of DIFFERENCES.md names;
     and the smallest world for each."""
 
     def __init__(self, tool: str) -> None:
@@ -110,7 +110,7 @@ class Differences:
         self.counts[what] = self.counts.get(what, 0) + 1
 
     def choose(self, choice: str, world: Any) -> None:
-        """Records a difference that a choice of the README names."""
+        """Records a difference that a row of DIFFERENCES.md names."""
         self.keep(f"by choice, {choice}", world)
 
     def add(self, kind: str, world: Any) -> None:

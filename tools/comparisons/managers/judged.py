@@ -2,7 +2,7 @@
 [CASE]...
 
 For each case, the tool's frozen install has to end as the table there says, and check-lock-file has
-to agree, unless the README of the checkers names the case as a known difference. If
+to agree, unless DIFFERENCES.md of the checkers names the case as a known difference. If
 check-lock-file proposes a command, it is run, and has to repair the project.
 
 With `--as-written`, the tool writes each lock file anew. If it accepts that, check-lock-file may
@@ -28,7 +28,7 @@ from semver_parser.checks.repairs import command_for
 from semver_parser.checks.reports import Wanted, report_on
 
 CASES = Path(TOP, "python", "cases", "judged")
-README = Path(TOP, "python", "semver_parser", "checks", "README.md")
+DIFFERENCES = Path(TOP, "python", "semver_parser", "checks", "DIFFERENCES.md")
 HERE, REPOSITORY = "http://registry.example", "http://git.example"
 """What stands for the URLs of the registry and of the git repository in the files of a case."""
 
@@ -204,7 +204,7 @@ def wrong_in(case: Case, folder: Path, tools: Tools, known: str) -> Iterator[str
     if is_taken != (case.verdict == ACCEPTS):
         yield f"{' '.join(frozen)} {ACCEPTS if is_taken else REJECTS} it: {printed}"
     if is_taken != (status == 0) and not re.search(rf"judged/{re.escape(case.name)}\b", known):
-        yield "check-lock-file disagrees, and the README doesn't say so"
+        yield "check-lock-file disagrees, and DIFFERENCES.md doesn't say so"
     for where, command in commands:
         ends, printed = tools.run(command.split(), where)
         if not ends:
@@ -217,7 +217,7 @@ def wrong_in(case: Case, folder: Path, tools: Tools, known: str) -> Iterator[str
 
 def wrong_as_written(case: Case, folder: Path, tools: Tools) -> Iterator[str]:
     """Yields what is wrong about the lock file that the tool of a case writes. A case for which the
-    checker lists something although the tool accepts it is a row of the README, and stays one."""
+    checker lists something although the tool accepts it is a row of that page, and stays one."""
     place, is_known = place_of(folder), case.verdict == ACCEPTS and case.status == 1
     frozen = tools.frozen(place)
     if not frozen or case.verdict == NOT_RUN:
@@ -231,7 +231,7 @@ def wrong_as_written(case: Case, folder: Path, tools: Tools) -> Iterator[str]:
 
 def main(names: List[str]) -> int:
     """Judges the cases with these names, or all. Returns 1 if something is wrong."""
-    registry, known, failed = Registry(), README.read_text(), 0
+    registry, known, failed = Registry(), DIFFERENCES.read_text(), 0
     is_written = "--as-written" in names
     names = [it for it in names if it != "--as-written"]
     for case in cases_in(CASES / "table"):

@@ -133,8 +133,8 @@ def cases_of(
 
 
 def choice_of(finding: Finding, it: Case, answer: Answer) -> Optional[str]:
-    """Returns why a finding is listed although npm accepts the project: a row of the README, or the
-    fact that it can't be known without a network. Returns None if there is no such reason."""
+    """Returns why a finding is listed although npm accepts the project: a row of DIFFERENCES.md, or
+    the fact that it can't be known without a network. Returns None if there is no such reason."""
     record = finding.record
     requirer = "" if record.requirer in (PROJECT, None) else record.requirer
     wanted, name = record.range or "", record.dependency or ""
@@ -256,7 +256,7 @@ def with_manifests(it: Case) -> Packages:
 
 
 def choice_of_refusal(it: Case, answer: Answer, as_written: Answer) -> Optional[str]:
-    """Returns why npm rejects a project for which nothing is listed, by a row of the README. It
+    """Returns why npm rejects a project for which nothing is listed, by a row of DIFFERENCES.md. It
     finds no version for a peer that it would otherwise leave as it is; or the peer is that of a
     workspace that is gone; or it rejects the project in the same way as npm wrote it, and would add
     what has an override by a range, and what that requires."""

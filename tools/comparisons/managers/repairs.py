@@ -22,7 +22,8 @@ class Repairs(NamedTuple):
     - `failures` has a pattern of what the tool prints if it fails for each reason that files can't
       tell.
     - `is_taken` returns whether the tool accepts the project.
-    - `is_rejected` returns whether the tool rejects what it has repaired, by a row of the README.
+    - `is_rejected` returns whether the tool rejects what it has repaired, by a row of
+      DIFFERENCES.md.
     """
 
     program: str

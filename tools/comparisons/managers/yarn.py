@@ -70,9 +70,10 @@ def is_only_resolved(world: World, finding: Finding) -> bool:
 
 
 def choice_of(what: str, finding: Finding, world: World) -> Optional[str]:
-    """Returns why a finding is listed, although yarn accepts the project, by a row of the README:
-    it is about an alias, about an archive of another version after that damage, or about an entry
-    that only a workspace, a package or a resolution requires, and that yarn ignores."""
+    """Returns why a finding is listed, although yarn accepts the project, by a row of
+    DIFFERENCES.md: it is about an alias, about an archive of another version after that damage, or
+    about an entry that only a workspace, a package or a resolution requires, and that yarn
+    ignores."""
     record = finding.record
     wanted = record.range or ""
     if wanted.startswith("npm:"):

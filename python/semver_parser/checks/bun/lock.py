@@ -8,7 +8,7 @@ Workspaces are listed by their directories, and are in paths by their names.
 import re
 from typing import Any, Dict, Iterator, Optional
 
-from ..files import Entry, WrongShape, list_at, object_at, objects_at, text_at
+from ..files import Entry, WrongShape, list_at, object_at, objects_at, text_at, version_stated
 from ..model import Package
 from ..node.package_json import TOP, version_in
 from ..node.specifiers import name_and_rest
@@ -23,7 +23,7 @@ STEP = re.compile(r"@[^/]+/[^/]+|[^/]+")
 def workspaces_of(lock: Entry) -> Dict[str, Entry]:
     """Returns the workspaces by their directories. The directory of the project is empty."""
     if lock.get("lockfileVersion") not in (0, 1) or isinstance(lock["lockfileVersion"], bool):
-        raise WrongShape(" of lockfileVersion 0 or 1")
+        raise WrongShape(f" of lockfileVersion 0 or 1: {version_stated(lock)}")
     return objects_at(lock.get("workspaces"), "workspaces")
 
 

@@ -16,7 +16,7 @@ WHAT HAS TO BE THERE. Each dependency must have an edge, except these:
 
 from typing import Any, Dict, Iterator, List, NamedTuple, Optional, Set, Tuple
 
-from ..files import Entry, WrongShape, list_at, object_at, text_at
+from ..files import Entry, WrongShape, list_at, object_at, text_at, version_stated
 from ..findings import NotRequired
 from ..judge import RIGHT, Verdict, findings_of
 from ..model import LockFile, Node, Package, Requirement, Requirer, Scope
@@ -118,7 +118,8 @@ def by_id(entries: Any, where: str) -> Dict[str, Entry]:
 def packages_at(metadata: Entry) -> Iterator[GraphPackage]:
     """Yields the packages of the file, in its order."""
     if metadata.get("version") != 1:
-        raise WrongShape(": it is not of --format-version 1")
+        stated = version_stated(metadata, "version")
+        raise WrongShape(f": {stated}; --format-version 1 is needed")
     if metadata.get("resolve") is None:
         raise WrongShape(": it has no graph, as by --no-deps")
     packages = by_id(metadata.get("packages"), "packages")

@@ -11,7 +11,7 @@ from .project import Patch
 from .resolution import Resolution
 from .sources import PATH, is_from
 
-A_PATCH = "a patch"
+A_PATCH = "it is a patch"
 
 
 def patch_findings(resolution: Resolution) -> Iterator[Finding]:

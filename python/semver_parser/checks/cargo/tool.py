@@ -257,8 +257,7 @@ class Cargo(Tool):
         if isinstance(finding, AnotherCommit):
             finding.advised(f"run cargo update {finding.requirement.name}", False)
         if isinstance(finding, Unsatisfied) and finding.found and not finding.found.source:
-            advice = "change the version in the manifest of the package, or the requirement"
-            finding.advised(advice, True)
+            finding.advised("change the version in the manifest, or the requirement", True)
 
     def statement(self, finding: Finding, file: Input) -> Optional[Statement]:
         """Returns where the Cargo.toml of a package below the directory states a requirement."""

@@ -45,7 +45,7 @@ def wrong_in_package(package: Entry, directory: str) -> Iterator[str]:
     """Yields the errors in the package table."""
     name, version, edition = (package.get(it) for it in ("name", "version", "edition"))
     if isinstance(name, str) and not NAME.fullmatch(name):
-        yield f"{name} is no name of a package"
+        yield f"{name} isn't a valid name of a package"
     if isinstance(version, str) and not is_version(version, Dialect.CARGO):
         yield f"version {version} is invalid"
     if edition is not None and not isinstance(edition, dict) and edition not in EDITIONS:

@@ -203,8 +203,7 @@ class NodeTool(Tool):
         """Adds advice to a finding that the command doesn't repair: if a directory of the project
         doesn't have the required version, the command would look for that in the registry."""
         if isinstance(finding, Unsatisfied) and finding.found is not None and finding.found.is_own:
-            advice = "change the version in the manifest of the package, or the requirement"
-            finding.advised(advice, True)
+            finding.advised("change the version in the manifest, or the requirement", True)
 
     def statement(self, finding: Finding, file: Input) -> Optional[Statement]:
         """Returns where a package.json states a requirement."""

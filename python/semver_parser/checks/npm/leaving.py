@@ -39,7 +39,7 @@ PEER = "run npm install; if npm keeps a mismatched peer, change what requires th
 WITHOUT_RANGE = "give the override a key without a range, and have npm write the lock file anew"
 
 # The advice if no version satisfies both a peer and what the project requires.
-AGREE = "have the requirement and the peer dependency agree, or set legacy-peer-deps=true in .npmrc"
+AGREE = "make the requirement and the peer dependency agree, or set legacy-peer-deps=true in .npmrc"
 
 
 class Leaving:

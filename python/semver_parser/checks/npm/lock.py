@@ -9,7 +9,7 @@ import re
 from functools import lru_cache
 from typing import Dict, Iterator, List, Optional, Set, Tuple
 
-from ..files import Entry, WrongShape, objects_at, text_at, texts_at
+from ..files import Entry, WrongShape, objects_at, text_at, texts_at, version_stated
 from ..model import OPTIONAL, PEERS, PROJECT, Keys, Package, Requirement, Requirer, Scope
 from ..node.archives import archive_at
 from ..node.specifiers import alias_of
@@ -112,7 +112,7 @@ def has_old_form(lock: Entry) -> bool:
     As for npm, `packages` count if they are there, whatever the lockfileVersion is."""
     version = str(lock.get("lockfileVersion"))
     if not VERSION.fullmatch(version):
-        raise WrongShape(" of npm: it has no lockfileVersion from 1 on")
+        raise WrongShape(f" of npm: {version_stated(lock)}")
     return "packages" not in lock and (version == "1" or "dependencies" in lock)
 
 

@@ -105,7 +105,7 @@ def missing_entries(entries: Entries, reached: List[str]) -> Iterator[Finding]:
         name, version = called_by(key) or (own, "")
         if own not in entries.packages and key not in entries.packages:
             package = Package(name, version or None, key, ("snapshots", key))
-            yield MissingEntry(package, "", "of which the file has only a snapshot")
+            yield MissingEntry(package, "", "the file has only its snapshot")
         at = ("snapshots" if entries.form == "9" else "packages", key)
         for dependency, text in depends_of(key, entries.snapshots[key]).items():
             inner = entries.key_of(text, dependency)

@@ -16,7 +16,16 @@ from typing import Callable, Dict, Iterator, List, NamedTuple, Optional, Tuple
 
 from semver_parser import Dialect
 
-from ..files import Entry, WrongShape, object_at, objects_at, taking, text_at, texts_at
+from ..files import (
+    Entry,
+    WrongShape,
+    object_at,
+    objects_at,
+    taking,
+    text_at,
+    texts_at,
+    version_stated,
+)
 from ..model import (
     FOR_DEVELOPMENT,
     OPTIONAL,
@@ -299,4 +308,4 @@ def check_version(lock: Entry) -> None:
     """Rejects a file whose lockfileVersion isn't supported."""
     version = text_at(lock.get("lockfileVersion"), "lockfileVersion")
     if version.partition(".")[0] not in ("5", "6", "9"):
-        raise WrongShape(" of lockfileVersion 5, 6 or 9")
+        raise WrongShape(f" of lockfileVersion 5, 6 or 9: {version_stated(lock)}")

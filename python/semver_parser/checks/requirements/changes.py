@@ -39,6 +39,9 @@ class Change(NamedTuple):
 WHOLE = Change._fields[6:]
 """The fields with the versions of a change, in the order in which they are printed."""
 
+FIELDS = {"lost": WHOLE[:2], "gained": WHOLE[2:4]}
+"""The fields with what a requirement loses and gains."""
+
 
 def changes(old: Manifest, new: Manifest, dialect: Dialect) -> Iterator[Change]:
     """Yields what changed, in the order of the old manifest, and then what was added."""

@@ -1,12 +1,13 @@
 """The sources of manifests: files, revisions of git, and directories."""
 
+import errno
 import os
 from typing import Callable, Iterator, List, NamedTuple, Optional, Tuple
 
 from semver_parser import Dialect
 
 from ..directories import is_among, named_below
-from ..files import Refusal, bytes_of, taking, unmarked
+from ..files import STANDARD_INPUT, Refusal, bytes_of, name_of, taking, unmarked
 from ..git import below_in_revision, changed_below, in_revision
 from ..program import Misuse, Options
 from .manifest import NAMES, NOWHERE, Manifest, manifest_of
@@ -87,7 +88,10 @@ def is_of_directories(old: Side, new: Side) -> bool:
     if old.revision is None and new.revision is None:
         found = [os.path.isdir(it.path) for it in (old, new)]
         if found[0] != found[1]:
-            raise Misuse("one is a directory and the other a file")
+            directory, other = (old, new) if found[0] else (new, old)
+            if other.path != STANDARD_INPUT and not os.path.exists(other.path):
+                raise Refusal(other.path, f"it can't be read: {os.strerror(errno.ENOENT)}")
+            raise Misuse(f"{directory.path} is a directory, and {name_of(other.path)} isn't")
         return found[0]
     if os.path.isdir(old.path) or os.path.isfile(old.path):
         return os.path.isdir(old.path)

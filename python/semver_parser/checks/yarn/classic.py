@@ -72,7 +72,7 @@ TRIVIAL = ("", "*")
 FROM_REGISTRY = "the registry is asked"
 
 # What to change if a resolution contradicts what the project requires.
-AGREE = "have the resolution and the requirement say the same"
+AGREE = "make the resolution and the requirement agree"
 
 # What to change if a directory is gone.
 GONE = "put the directory there, or remove what requires it"

@@ -195,7 +195,7 @@ def package_of(key: str, fields: Any, patterns: List[str]) -> Package:
         raise WrongShape(f": {key} isn't an object")
     version = fields.get("version")
     if not isinstance(version, str):
-        raise WrongShape(f": {key}: version isn't a text")
+        raise WrongShape(f": {key}: version isn't a string")
     name = own_name(fields) or name_and_rest(patterns[0])[0]
     _, reference = name_and_rest(source_of(str(fields.get("resolution", ""))))
     installed = version_of(reference) or version
@@ -236,7 +236,7 @@ def requirements_of(package: Package, requirer: Requirer) -> Iterator[Requiremen
             raise WrongShape(f": {requirer.name}: {kind} isn't an object")
         for name, spec in stated.items():
             if not isinstance(spec, str):
-                raise WrongShape(f": {requirer.name}: {kind}: {name} isn't a text")
+                raise WrongShape(f": {requirer.name}: {kind}: {name} isn't a string")
             yield Requirement(requirer, name, spec, kind=kind)
 
 
