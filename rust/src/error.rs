@@ -1,12 +1,13 @@
 //! The error of this crate.
 
 use crate::original::printed;
-use crate::proved::invalid_ranges::refusals::refused;
+use crate::original::out_of_memory;
 use crate::proved::invalid_strings::escaped::Escaped;
-use crate::proved::invalid_strings::refusals::explain;
+use crate::proved::repaired_strings::errors::{first_error, Expected};
+use crate::proved::repaired_strings::{repairs::repaired, spans::span_at};
 use crate::proved::version_sets::OperationError;
 use crate::rattle_std::{AllocError, FallibleString, FallibleToString};
-use crate::{lexer, parser, Dialect, RangeError, Reason};
+use crate::{lexer, parser, Dialect, RangeError, Reason, Span};
 use alloc::string::String;
 use core::fmt::{self, Display, Formatter, Write as _};
 
@@ -46,13 +47,13 @@ impl ErrorKind {
     }
 }
 
-/// The error of this crate. It has the invalid string, and says where and why it is invalid. Every
-/// other error of the crate converts into it by `?`.
+/// The error of this crate. It has the invalid string, says where and why it is invalid, and may
+/// know what was meant. Every other error of the crate converts into it by `?`.
 ///
-/// `{}` prints one line, and `{:#}` also prints the string with a caret below the offset:
+/// `{}` prints one line, and `{:#}` also prints the string with carets below its span:
 ///
 /// ```
-/// use semver_parser::{Dialect, ErrorKind, Reason, VersionRange};
+/// use semver_parser::{Dialect, ErrorKind, Reason, Span, VersionRange};
 ///
 /// let error = VersionRange::parse("1 || 2", Dialect::Cargo).unwrap_err();
 /// assert_eq!(
@@ -61,10 +62,14 @@ impl ErrorKind {
 /// );
 /// assert_eq!(
 ///     format!("{error:#}"),
-///     "invalid range: Cargo takes no ||; npm does\n    1 || 2\n      ^"
+///     "invalid range: Cargo takes no ||; npm does\n    1 || 2\n      ^^"
 /// );
 /// assert_eq!(error.kind(), ErrorKind::InvalidRange);
 /// assert_eq!((error.offset(), error.reason()), (Some(2), Some(Reason::CargoBars)));
+/// assert_eq!(error.span(), Some(Span { start: 2, end: 4 }));
+///
+/// let error = VersionRange::parse("=>1.2", Dialect::Npm).unwrap_err();
+/// assert_eq!(error.suggestion().as_deref(), Some(">=1.2"));
 /// ```
 #[derive(Clone, Debug, PartialEq, Eq)]
 pub struct Error {
@@ -76,7 +81,7 @@ pub struct Error {
 /// What an error says in addition to its kind.
 #[derive(Clone, Debug, PartialEq, Eq)]
 enum Detail {
-    Found(usize, Reason),
+    Found { offset: usize, reason: Reason, span: Span, dialect: Dialect },
     Expected(&'static str),
     Sentence(String),
     None,
@@ -121,7 +126,29 @@ impl Error {
     /// ```
     #[must_use]
     pub fn offset(&self) -> Option<usize> {
-        self.found().map(|(offset, _)| offset)
+        match self.detail {
+            Detail::Found { offset, .. } => Some(offset),
+            _ => None,
+        }
+    }
+
+    /// Returns the part of the string to underline: the characters of the same kind around the
+    /// offset, such as a whole number or a whole operator. For a leading zero it is the number that
+    /// begins with it. It is empty only at the end of the string, if something is missing there.
+    ///
+    /// ```
+    /// use semver_parser::{Dialect, Span, Version};
+    ///
+    /// let span = |text| Version::parse(text, Dialect::Cargo).unwrap_err().span();
+    /// assert_eq!(span("1.2.03"), Some(Span { start: 4, end: 6 }));
+    /// assert_eq!(span("1.2"), Some(Span { start: 3, end: 3 }));
+    /// ```
+    #[must_use]
+    pub fn span(&self) -> Option<Span> {
+        match self.detail {
+            Detail::Found { span, .. } => Some(span),
+            _ => None,
+        }
     }
 
     /// Returns why the string is invalid.
@@ -134,30 +161,47 @@ impl Error {
     /// ```
     #[must_use]
     pub fn reason(&self) -> Option<Reason> {
-        self.found().map(|(_, reason)| reason)
-    }
-
-    fn found(&self) -> Option<(usize, Reason)> {
         match self.detail {
-            Detail::Found(offset, reason) => Some((offset, reason)),
+            Detail::Found { reason, .. } => Some(reason),
             _ => None,
         }
+    }
+
+    /// Returns a string that is valid in the dialect, and that may have been meant, or `None` if
+    /// none is known. It repairs slips such as `=>`, leading zeros, a `v`, or commas of another
+    /// dialect, one error after the other, and changes nothing but the spans of these errors.
+    ///
+    /// ```
+    /// use semver_parser::{Dialect, Version, VersionRange};
+    ///
+    /// let range = |text, dialect| VersionRange::parse(text, dialect).unwrap_err().suggestion();
+    /// assert_eq!(range("=>1.02", Dialect::Cargo).as_deref(), Some(">=1.2"));
+    /// assert_eq!(range(">=1.2, <2", Dialect::Npm).as_deref(), Some(">=1.2 <2"));
+    /// assert_eq!(range("latest", Dialect::Npm), None);
+    /// let version = Version::parse("v1.2", Dialect::Cargo).unwrap_err().suggestion();
+    /// assert_eq!(version.as_deref(), Some("1.2.0"));
+    /// ```
+    #[must_use]
+    pub fn suggestion(&self) -> Option<String> {
+        let Detail::Found { dialect, .. } = self.detail else { return None };
+        let expected = match self.kind {
+            ErrorKind::InvalidVersion => Expected::Version,
+            _ => Expected::Range,
+        };
+        repaired(expected, dialect, &self.string).unwrap_or_else(|_| out_of_memory())
     }
 
     /// Returns the error of an invalid version.
     #[cold]
     pub(crate) fn from_version(version: &str, dialect: Dialect) -> Error {
-        let found = explain(version.as_bytes(), dialect.grammar()).ok().flatten();
-        let found = found.map(|it| Detail::Found(it.offset, it.reason));
+        let found = found(Expected::Version, version, dialect);
         Error::new(ErrorKind::InvalidVersion, version, found)
     }
 
     /// Returns the error of an invalid range.
     #[cold]
     pub(crate) fn from_range(error: RangeError, range: &str, dialect: Dialect) -> Error {
-        let found = refused(dialect, range).ok().flatten();
-        let found = found.map(|it| Detail::Found(it.offset, it.reason));
-        Error::new(ErrorKind::of(error), range, found)
+        Error::new(ErrorKind::of(error), range, found(Expected::Range, range, dialect))
     }
 
     /// Returns the error of a name, of which one of these was expected.
@@ -194,6 +238,13 @@ impl Error {
             _ => Error::plain(ErrorKind::OutOfMemory),
         }
     }
+}
+
+/// Returns where and why a string is invalid, or `None` if an allocation failed.
+fn found(expected: Expected, string: &str, dialect: Dialect) -> Option<Detail> {
+    let error = first_error(expected, dialect, string).ok()??;
+    let (offset, reason) = (error.offset, error.reason);
+    Some(Detail::Found { offset, reason, span: span_at(string, offset, reason), dialect })
 }
 
 impl ErrorKind {
@@ -246,13 +297,16 @@ impl Display for Error {
     fn fmt(&self, f: &mut Formatter<'_>) -> fmt::Result {
         let (kind, text) = (self.kind.sentence(), Escaped { text: &self.string });
         match &self.detail {
-            Detail::Found(offset, reason) if f.alternate() => {
+            Detail::Found { span, reason, .. } if f.alternate() => {
                 write!(f, "{kind}: {reason}\n    {text}\n    ")?;
-                let before = self.string.get(..*offset).unwrap_or_default();
-                write!(Blank(f), "{}", Escaped { text: before })?;
-                f.write_char('^')
+                let (before, it) = (&self.string[..span.start], &self.string[span.range()]);
+                write!(Filled(f, ' '), "{}", Escaped { text: before })?;
+                match it {
+                    "" => f.write_char('^'),
+                    _ => write!(Filled(f, '^'), "{}", Escaped { text: it }),
+                }
             }
-            Detail::Found(offset, reason) => {
+            Detail::Found { offset, reason, .. } => {
                 write!(f, "{kind} \"{text}\" at offset {offset}: {reason}")
             }
             Detail::Expected(expected) => write!(f, "{kind} \"{text}\": expected {expected}"),
@@ -262,12 +316,12 @@ impl Display for Error {
     }
 }
 
-/// Writes a space in place of each byte.
-struct Blank<'f, 'a>(&'f mut Formatter<'a>);
+/// Writes a character in place of each byte.
+struct Filled<'f, 'a>(&'f mut Formatter<'a>, char);
 
-impl fmt::Write for Blank<'_, '_> {
+impl fmt::Write for Filled<'_, '_> {
     fn write_str(&mut self, text: &str) -> fmt::Result {
-        text.bytes().try_for_each(|_| self.0.write_char(' '))
+        text.bytes().try_for_each(|_| self.0.write_char(self.1))
     }
 }
 

@@ -4,9 +4,11 @@ use crate::original::out_of_memory;
 use crate::proved::tool_ranges::highest::Extreme;
 use crate::proved::tool_ranges::satisfying::{self, SatisfiesError};
 use crate::proved::tool_ranges::version_range as proved;
+use crate::proved::requirements::requirement::requirement;
 use crate::proved::tool_ranges::dialect::rewrite;
 use crate::proved::version_sets::{Combination, Release, VersionSet};
 use crate::{AsVersion, Dialect, Error, ErrorKind, RangeSet, Rules, Version};
+use alloc::string::String;
 use core::fmt::{self, Debug, Display, Formatter};
 use core::hash::{Hash, Hasher};
 use core::ops::{BitAnd, BitOr, Sub};
@@ -327,6 +329,25 @@ impl VersionRange {
     #[must_use]
     pub fn pre_releases(&self) -> RangeSet {
         self.0.versions().pre_release_ranges().unwrap_or_else(|_| out_of_memory()).range_set
+    }
+
+    /// Returns the range as it can be written into a `Cargo.toml` or a `package.json`: a string that
+    /// reads back, by the range's own rules, as a range of the same versions. It is `None` if no such
+    /// string was found. Cargo's syntax has no `||`, for example, so it can't say a range with a gap.
+    ///
+    /// ```
+    /// use semver_parser::{Dialect, VersionRange};
+    ///
+    /// let old = VersionRange::parse("^1.2.3-rc.1", Dialect::Cargo)?;
+    /// let new = VersionRange::parse("<1.9", Dialect::Cargo)?;
+    /// assert_eq!(old.to_requirement().as_deref(), Some(">=1.2.3-rc.1, <2.0.0"));
+    /// assert_eq!((&old & &new).to_requirement().as_deref(), Some(">=1.2.3, <1.9.0"));
+    /// assert_eq!((&old - &new).to_requirement(), None); // 1.2.3-rc.1, and from 1.9.0 on
+    /// # Ok::<(), semver_parser::Error>(())
+    /// ```
+    #[must_use]
+    pub fn to_requirement(&self) -> Option<String> {
+        requirement(&self.0).unwrap_or_else(|_| out_of_memory())
     }
 }
 
