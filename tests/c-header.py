@@ -24,7 +24,7 @@ TYPES = {
     'Status': 'int32_t', 'StringView': 'semver_parser_string', 'Options': 'semver_parser_options', 'Error': 'semver_parser_error',
     'Version': 'semver_parser_version', 'Comparator': 'semver_parser_comparator', 'Range': 'semver_parser_range',
     'Comparators': 'semver_parser_comparators', 'Component': 'semver_parser_component', 'Term': 'semver_parser_term',
-    'PartialVersion': 'semver_parser_partial_version',
+    'PartialVersion': 'semver_parser_partial_version', 'Span': 'semver_parser_span',
 }
 
 

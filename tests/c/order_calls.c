@@ -384,6 +384,11 @@ static void error_message(const call *it, text *to) {
     semver_parser_status status =
         semver_parser_error_message(&error, string, it->flag, &message);
     say_made(to, status, message);
+    semver_parser_span span = semver_parser_error_span(&error, string);
+    text_say(to, " %llu %llu", (unsigned long long)span.start, (unsigned long long)span.end);
+    char *suggestion = NULL;
+    status = semver_parser_suggestion(&error, string, it->dialect, &suggestion);
+    say_made(to, status, suggestion);
 }
 
 static void names(const call *it, text *to) {
@@ -489,6 +494,9 @@ static void printed(const call *it, text *to) {
     string = NULL;
     status = semver_parser_range_lowest_version(range, &string);
     say_made(to, status, string);
+    string = NULL;
+    status = semver_parser_range_to_requirement(range, &string);
+    say_made(to, status, string);
 }
 
 static void freed(const call *it, text *to) {
@@ -590,7 +598,7 @@ static const struct {
     {"check_range", checked_range},
     {"parse_version", parsed_version},
     {"compare_versions", compared_versions},
-    {"error_message", error_message},
+    {"error_message, error_span and suggestion", error_message},
     {"names", names},
     {"range_parse", parsed_range},
     {"range_options", options},
@@ -601,7 +609,7 @@ static const struct {
     {"range_highest_of and lowest_of", outermost},
     {"range_union, intersection or difference", combined},
     {"range_equal, is_subset, is_disjoint and is_empty", compared},
-    {"range_to_string and lowest_version", printed},
+    {"range_to_string, lowest_version and to_requirement", printed},
     {"free", freed},
     {"comparators_of_range", comparators},
     {"comparators_get and to_string", kept_comparators},

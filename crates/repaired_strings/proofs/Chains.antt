@@ -14,9 +14,6 @@ pub record HasLed (e : Expected) (d : Dialect) (n : ℕ) (t last : Text) : Type 
   pub count : length texts ≡ n
 
 module _ (e : Expected) (d : Dialect) where
-  pub none_yet : (t last : Text) → t ≡ last → HasLed e d 0 t last
-  none_yet t last is = record { texts = []; leads = is; count = refl }
-
   put_last : (t : Text) (texts : List Text) (u v : Text) → LeadsTo e d t texts u → IsRepairOf e d u v
       → LeadsTo e d t (texts ++ (v ∷ [])) v
   put_last t [] u v is last = (rw is last, refl)

@@ -19,7 +19,8 @@ module _ (p : ℕ → Bool) (t : Text) (k : ℕ) where
   not_before x y a b less =
       let within = a.end in
       let till = b.start in
-      absurd (true≢false (sym (a.all (y.start - 1) (omega (arith, less)) (omega (arith, less, within, till))) ∙ b.before (omega (arith, less))))
+      absurd (true≢false (sym (a.all (y.start - 1) (omega (arith, less)) (omega (arith, less, within, till)))
+      ∙ b.before (omega (arith, less))))
 
   not_after : (x y : Span) → IsRunAround p t k x → IsRunAround p t k y → ¬ (x.end < y.end)
   not_after x y a b less =

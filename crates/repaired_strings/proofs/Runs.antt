@@ -110,7 +110,8 @@ module _ (t : Text) (k : ℕ) (span : Span) where
   some_digit : touches_digit t k ≡ true → IsRun 48 → span.start < span.end
   some_digit e run = by_test (nat_lt 0 k && is_ascii_digit (slice_index t (k - 1)))
       (λ f. let parts = and_parts (nat_lt 0 k) _ f in some_before t k 48 span run (less 0 k parts.0) parts.1)
-      (λ f. let parts = and_parts (nat_lt k (length t)) _ (let h = rw f at e in h) in some_after t k 48 span run (less k (length t) parts.0) parts.1)
+      (λ f. let parts = and_parts (nat_lt k (length t)) _ (let h = rw f at e in h) in
+      some_after t k 48 span run (less k (length t) parts.0) parts.1)
 
   some_number : (b : ℕ) → kind_at t k LeadingZero ≡ Some b → IsRun b → span.start < span.end
   some_number b found run = by_test (touches_digit t k)

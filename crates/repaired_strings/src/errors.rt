@@ -29,7 +29,7 @@ pub struct StringError {
     pub reason: Reason,
 }
 
-// Determined by: law repaired_strings::laws::one_error.
+// Determined by: law result_laws::repairs::one_error.
 /// Returns the first error of a string in a dialect, or `None` if the string is valid.
 ///
 /// # Errors

@@ -19,7 +19,7 @@ use tool_ranges::dialect::Dialect;
 /// How many parts of a string are replaced at most.
 const MOST_REPAIRS: usize = 32;
 
-// Determined by: law repaired_strings::laws::one_repaired.
+// Determined by: law result_laws::repairs::one_repaired.
 /// Returns the valid string that may have been meant by an invalid one, or `None` if none is known.
 /// It repairs one error after the other, and replaces only the span of each.
 ///

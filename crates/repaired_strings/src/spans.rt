@@ -105,7 +105,7 @@ fn kind_at(bytes: &[u8], offset: usize, reason: Reason) -> Option<u8>
     }
 }
 
-// Determined by: law repaired_strings::laws::one_span.
+// Determined by: law result_laws::repairs::one_span.
 /// Returns the part of a string that an error at an offset is about.
 pub fn span_at(text: &str, offset: usize, reason: Reason) -> Span
     requires { offset ≤ length text.now }

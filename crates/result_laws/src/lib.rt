@@ -5,6 +5,7 @@
 
 pub mod filters;
 pub mod ranges;
+pub mod repairs;
 pub mod sets;
 pub mod texts;
 pub mod version_ranges;

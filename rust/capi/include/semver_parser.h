@@ -238,6 +238,30 @@ SEMVER_PARSER_CHECKED(1, 4)
 semver_parser_status semver_parser_error_message(
     const semver_parser_error *error, semver_parser_string string, bool caret, char **message);
 
+/* A part of a string: the offset at which it begins, and the one after it. */
+typedef struct {
+    size_t start;
+    size_t end;
+} semver_parser_span;
+
+/* Returns the part of a string to underline for an error: the characters of the same kind around
+ * `error->offset`, such as a whole number or a whole operator. For a leading zero it is the number
+ * that begins with it. It is empty only at the end of the string. `string` is the string of the
+ * call that `error->index` refers to. If an error isn't about a string, the span is empty. */
+SEMVER_PARSER_NONNULL(1)
+semver_parser_span semver_parser_error_span(
+    const semver_parser_error *error, semver_parser_string string);
+
+/* Makes the valid string that may have been meant by the invalid one of an error, or null if none is
+ * known: `>=1.2` for `=>1.2`. It differs from `string` only in the spans of errors. `string` is the
+ * string of the call that `error->index` refers to, and `dialect` is that of the call. For an error
+ * that isn't about a string, and for one that isn't UTF-8, it is null. semver_parser_free frees
+ * it. */
+SEMVER_PARSER_CHECKED(1, 4)
+semver_parser_status semver_parser_suggestion(
+    const semver_parser_error *error, semver_parser_string string, semver_parser_dialect dialect,
+    char **suggestion);
+
 /* Returns the name of a status or of a reason, or an English phrase for it, or null if there is no
  * such number. Names are for programs and logs, and never change: "invalid-range", "leading-zero".
  * Phrases are for people, and may change. */
@@ -385,6 +409,14 @@ semver_parser_status semver_parser_range_lowest_version(
 SEMVER_PARSER_CHECKED(1, 3)
 semver_parser_status semver_parser_range_to_string(
     const semver_parser_range *range, bool pre_releases, char **string);
+
+/* Makes a string that reads back, with the options of the range, as a range of the same versions, in
+ * the syntax of its dialect: what can be written into a Cargo.toml or a package.json. It is null if
+ * no such string was found: Cargo's syntax can't say a range with a gap. semver_parser_free frees
+ * it. */
+SEMVER_PARSER_CHECKED(1, 2)
+semver_parser_status semver_parser_range_to_requirement(
+    const semver_parser_range *range, char **requirement);
 
 /* ---- comparators: the result of rewriting a range */
 

@@ -1,6 +1,6 @@
 //! The proved calls behind the functions.
 
-use crate::errors::Problem;
+use crate::errors::{Error, Problem};
 use crate::heap::moved;
 use crate::message::printed;
 use crate::proved::semver_ranges::{Compat, Op, RangeSet};
@@ -8,8 +8,9 @@ use crate::proved::tool_ranges::meaning;
 use crate::proved::version_sets::OperationError;
 use crate::rattle_std::{FalliblePush, FallibleToString};
 use crate::shared::{self, read_ref_in, rewrite, SatisfiesError, VersionRange, VersionRef};
+use crate::shared::{repaired, requirement, span_at, Reason};
 use crate::shared::{Combination, Dialect, Extreme, PreReleases, RangeError, Rules, Terms};
-use crate::types::{dialect, Comparator, Options, PartialVersion, StringView, Version};
+use crate::types::{dialect, Comparator, Options, PartialVersion, Span, StringView, Version};
 use alloc::{string::String, vec::Vec};
 use core::{ffi::c_char, ptr, str};
 
@@ -113,6 +114,29 @@ pub fn contains<'a>(range: &VersionRange, bytes: &'a [u8], index: usize) -> Answ
 
 pub fn lowest_version(range: &VersionRange) -> Answer<'_, *mut c_char> {
     range.try_lowest_version()?.map_or(Ok(ptr::null_mut()), printed)
+}
+
+pub fn range_to_requirement(range: &VersionRange) -> Answer<'_, *mut c_char> {
+    requirement(range)?.map_or(Ok(ptr::null_mut()), printed)
+}
+
+/// Returns the span of an error in its string. In a string that isn't UTF-8 it is one byte.
+pub fn error_span(error: &Error, bytes: &[u8]) -> Span {
+    let offset = bytes.len().min(error.offset);
+    match (str::from_utf8(bytes), Reason::from_number(error.reason)) {
+        (Ok(string), Some(reason)) => Span::from(span_at(string, offset, reason)),
+        (_, Some(_)) => Span { start: offset, end: bytes.len().min(offset + 1) },
+        (_, None) => Span { start: offset, end: offset },
+    }
+}
+
+/// Returns the string that may have been meant, or null if none is known.
+pub fn suggestion<'a>(error: &Error, bytes: &[u8], number: i32) -> Answer<'a, *mut c_char> {
+    let dialect = dialect(number)?;
+    let (Ok(string), Some(expected)) = (str::from_utf8(bytes), error.expected()) else {
+        return Ok(ptr::null_mut());
+    };
+    repaired(expected, dialect, string)?.map_or(Ok(ptr::null_mut()), printed)
 }
 
 pub fn range_to_string(range: &VersionRange, pre_releases: bool) -> Answer<'_, *mut c_char> {

@@ -1,6 +1,7 @@
 //! Why a call returns no result, and how this is reported.
 
-use crate::shared::{explain_range, explain_version, AllocError, Dialect, RangeError, Reason};
+use crate::shared::{explain_range, explain_version, AllocError, Dialect, Expected, RangeError};
+use crate::shared::Reason;
 
 pub type Status = i32;
 pub const OK: Status = 0;
@@ -21,6 +22,18 @@ pub struct Error {
     pub offset: usize,
     index: usize,
     reserved: [u64; 4],
+}
+
+impl Error {
+    /// Returns what the string of the error is meant as, or `None` if the error isn't about a
+    /// string.
+    pub fn expected(&self) -> Option<Expected> {
+        match self.status {
+            INVALID_VERSION => Some(Expected::Version),
+            INVALID_RANGE | NUMBER_TOO_LARGE => Some(Expected::Range),
+            _ => None,
+        }
+    }
 }
 
 /// What is wrong with a call. `index` says which of its strings is wrong. If two ranges have

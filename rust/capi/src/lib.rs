@@ -26,7 +26,7 @@ use core::ffi::c_char;
 use errors::{finish, Error, Problem, Status, OK};
 use message::c_text;
 use shared::{Combination, Extreme, VersionRange as Range};
-use types::{items, Comparator, Options, PartialVersion, StringView, Term, Version};
+use types::{items, Comparator, Options, PartialVersion, Span, StringView, Term, Version};
 
 /// Defines functions of the header. `name(arguments) -> output = call` has an output, and `error`
 /// if it is listed; `name(arguments) => type = call` returns what the call returns;
@@ -98,6 +98,9 @@ functions! {
     semver_parser_library_version_number() => u32 = || message::VERSION_NUMBER;
     semver_parser_error_message(error: &Error, string: StringView, caret: bool)
         -> message: *mut c_char = message::of_error;
+    semver_parser_error_span(error: &Error, string: StringView) => Span = calls::error_span;
+    semver_parser_suggestion(error: &Error, string: StringView, dialect: i32)
+        -> suggestion: *mut c_char = calls::suggestion;
 
     semver_parser_satisfies(version: StringView, range: StringView, options: Options)
         -> satisfies: bool, error = calls::satisfies;
@@ -142,6 +145,8 @@ functions! {
         -> version: *mut c_char = calls::lowest_version;
     semver_parser_range_to_string(range: &Range, pre_releases: bool)
         -> string: *mut c_char = calls::range_to_string;
+    semver_parser_range_to_requirement(range: &Range)
+        -> requirement: *mut c_char = calls::range_to_requirement;
 
     semver_parser_comparators_of_range(range: StringView, dialect: i32, exact: bool)
         -> comparators: *mut Comparators, error = calls::comparators;

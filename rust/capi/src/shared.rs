@@ -4,8 +4,12 @@
 
 pub use crate::proved::invalid_ranges::refusals::refused as explain_range;
 pub use crate::proved::invalid_strings::reasons::Reason;
-pub use crate::proved::range_terms::term::{Component, PartialVersion, Term};
+pub use crate::proved::range_terms::term::{Component, PartialVersion, Span, Term};
 pub use crate::proved::range_terms::terms::Terms;
+pub use crate::proved::repaired_strings::errors::Expected;
+pub use crate::proved::repaired_strings::repairs::repaired;
+pub(crate) use crate::proved::repaired_strings::spans::span_at;
+pub use crate::proved::requirements::requirement::requirement;
 pub use crate::proved::semver_ranges::RangeError;
 pub use crate::proved::semver_versions::version::{read_ref_in, VersionRef};
 pub use crate::proved::tool_ranges::dialect::{rewrite, Dialect};

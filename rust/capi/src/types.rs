@@ -32,6 +32,20 @@ impl PartialEq for StringView {
     }
 }
 
+/// semver_parser_span.
+#[repr(C)]
+#[derive(Clone, Copy)]
+pub struct Span {
+    pub start: usize,
+    pub end: usize,
+}
+
+impl From<shared::Span> for Span {
+    fn from(shared::Span { start, end }: shared::Span) -> Span {
+        Span { start, end }
+    }
+}
+
 /// semver_parser_options.
 #[repr(C)]
 #[derive(Clone, Copy)]
