@@ -33,7 +33,7 @@ UNMET = (Unsatisfied, Overridden)
 ANEW = "remove the lock file and node_modules, and have npm write a new lock file"
 
 # The advice for a mismatched peer that npm may keep.
-PEER = "run npm install; if npm keeps a mismatched peer, change what requires the package"
+PEER = "run npm install; if npm keeps the mismatched peer, change what requires it"
 
 # The advice if an override whose key has a range applies: npm may reject what it then writes.
 WITHOUT_RANGE = "give the override a key without a range, and have npm write the lock file anew"
