@@ -90,7 +90,7 @@ async function main() {
     ]);
     expect('the marked rows', await marked(), ['1.2.4', 'v1.2.3']);
     expect('the errors', await errors(), [
-        'Cargo: invalid version: Cargo takes no leading v; npm does\nv1.2.3\n^',
+        "Cargo: invalid version: Cargo doesn't accept a leading v; npm does\nv1.2.3\n^",
         'Cargo: invalid version: numbers and identifiers of digits may not have a leading zero\n1.2.03\n     ^',
     ]);
     expect('what the range contains', await ranges(), [
@@ -98,7 +98,7 @@ async function main() {
     ]);
     await type('range', '1 || 2');
     expect('the heads', await heads(), ['version', 'Cargo: invalid', 'npm', 'semver-parser 0.10, Cargo mode', 'semver-parser 0.10, npm mode']);
-    expect('the first error', (await errors())[0], 'Cargo: invalid range: Cargo takes no ||; npm does\n1 || 2\n  ^');
+    expect('the first error', (await errors())[0], "Cargo: invalid range: Cargo doesn't accept ||; npm does\n1 || 2\n  ^");
     expect('a row', (await rows())[1], '1.2.4 – yes yes yes');
     expect('the address', new URLSearchParams(new URL(await value('location.href')).hash.slice(1)).get('range'), '1 || 2');
     await type('range', '>=18446744073709551616');

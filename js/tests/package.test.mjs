@@ -111,7 +111,7 @@ test('where and why a string is invalid', () => {
   assert.deepEqual(semver.explainVersion('1.2.03', cargo),
     { offset: 5, reason: 'leading-zero', sentence: 'numbers and identifiers of digits may not have a leading zero' })
   assert.deepEqual(semver.explainRange('1.2 || 3', cargo),
-    { offset: 4, reason: 'cargo-bars', sentence: 'Cargo takes no ||; npm does' })
+    { offset: 4, reason: 'cargo-bars', sentence: "Cargo doesn't accept ||; npm does" })
   assert.equal(semver.explainVersion('1.2.3'), null)
   assert.equal(semver.explainRange('1 || 2'), null)
   assert.equal(semver.explainRange('1 |').offset, 3)

@@ -163,7 +163,7 @@ class RangeError(SemverError):
     ...     Range("1.2 || 3", dialect="cargo")
     ... except RangeError as error:
     ...     error.offset, error.reason, error.sentence
-    (4, 'cargo-bars', 'Cargo takes no ||; npm does')
+    (4, 'cargo-bars', "Cargo doesn't accept ||; npm does")
     """
 
     _STATUS = INVALID_RANGE

@@ -207,7 +207,7 @@ class Comparing(unittest.TestCase):
                 self.assertIn(error.reason, reasons)
                 again = pickle.loads(pickle.dumps(error))
                 self.assertEqual((again.index, str(again)), (index, str(error)))
-        message = r"^invalid range, index 1: 'v1' \(offset 0: Cargo takes no leading v; npm does\)$"
+        message = r"^invalid range, index 1: 'v1' \(offset 0: Cargo doesn't accept a leading v; npm does\)$"
         with self.assertRaisesRegex(RangeError, message):
             compare_ranges("^1", "v1", dialect="cargo")
         with self.assertRaises(RangeError) as alone:

@@ -421,7 +421,7 @@ class Errors(unittest.TestCase):
                 call("1.2 || 3", dialect="cargo")
             self.assertEqual(caught.exception.offset, 4)
             self.assertEqual(caught.exception.reason, "cargo-bars")
-            self.assertEqual(caught.exception.sentence, "Cargo takes no ||; npm does")
+            self.assertEqual(caught.exception.sentence, "Cargo doesn't accept ||; npm does")
         with self.assertRaises(RangeError) as caught:
             satisfies("1.2.3", "1 2", dialect="cargo")
         self.assertEqual(caught.exception.offset, 2)
@@ -455,7 +455,7 @@ class Errors(unittest.TestCase):
             ),
             (
                 RangeError(b"v1", "cargo"),
-                "invalid range: b'v1' (offset 0: Cargo takes no leading v; npm does)",
+                "invalid range: b'v1' (offset 0: Cargo doesn't accept a leading v; npm does)",
             ),
             (RangeError("^", "npm"), "invalid range: '^' (offset 1: a number is expected)"),
             (

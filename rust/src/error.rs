@@ -58,11 +58,11 @@ impl ErrorKind {
 /// let error = VersionRange::parse("1 || 2", Dialect::Cargo).unwrap_err();
 /// assert_eq!(
 ///     error.to_string(),
-///     "invalid range \"1 || 2\" at offset 2: Cargo takes no ||; npm does"
+///     "invalid range \"1 || 2\" at offset 2: Cargo doesn't accept ||; npm does"
 /// );
 /// assert_eq!(
 ///     format!("{error:#}"),
-///     "invalid range: Cargo takes no ||; npm does\n    1 || 2\n      ^^"
+///     "invalid range: Cargo doesn't accept ||; npm does\n    1 || 2\n      ^^"
 /// );
 /// assert_eq!(error.kind(), ErrorKind::InvalidRange);
 /// assert_eq!((error.offset(), error.reason()), (Some(2), Some(Reason::CargoBars)));

@@ -255,7 +255,7 @@ static void names(void) {
     check(strcmp(semver_parser_reason_name(REASON(LEADING_ZERO)), "leading-zero") == 0
               && strcmp(semver_parser_reason_name(REASON(NOT_UTF8)), "not-utf8") == 0
               && strcmp(semver_parser_reason_text(REASON(CARGO_BARS)),
-                        "Cargo takes no ||; npm does")
+                        "Cargo doesn't accept ||; npm does")
                      == 0,
           "wrong name of a reason", "leading-zero");
 }
@@ -293,7 +293,7 @@ static const struct {
     const char *message;
 } messages[] = {
     {CARGO, "1 || 2",
-     "invalid range \"1 || 2\" at offset 2: Cargo takes no ||; npm does\n"
+     "invalid range \"1 || 2\" at offset 2: Cargo doesn't accept ||; npm does\n"
      "    1 || 2\n"
      "      ^"},
     {CARGO, ">=",

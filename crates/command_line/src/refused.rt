@@ -20,7 +20,7 @@ use tool_ranges::dialect::Dialect;
 /// ```text
 /// not a range: "1.2 || 3"
 ///     1.2 || 3
-///         ^ at offset 4: Cargo takes no ||; npm does
+///         ^ at offset 4: Cargo doesn't accept ||; npm does
 /// ```
 pub(crate) fn refused_text(
     alloc: Global,
@@ -38,7 +38,7 @@ pub(crate) fn refused_text(
 
 // Determined by: law result_laws::ranges::one_refusal.
 /// Returns the message for an error in one line, without the range:
-/// `not a range (at offset 4: Cargo takes no ||; npm does)`. `Err` means out of memory.
+/// `not a range (at offset 4: Cargo doesn't accept ||; npm does)`. `Err` means out of memory.
 pub fn refused_line(
     alloc: Global,
     dialect: Dialect,

@@ -35,15 +35,15 @@ row_of reason.CargoCommas =
     (pos 12, codes "cargo-commas", codes "Cargo separates comparators by commas")
 row_of reason.CargoWildcard =
     (pos 13, codes "cargo-wildcard", codes "Cargo takes * without numbers before it only alone")
-row_of reason.CargoBars = (pos 14, codes "cargo-bars", codes "Cargo takes no ||; npm does")
-row_of reason.CargoV = (pos 15, codes "cargo-v", codes "Cargo takes no leading v; npm does")
+row_of reason.CargoBars = (pos 14, codes "cargo-bars", codes "Cargo doesn't accept ||; npm does")
+row_of reason.CargoV = (pos 15, codes "cargo-v", codes "Cargo doesn't accept a leading v; npm does")
 row_of reason.CargoHyphen =
-    (pos 16, codes "cargo-hyphen", codes "Cargo takes no hyphen ranges; npm does")
+    (pos 16, codes "cargo-hyphen", codes "Cargo doesn't accept hyphen ranges; npm does")
 row_of reason.NpmComma =
     (pos 17, codes "npm-comma", codes "npm separates comparators by spaces; Cargo takes commas")
 row_of reason.CrateComma =
-    (pos 18, codes "crate-comma", codes "the crate takes no commas; Cargo does")
-row_of reason.CrateV = (pos 19, codes "crate-v", codes "the crate takes no leading v; npm does")
+    (pos 18, codes "crate-comma", codes "the crate doesn't accept commas; Cargo does")
+row_of reason.CrateV = (pos 19, codes "crate-v", codes "the crate doesn't accept a leading v; npm does")
 row_of reason.NpmTooLarge =
     (pos 20, codes "npm-too-large", codes "npm's numbers are at most 2^53 - 1")
 row_of reason.TooManyComparators =

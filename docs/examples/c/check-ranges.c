@@ -49,7 +49,8 @@ static int print(const char *line, size_t length, unsigned long number) {
     return DOES_NOT_HOLD;
 }
 
-/* Reports an error: "line 1: invalid range "1 || 2" at offset 2: Cargo takes no ||; npm does". */
+/* Reports an error:
+ * "line 1: invalid range "1 || 2" at offset 2: Cargo doesn't accept ||; npm does". */
 static int report(const semver_parser_error *error, semver_parser_string of, unsigned long number) {
     char *message = NULL;
     semver_parser_status status = semver_parser_error_message(error, of, false, &message);

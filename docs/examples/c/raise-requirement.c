@@ -76,7 +76,7 @@ static semver_parser_status raise_to(
     return status == SEMVER_PARSER_OUT_OF_MEMORY ? status : SEMVER_PARSER_OK;
 }
 
-/* Reports an error: "invalid range "1 || 2" at offset 2: Cargo takes no ||; npm does". */
+/* Reports an error: "invalid range "1 || 2" at offset 2: Cargo doesn't accept ||; npm does". */
 static void report(
     semver_parser_status status, const semver_parser_error *error, const char *of) {
     char *message = NULL;

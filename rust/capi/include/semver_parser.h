@@ -227,13 +227,13 @@ typedef struct {
 } semver_parser_error;
 
 /* Makes an English sentence for an error:
- * `invalid range "1 || 2" at offset 2: Cargo takes no ||; npm does`. `string` is the string of the
- * call that `error->index` refers to. With `caret`, two more lines follow, indented by four spaces:
- * the string, and a caret under the character. A long string is shortened. Characters other than
- * the printable ones of ASCII are escaped: `\t`, `\u{2013}`, and `\u{fffd}` for bytes that aren't
- * UTF-8. For an error that isn't about a string, such as that of ranges in different dialects, the
- * sentence is only its semver_parser_status_text, whatever `string` is. semver_parser_free frees
- * the sentence. */
+ * `invalid range "1 || 2" at offset 2: Cargo doesn't accept ||; npm does`. `string` is the string
+ * of the call that `error->index` refers to. With `caret`, two more lines follow, indented by four
+ * spaces: the string, and a caret under the character. A long string is shortened. Characters other
+ * than the printable ones of ASCII are escaped: `\t`, `\u{2013}`, and `\u{fffd}` for bytes that
+ * aren't UTF-8. For an error that isn't about a string, such as that of ranges in different
+ * dialects, the sentence is only its semver_parser_status_text, whatever `string` is.
+ * semver_parser_free frees the sentence. */
 SEMVER_PARSER_CHECKED(1, 4)
 semver_parser_status semver_parser_error_message(
     const semver_parser_error *error, semver_parser_string string, bool caret, char **message);

@@ -17,7 +17,7 @@ use crate::proved::tool_ranges::dialect::Dialect;
 /// ```text
 /// not a range: "1.2 || 3"
 ///     1.2 || 3
-///         ^ at offset 4: Cargo takes no ||; npm does
+///         ^ at offset 4: Cargo doesn't accept ||; npm does
 /// ```
 pub(crate) fn refused_text(
     dialect: Dialect,
@@ -33,7 +33,7 @@ pub(crate) fn refused_text(
 }
 
 /// Returns the message for an error in one line, without the range:
-/// `not a range (at offset 4: Cargo takes no ||; npm does)`. `Err` means out of memory.
+/// `not a range (at offset 4: Cargo doesn't accept ||; npm does)`. `Err` means out of memory.
 pub fn refused_line(
     dialect: Dialect,
     error: &RangeError,

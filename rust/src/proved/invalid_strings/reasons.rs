@@ -144,7 +144,7 @@ impl Reason {
     /// ```
     /// use semver_parser::Reason;
     ///
-    /// assert_eq!(Reason::CargoBars.sentence(), "Cargo takes no ||; npm does");
+    /// assert_eq!(Reason::CargoBars.sentence(), "Cargo doesn't accept ||; npm does");
     /// ```
     #[must_use]
     pub fn sentence(self) -> &'static str {
@@ -183,16 +183,28 @@ impl Reason {
                 "cargo-wildcard",
                 "Cargo takes * without numbers before it only alone",
             ),
-            Reason::CargoBars => (14, "cargo-bars", "Cargo takes no ||; npm does"),
-            Reason::CargoV => (15, "cargo-v", "Cargo takes no leading v; npm does"),
-            Reason::CargoHyphen => (16, "cargo-hyphen", "Cargo takes no hyphen ranges; npm does"),
+            Reason::CargoBars => (14, "cargo-bars", "Cargo doesn't accept ||; npm does"),
+            Reason::CargoV => (15, "cargo-v", "Cargo doesn't accept a leading v; npm does"),
+            Reason::CargoHyphen => (
+                16,
+                "cargo-hyphen",
+                "Cargo doesn't accept hyphen ranges; npm does",
+            ),
             Reason::NpmComma => (
                 17,
                 "npm-comma",
                 "npm separates comparators by spaces; Cargo takes commas",
             ),
-            Reason::CrateComma => (18, "crate-comma", "the crate takes no commas; Cargo does"),
-            Reason::CrateV => (19, "crate-v", "the crate takes no leading v; npm does"),
+            Reason::CrateComma => (
+                18,
+                "crate-comma",
+                "the crate doesn't accept commas; Cargo does",
+            ),
+            Reason::CrateV => (
+                19,
+                "crate-v",
+                "the crate doesn't accept a leading v; npm does",
+            ),
             Reason::NpmTooLarge => (20, "npm-too-large", "npm's numbers are at most 2^53 - 1"),
             Reason::TooManyComparators => (
                 21,
