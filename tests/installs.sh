@@ -76,7 +76,8 @@ make_clone() {
     address=$(echo "$clone" | sed 's/ /%20/g')
     ! alone sh -c 'command -v rt' > "$work/log" || fails "rt is there: $(cat "$work/log")"
     cp -R "$top/python/cases/monorepo" "$work/monorepo"
-    block_after 'cd python/cases/monorepo && check-lock-file' > "$work/found"
+    block_after 'cd python/cases/monorepo && check-lock-file' > "$work/shown"
+    sed '/^checked /,$d' "$work/shown" > "$work/found"
     [ -s "$work/found" ] || { : > "$work/log" && fails 'README has no example of check-lock-file'; }
 }
 
@@ -117,10 +118,10 @@ first_commands() {
         here && !/^    / { exit }
         here { print substr($0, 5) }' README.md | sed "s|URL|file://$address|" > "$work/pasted"
     [ "$(wc -l < "$work/pasted")" = 4 ] || fails 'README has other first commands'
-    echo 'PATH=$HOME/.cargo/bin:$PATH; cd "$1"; compare-ranges 1.2; check-lock-file' >> "$work/pasted"
+    echo 'PATH=$HOME/.cargo/bin:$PATH; cd "$1"; compare-ranges 1.2; check-lock-file 2>&1' >> "$work/pasted"
     mkdir "$work/elsewhere"
     (cd "$work/elsewhere" && ends 1 sh -e "$work/pasted" "$work/monorepo")
-    { block_after 'compare-ranges 1.2' && cat "$work/found"; } > "$work/wanted"
+    { block_after 'compare-ranges 1.2' && cat "$work/shown"; } > "$work/wanted"
     sed -n '/^cargo: /,$p' "$work/output" > "$work/last"
     lists last wanted
 }
