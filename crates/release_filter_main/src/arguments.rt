@@ -26,6 +26,8 @@ pub struct Filtering {
     pub range: String,
     /// The dialect, and which pre-releases count.
     pub meaning: Meaning,
+    /// Whether an option requested the dialect.
+    pub has_dialect: bool,
     /// The files to read, or standard input if there are none.
     pub files: Vec<String>,
     /// The other options.
@@ -270,6 +272,7 @@ fn request_of(
     }
     options.end_order()?;
     options.end_strings()?;
+    let has_dialect = meaning.has_dialect();
     let meaning = meaning.finish()?;
     if meaning.pre_releases == PreReleases::Excluded {
         options.require_releases()?;
@@ -278,6 +281,7 @@ fn request_of(
         Some(range) => Ok(Request::Filter(Filtering {
             range,
             meaning,
+            has_dialect,
             files,
             options,
         })),

@@ -18,7 +18,7 @@ use std::alloc::Global;
 use std::io::ErrorKind;
 use std::process::ExitCode;
 use tool_ranges::dialect::Dialect;
-use tool_ranges::meaning;
+use tool_ranges::meaning::{self, Meaning};
 use tool_ranges::version_range::VersionRange;
 use version_sets::{Combination, OperationError, VersionSet};
 
@@ -77,6 +77,13 @@ standard error describes. semver-ranges(7) explains ranges.";
 /// The version of this program, which is that of the file VERSION.
 const VERSION: &str = "release-filter 1.0.0";
 
+/// What standard error says if no option named a dialect, and npm's rules select other versions.
+const BY_CARGO: &str = "the range was read by Cargo's rules, and has other versions by npm's; \
+choose with --dialect cargo or --npm";
+
+/// What standard error says after an error if no option named a dialect, and npm can read the range.
+const IN_NPM: &str = "npm reads this range; for npm's rules, use --npm";
+
 fn main(rt: HostRuntime) -> ExitCode {
     match arguments::requested(&rt) {
         Ok(Request::Filter(filtering)) => run(&rt, &filtering),
@@ -99,6 +106,9 @@ fn run(rt: &HostRuntime, filtering: &Filtering) -> ExitCode {
 /// Filters, and returns whether a line was kept.
 fn filtered(rt: &HostRuntime, filtering: &Filtering) -> Result<bool, Error> {
     let versions = versions(rt.alloc(), filtering).map_err(Error::Range)?;
+    if is_other_in_npm(rt.alloc(), filtering) {
+        let _ = eprintln!(rt; "release-filter: {BY_CARGO}");
+    }
     let Ok(range) = VersionRange::from_versions(versions, filtering.meaning) else {
         return Err(Error::OutOfMemory);
     };
@@ -108,6 +118,30 @@ fn filtered(rt: &HostRuntime, filtering: &Filtering) -> Result<bool, Error> {
     let has_lines = copying.run(rt, filtering.files.as_slice())?;
     report_invalid(rt, copying.counts(), filtering, has_lines);
     Ok(has_lines)
+}
+
+/// Returns whether the range was read by Cargo's rules since no option named a dialect, and has other
+/// versions by npm's.
+fn is_other_in_npm(alloc: Global, filtering: &Filtering) -> bool {
+    if filtering.has_dialect {
+        return false;
+    }
+    let Ok(cargo) = meaning::read(alloc, filtering.meaning, filtering.range.as_str()) else {
+        return false;
+    };
+    match read_in_npm(alloc, filtering) {
+        Ok(npm) => npm != cargo,
+        Err(_) => false,
+    }
+}
+
+/// Returns the versions in the range in npm's dialect.
+fn read_in_npm(alloc: Global, filtering: &Filtering) -> Result<VersionSet, RangeError> {
+    let meaning = Meaning {
+        dialect: Dialect::Npm,
+        pre_releases: filtering.meaning.pre_releases,
+    };
+    meaning::read(alloc, meaning, filtering.range.as_str())
 }
 
 /// Returns the wanted versions: those in the range, or all others; of these, all or only one kind.
@@ -137,7 +171,11 @@ fn failed(rt: &HostRuntime, error: &Error, filtering: &Filtering) -> ExitCode {
     let dialect: Dialect = filtering.meaning.dialect;
     let _ = match error {
         Error::Range(error) => {
-            return PROGRAM.refuse_range(rt, dialect, error, filtering.range.as_str());
+            let status = PROGRAM.refuse_range(rt, dialect, error, filtering.range.as_str());
+            if !filtering.has_dialect && read_in_npm(rt.alloc(), filtering).is_ok() {
+                let _ = eprintln!(rt; "release-filter: {IN_NPM}");
+            }
+            return status;
         }
         Error::Write(error) => return PROGRAM.cannot_write(rt, error),
         Error::OutOfMemory => eprintln!(rt; "release-filter: out of memory"),

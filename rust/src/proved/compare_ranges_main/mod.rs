@@ -72,6 +72,13 @@ they differ, and 2 after an error. semver-ranges(7) explains ranges.";
 /// The version of this program, which is that of the file VERSION.
 const VERSION: &str = "compare-ranges 1.0.0";
 
+/// What standard error says if no option named a dialect, and npm's rules give another result.
+const BY_CARGO: &str = "this is by Cargo's rules, and npm's rules give another result; \
+choose with --dialect cargo or --npm";
+
+/// What standard error says after an error if no option named a dialect, and npm can read the range.
+const IN_NPM: &str = "npm reads this range; for npm's rules, use --npm";
+
 /// The error of a run.
 enum Error<'a> {
     /// This range is invalid.
@@ -98,9 +105,48 @@ pub fn main(rt: HostRuntime) -> ExitCode {
 /// error if the reader closed the pipe.
 fn run(rt: &HostRuntime, question: &Question) -> ExitCode {
     match answered(rt, question) {
-        Ok((text, is_changed)) => written(rt, text.as_str(), is_changed),
+        Ok((text, is_changed)) => {
+            if is_other_in_npm(rt, question, text.as_str()) {
+                let _ = crate::rattle_std::fallible_eprintln!(rt; "{}: {BY_CARGO}", PROGRAM.name);
+            }
+            written(rt, text.as_str(), is_changed)
+        }
         Err(error) => failed(rt, question, &error),
     }
+}
+
+/// Returns whether two ranges were read by Cargo's rules since no option named a dialect, and give
+/// another output by npm's.
+fn is_other_in_npm(rt: &HostRuntime, question: &Question, text: &str) -> bool {
+    let Some(new) = &question.new else {
+        return false;
+    };
+    if question.has_dialect {
+        return false;
+    }
+    let Ok(range) = read_in_npm(rt, question, question.range.as_str()) else {
+        return false;
+    };
+    let Ok(new) = read_in_npm(rt, question, new.as_str()) else {
+        return false;
+    };
+    match of_two(rt, question, &range, &new) {
+        Ok(other) => other.as_str() != text,
+        Err(_) => false,
+    }
+}
+
+/// Reads a range in npm's dialect.
+fn read_in_npm(
+    rt: &HostRuntime,
+    question: &Question,
+    range: &str,
+) -> Result<VersionRange, RangeError> {
+    let meaning = Meaning {
+        dialect: Dialect::Npm,
+        pre_releases: question.meaning.pre_releases,
+    };
+    VersionRange::try_parse(range, meaning)
 }
 
 /// Writes a string, and returns the status.
@@ -116,7 +162,11 @@ fn written(rt: &HostRuntime, text: &str, is_changed: bool) -> ExitCode {
 fn failed(rt: &HostRuntime, question: &Question, error: &Error<'_>) -> ExitCode {
     match error {
         Error::Range(error, range) => {
-            PROGRAM.refuse_range(rt, question.meaning.dialect, error, range)
+            let status = PROGRAM.refuse_range(rt, question.meaning.dialect, error, range);
+            if !question.has_dialect && read_in_npm(rt, question, range).is_ok() {
+                let _ = crate::rattle_std::fallible_eprintln!(rt; "{}: {IN_NPM}", PROGRAM.name);
+            }
+            status
         }
         Error::Neither(cargo, npm) => {
             let tools = [("cargo", Dialect::Cargo, cargo), ("npm", Dialect::Npm, npm)];
