@@ -13,6 +13,7 @@ pub mod version_sets;
 pub mod tool_ranges;
 pub mod invalid_ranges;
 pub mod range_terms;
+pub mod range_upgrades;
 pub mod release_filter;
 pub mod command_line;
 #[cfg(test)]
