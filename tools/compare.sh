@@ -58,6 +58,9 @@
 # - raise: node-semver as npm ships it and Cargo's crate semver, what the examples that raise a
 #   requirement return for COUNT random ones that are made of known pieces, in each language (npm,
 #   cargo, librust-semver-dev, gcc, python3, and what rust/wasm/build.sh needs)
+# - upgrade: node-semver as npm ships it and Cargo's crate semver, what `upgrade` returns for COUNT
+#   random requirements and versions: when it returns None, that a result is valid, contains the
+#   version and loses none, and how it is written (npm, cargo and librust-semver-dev)
 # - order: a new process, what each of COUNT random calls, at least 2000, returns after other calls:
 #   calls of the JavaScript package, of the Python package, also by several threads, and of the C
 #   functions (node, what rust/wasm/build.sh needs, python3 and gcc)
@@ -152,6 +155,10 @@ raise)
     . tools/comparisons/raise/run.sh
     exit
     ;;
+upgrade)
+    . tools/comparisons/upgrade/run.sh
+    exit
+    ;;
 damaged-locks)
     exec python3 tools/comparisons/damaged-locks.py "${2:-30000}" "$seed"
     ;;
@@ -171,7 +178,7 @@ order)
 crate | cargo | node | npm | versions | real | grid | lines | places | version-places | erased) ;;
 *)
     kinds='crate|cargo|node|npm|versions|real|grid|lines|places|version-places|js|npm-on-it'
-    kinds="$kinds|managers|as-written|damaged-locks|erased|order|raise"
+    kinds="$kinds|managers|as-written|damaged-locks|erased|order|raise|upgrade"
     echo "usage: tools/compare.sh $kinds [COUNT] [SEED], or locks FILE.., or real-locks [NAME..]," >&2
     echo '       or judged [CASE..], or node-suite [--show], or semver-suite, crate-tests or targets' >&2
     exit 2

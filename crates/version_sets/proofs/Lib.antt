@@ -16,6 +16,7 @@ mod HeldBoundaries
 mod SweepLaws
 mod SetLaws
 mod SameSets
+mod AtOrAbove
 -- the lowest version
 mod FirstBoundaries
 mod WithinLaws

@@ -3,6 +3,7 @@
 #![tactic(auto)]
 
 mod above_cuts;
+mod at_or_above;
 mod batch;
 mod boundaries;
 mod boundary;

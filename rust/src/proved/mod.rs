@@ -15,6 +15,7 @@ pub mod invalid_ranges;
 pub mod range_terms;
 pub mod repaired_strings;
 pub mod requirements;
+pub mod range_upgrades;
 pub mod release_filter;
 pub mod command_line;
 #[cfg(test)]

@@ -4,6 +4,7 @@
 
 use crate::rattle_std::prelude::*;
 mod above_cuts;
+mod at_or_above;
 mod batch;
 mod boundaries;
 mod boundary;

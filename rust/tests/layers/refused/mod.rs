@@ -6,6 +6,7 @@
 mod lines;
 mod ranges;
 mod sets;
+mod upgrades;
 mod version_ranges;
 mod versions;
 
@@ -65,7 +66,7 @@ fn tell(endings: &[(&str, Ending)]) {
 }
 
 /// Returns how each call that explains an error, or reads or combines ranges, ends.
-fn of_errors_and_ranges() -> [(&'static str, Ending); 14] {
+fn of_errors_and_ranges() -> [(&'static str, Ending); 15] {
     [
         ("version_error", versions::version_error()),
         ("cargo_requirement", ranges::requirement()),
@@ -81,6 +82,7 @@ fn of_errors_and_ranges() -> [(&'static str, Ending); 14] {
         ("range_error", ranges::range_error()),
         ("version_range", version_ranges::parse()),
         ("combined_ranges", version_ranges::combined()),
+        ("raised_range", upgrades::raised()),
     ]
 }
 

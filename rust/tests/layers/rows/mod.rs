@@ -76,6 +76,7 @@ fn answer_in(call: &str, tool: &str, text: &str, steps: &str) -> String {
         "rewritten" => ranges::rewritten(text, dialect),
         "meant" => ranges::meant(text, meaning(PreReleases::Default), steps),
         "meant-with-all" => ranges::meant(text, meaning(PreReleases::Included), steps),
+        "upgraded" => ranges::upgraded(text, meaning(PreReleases::Default), steps),
         _ => "no such call".into(),
     }
 }

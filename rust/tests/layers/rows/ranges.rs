@@ -2,6 +2,7 @@
 
 use super::{versions_of, NOT_ALL};
 use crate::proved::semver_parser::{version, RangeError};
+use crate::proved::range_upgrades::upgrade::upgrade;
 use crate::proved::tool_ranges::dialect::{self, Dialect};
 use crate::proved::tool_ranges::meaning::{self, Meaning};
 use crate::proved::invalid_ranges::refusals;
@@ -36,6 +37,15 @@ pub fn meant(text: &str, tool: Meaning, list: &str) -> String {
         }
     }
     shown
+}
+
+/// Returns the range raised to a version, in quotes, or why it isn't raised.
+pub fn upgraded(text: &str, tool: Meaning, version: &str) -> String {
+    match upgrade(text, version.as_bytes(), tool) {
+        Ok(Some(new)) => format!("{new:?}"),
+        Ok(None) => "nothing to do".into(),
+        Err(error) => error.to_string(),
+    }
 }
 
 /// Returns the offset and the reason of a range's error, or that it is valid.

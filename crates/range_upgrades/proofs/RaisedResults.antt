@@ -1,0 +1,155 @@
+-- There is at most one raised range, and when there is none.
+use Rattle.std.proofs.Common.{Bool, ℕ, [], ◌∷◌, true, false, not, refl, ◌≡◌, ◌++◌, ap, ap₂, sym, subst, ◌∙◌, inl, inr}
+use Rattle.std.specs.Prelude.{IfSome, is_some, Option, Some, None, List, slice_range}
+use Rattle.semver_texts.specs.Texts.{Text, is_empty}
+use Rattle.semver_versions.specs.VersionRefs.{VersionRefValue, version_of}
+use Rattle.tool_ranges.specs.declared.meaning.Meaning.{Meaning}
+use Rattle.range_terms.specs.WrittenTerms.{WrittenTerm}
+use Rattle.range_upgrades.specs.Alternatives.{HasBars, last_of}
+use Rattle.range_upgrades.specs.RaisedRanges.{IsExtended, IsInPlace, IsOneMore, IsRaised, IsRaisedRange, IsReplaced, IsUpgraded}
+use Rattle.range_upgrades.specs.Upgrades.{IsSatisfied, LosesNone}
+use Rattle.range_upgrades.specs.declared.alternatives.Alternative.{Alternative}
+use Rattle.range_upgrades.specs.declared.raised_versions.Form.{Form}
+use Rattle.range_upgrades.specs.declared.raised_versions.Form.TheVariants.{AsWritten, InFull}
+use Rattle.range_upgrades.proofs.RaisedTerms.{one_part, some_is}
+use Rattle.range_upgrades.specs.RaisedRanges.{IsRaisedFrom, last_version, raised_word}
+use Rattle.tool_ranges.specs.declared.dialect.Dialect.{Dialect}
+
+pub one_replaced : (t : Text) (last : Alternative) (raised a b : Text) → IsReplaced t last raised a → IsReplaced t last raised b → a ≡ b
+one_replaced t last raised a b p q =
+    p.whole ∙ ap₂ (λ x y. x ++ (raised ++ y)) (one_part p.up_to q.up_to) (one_part p.from q.from) ∙ sym q.whole
+
+pub one_extended : (t : Text) (last : Alternative) (raised a b : Text) → IsExtended t last raised a → IsExtended t last raised b → a ≡ b
+one_extended t last raised a b p q =
+    let end : p.end ≡ q.end = some_is (sym p.others ∙ q.others) in
+    let between : p.between ≡ q.between = p.bars.is ∙ ap (λ e. slice_range t e last.start) end ∙ sym q.bars.is in
+    p.whole ∙ ap₂ (λ x y. x ++ (p.between ++ (raised ++ y))) (one_part p.up_to q.up_to) (one_part p.from q.from)
+    ∙ ap (λ x. q.before ++ (x ++ (raised ++ q.after))) between ∙ sym q.whole
+
+-- the last alternative is raised in one way
+pub raised_one : (d : Dialect) (form : Form) (t : Text) (v : VersionRefValue) (last : Alternative) (at : ℕ) (xs : List WrittenTerm) (a b : Text)
+    → IsRaisedFrom d form t v last at xs a → IsRaisedFrom d form t v last at xs b → a ≡ b
+raised_one d form t v last at [] a b p q = one_part p q
+raised_one d form t v last at (x ∷ xs) a b (inl p) (inl q) = raised_one d form t v last at xs a b p.1 q.1
+raised_one d form t v last at (x ∷ xs) a b (inl p) (inr q) = absurd (p.0 q.2)
+raised_one d form t v last at (x ∷ xs) a b (inr p) (inl q) = absurd (q.0 p.2)
+raised_one d form t v last at (x ∷ xs) a b (inr p) (inr q) =
+    p.6
+    ∙ ap₂ (λ kept rest. kept ++ (raised_word d form v x ++ rest)) (one_part p.4 q.4)
+    (raised_one d form t v last (last_version x).span.end xs p.1 q.1 p.5 q.5)
+    ∙ sym q.6
+
+module _ (m : Meaning) (form : Form) (t : Text) (v : VersionRefValue) (terms : List WrittenTerm) where
+  -- ---- no result
+
+  pub no_last : last_of terms ≡ None → (s : Text) → ¬ (IsRaisedRange m form t v terms s)
+  no_last none s (inl p) = let e = sym none ∙ p.0.is_last in cc
+  no_last none s (inr p) = let e = sym none ∙ p.0.is_last in cc
+
+  module _ (last : Alternative) (is_last : last_of terms ≡ Some last) where
+    pub no_raised : ((s : Text) → ¬ (IsRaised m.dialect form t v last terms s)) → (s : Text) → ¬ (IsRaisedRange m form t v terms s)
+    no_raised not s (inl p) =
+        not p.0.raised (subst (λ a. IsRaised m.dialect form t v a terms p.0.raised) (some_is (sym p.0.is_last ∙ is_last)) p.0.raises)
+    no_raised not s (inr p) =
+        not p.0.raised (subst (λ a. IsRaised m.dialect form t v a terms p.0.raised) (some_is (sym p.0.is_last ∙ is_last)) p.0.raises)
+
+    module _ (raised : Text) (only : (s : Text) → IsRaised m.dialect form t v last terms s → s ≡ raised) where
+      in_place : (s : Text) → IsInPlace m.dialect form t v terms s → IsReplaced t last raised s
+      in_place s p =
+          let same : p.last ≡ last = some_is (sym p.is_last ∙ is_last) in
+          let is : p.raised ≡ raised = only p.raised (subst (λ a. IsRaised m.dialect form t v a terms p.raised) same p.raises) in
+          subst (λ r. IsReplaced t last r s) is (subst (λ a. IsReplaced t a p.raised s) same p.replaces)
+
+      one_more : (s : Text) → IsOneMore m.dialect form t v terms s → IsExtended t last raised s
+      one_more s p =
+          let same : p.last ≡ last = some_is (sym p.is_last ∙ is_last) in
+          let is : p.raised ≡ raised = only p.raised (subst (λ a. IsRaised m.dialect form t v a terms p.raised) same p.raises) in
+          subst (λ r. IsExtended t last r s) is (subst (λ a. IsExtended t a p.raised s) same p.extends)
+
+      pub no_replaced : ((new : Text) → ¬ (IsReplaced t last raised new)) → (s : Text) → ¬ (IsRaisedRange m form t v terms s)
+      no_replaced not s (inl p) = not s (in_place s p.0)
+      no_replaced not s (inr p) = not p.1.replaced (in_place p.1.replaced p.1.in_place)
+
+      module _ (new : Text) (replaces : IsReplaced t last raised new) where
+        is_new : (s : Text) → IsInPlace m.dialect form t v terms s → s ≡ new
+        is_new s p = one_replaced t last raised s new (in_place s p) replaces
+
+        pub not_satisfied : ¬ (IsSatisfied m new (version_of v)) → (s : Text) → ¬ (IsRaisedRange m form t v terms s)
+        not_satisfied not s (inl p) = not (subst (λ r. IsSatisfied m r (version_of v)) (is_new s p.0) p.1)
+        not_satisfied not s (inr p) = not (subst (λ r. IsSatisfied m r (version_of v)) (is_new p.1.replaced p.1.in_place) p.1.satisfied)
+
+        -- the last alternative can't be raised in place
+        module _ (bars : HasBars t) (loses : ¬ (LosesNone m t new)) where
+          added : (s : Text) → IsRaisedRange m form t v terms s
+              → IsExtended t last raised s × IsSatisfied m s (version_of v) × LosesNone m t s
+          added s (inl p) = absurd (loses (subst (LosesNone m t) (is_new s p.0) (p.2 bars)))
+          added s (inr p) = (one_more s p.0, p.2, p.3)
+
+          pub no_extended : ((more : Text) → ¬ (IsExtended t last raised more)) → (s : Text) → ¬ (IsRaisedRange m form t v terms s)
+          no_extended not s is = not s (added s is).0
+
+          module _ (more : Text) (extends : IsExtended t last raised more) where
+            is_more : (s : Text) → IsRaisedRange m form t v terms s → s ≡ more
+            is_more s is = one_extended t last raised s more (added s is).0 extends
+
+            pub more_not_satisfied : ¬ (IsSatisfied m more (version_of v)) → (s : Text) → ¬ (IsRaisedRange m form t v terms s)
+            more_not_satisfied not s is = not (subst (λ r. IsSatisfied m r (version_of v)) (is_more s is) (added s is).1)
+
+            pub more_loses : ¬ (LosesNone m t more) → (s : Text) → ¬ (IsRaisedRange m form t v terms s)
+            more_loses not s is = not (subst (LosesNone m t) (is_more s is) (added s is).2)
+
+-- ---- both forms
+
+pub some_more : {A : Type 0} {P Q : A → Type 0} (o : Option A) → ((x : A) → P x → Q x) → IfSome o P → IfSome o Q
+some_more None more is = tt
+some_more (Some x) more is = more x is
+
+pub none_of : {A : Type 0} (o : Option A) → is_some o ≡ false → o ≡ None
+none_of None e = refl
+none_of (Some x) e = cc
+
+pub pre_of : (b : Bool) → not b ≡ true → b ≡ false
+pre_of true e = cc
+pre_of false e = refl
+
+module _ (m : Meaning) (t : Text) (v : VersionRefValue) (terms : List WrittenTerm)
+    (none : (s : Text) → ¬ (IsRaisedRange m AsWritten t v terms s)) where
+  pub not_pre : not (is_empty (version_of v).plain.pre) ≡ false → (s : Text) → ¬ (IsUpgraded m t v terms s)
+  not_pre release s (inl is) = none s is
+  not_pre release s (inr is) = let e : true ≡ false = ap not (sym is.0) ∙ release in cc
+
+  pub in_full : is_empty (version_of v).plain.pre ≡ false → (s : Text) → IsRaisedRange m InFull t v terms s → IsUpgraded m t v terms s
+  in_full pre s is = inr (pre, none, is)
+
+  pub no_form : ((s : Text) → ¬ (IsRaisedRange m InFull t v terms s)) → (s : Text) → ¬ (IsUpgraded m t v terms s)
+  no_form not s (inl is) = none s is
+  no_form not s (inr is) = not s is.2
+
+-- ---- one result
+
+module _ (m : Meaning) (t : Text) (v : VersionRefValue) (terms : List WrittenTerm) where
+  in_place_one : (form : Form) (a b : Text) → IsInPlace m.dialect form t v terms a → IsInPlace m.dialect form t v terms b → a ≡ b
+  in_place_one form a b p q =
+      let only = λ (s : Text) (is : IsRaised m.dialect form t v q.last terms s).
+      raised_one m.dialect form t v q.last q.last.start terms s q.raised is q.raises in
+      one_replaced t q.last q.raised a b (in_place m form t v terms q.last q.is_last q.raised only a p) q.replaces
+
+  one_more_one : (form : Form) (a b : Text) → IsOneMore m.dialect form t v terms a → IsOneMore m.dialect form t v terms b → a ≡ b
+  one_more_one form a b p q =
+      let only = λ (s : Text) (is : IsRaised m.dialect form t v q.last terms s).
+      raised_one m.dialect form t v q.last q.last.start terms s q.raised is q.raises in
+      one_extended t q.last q.raised a b (one_more m form t v terms q.last q.is_last q.raised only a p) q.extends
+
+  range_one : (form : Form) (a b : Text) → IsRaisedRange m form t v terms a → IsRaisedRange m form t v terms b → a ≡ b
+  range_one form a b (inl p) (inl q) = in_place_one form a b p.0 q.0
+  range_one form a b (inl p) (inr q) =
+      absurd (q.1.loses (subst (LosesNone m t) (in_place_one form a q.1.replaced p.0 q.1.in_place) (p.2 q.1.bars)))
+  range_one form a b (inr p) (inl q) =
+      absurd (p.1.loses (subst (LosesNone m t) (in_place_one form b p.1.replaced q.0 p.1.in_place) (q.2 p.1.bars)))
+  range_one form a b (inr p) (inr q) = one_more_one form a b p.0 q.0
+
+  pub upgraded_one : (a b : Text) → IsUpgraded m t v terms a → IsUpgraded m t v terms b → a ≡ b
+  upgraded_one a b (inl p) (inl q) = range_one AsWritten a b p q
+  upgraded_one a b (inl p) (inr q) = absurd (q.1 a p)
+  upgraded_one a b (inr p) (inl q) = absurd (p.1 b q)
+  upgraded_one a b (inr p) (inr q) = range_one InFull a b p.2 q.2

@@ -1,0 +1,222 @@
+//! The text of a range whose last alternative is raised to a newer version.
+
+ghost use Rattle.std.specs.Prelude.{◌≡◌, ◌≢◌, ◌++◌, None, IfErr, IfOk, IfSome, true, false, string_bytes};
+ghost use Rattle.semver_texts.specs.Texts.{Text};
+ghost use Rattle.semver_versions.specs.VersionRefs.{version_of};
+ghost use Rattle.semver_ranges.specs.RangeTree.{SetTree};
+ghost use Rattle.tool_ranges.specs.Dialects.{SpellsAs};
+ghost use Rattle.range_terms.specs.WrittenTerms.{term_value, terms_in, version_value};
+ghost use Rattle.range_terms.specs.WrittenTexts.{version_text};
+ghost use Rattle.range_upgrades.specs.RaisedRanges.{IsBelow, IsExtended, IsPart, IsRaised};
+ghost use Rattle.range_upgrades.specs.RaisedRanges.{IsReplaced, IsToRaise, is_lower_bound};
+ghost use Rattle.range_upgrades.specs.RaisedRanges.{last_version};
+ghost use Rattle.range_upgrades.specs.Upgrades.{IsReadIn};
+
+use crate::alternatives::Alternative;
+use crate::raised_versions::{Form, raised_version};
+use range_terms::term::{Operator, PartialVersion, Term};
+use range_terms::terms::of_range;
+use semver_ranges::RangeError;
+use semver_versions::version::VersionRef;
+use std::alloc::{AllocError, Global};
+use tool_ranges::dialect::Dialect;
+use tool_ranges::meaning::{Meaning, read};
+use version_sets::PreReleases;
+
+/// Returns the text of the last alternative, in which each version that has to be raised is
+/// replaced. It is `None` if a number would be above 2^64 - 1. `Err` means out of memory.
+pub(crate) fn raised_alternative(
+    alloc: Global,
+    range: &str,
+    last: &Alternative,
+    version: &VersionRef<'_>,
+    dialect: Dialect,
+    form: Form,
+) -> Result<Option<String>, AllocError>
+    requires { IsReadIn dialect version.now }
+    ensures some { IfOk result (λ found. IfSome found (λ raised. (tree : SetTree)
+        (spelled : SpellsAs dialect tree range.now) → IsRaised dialect form range.now version.now
+        last.now (terms_in dialect tree range.now spelled) (string_bytes raised))) }
+    ensures only { IfOk result (λ found. IfSome found (λ raised. (tree : SetTree)
+        (spelled : SpellsAs dialect tree range.now) (s : Text) → IsRaised dialect form range.now
+        version.now last.now (terms_in dialect tree range.now spelled) s
+        → s ≡ string_bytes raised)) }
+    ensures none { IfOk result (λ found. found ≡ None → (tree : SetTree)
+        (spelled : SpellsAs dialect tree range.now) (s : Text) → ¬ (IsRaised dialect form range.now
+        version.now last.now (terms_in dialect tree range.now spelled) s)) }
+{
+    let mut raised = String::new(alloc);
+    let mut copied = last.start;
+    for term in of_range(range, dialect) {
+        if !is_to_raise(alloc, range, last, &term, version, dialect)? {
+            continue;
+        }
+        let written = last_version(&term);
+        let Some(new) = raised_version(dialect, term.operator, &written, version, form) else {
+            return Ok(None);
+        };
+        let Some(kept) = part(range, copied, written.span.start) else {
+            return Ok(None);
+        };
+        push_raised(&mut raised, kept, &new)?;
+        copied = written.span.end;
+    }
+    let Some(kept) = part(range, copied, last.end) else {
+        return Ok(None);
+    };
+    raised.push_str(kept)?;
+    Ok(Some(raised))
+}
+
+/// Appends a part of the range that is kept, and then a raised version. `Err` means out of memory.
+fn push_raised(raised: &mut String, kept: &str, new: &PartialVersion<'_>) -> Result<(), AllocError>
+    ensures { IfOk result (λ _. string_bytes raised.new ≡ string_bytes raised.old
+        ++ (kept.now ++ version_text (version_value new.now))) }
+{
+    write!(raised, "{kept}{new}")
+}
+
+/// Returns whether the version of a term has to be raised: the term is in the last alternative,
+/// doesn't state only a lower bound, and has no version at or above the newer one. `Err` means out
+/// of memory.
+fn is_to_raise(
+    alloc: Global,
+    range: &str,
+    last: &Alternative,
+    term: &Term<'_>,
+    version: &VersionRef<'_>,
+    dialect: Dialect,
+) -> Result<bool, AllocError>
+    requires { IsReadIn dialect version.now }
+    ensures raised { IfOk result (λ is. is ≡ true
+        → IsToRaise dialect range.now version.now last.now (term_value term.now)) }
+    ensures kept { IfOk result (λ is. is ≡ false
+        → ¬ (IsToRaise dialect range.now version.now last.now (term_value term.now))) }
+{
+    if term.range != last.range || is_lower_bound(term.operator) {
+        return Ok(false);
+    }
+    let Some(text) = part(range, term.span.start, term.span.end) else {
+        return Ok(false);
+    };
+    is_below(alloc, text, version, dialect)
+}
+
+/// Returns whether a term, which is given alone as a range, has no version at or above another
+/// version. `Err` means out of memory.
+fn is_below(
+    alloc: Global,
+    term: &str,
+    version: &VersionRef<'_>,
+    dialect: Dialect,
+) -> Result<bool, AllocError>
+    requires { IsReadIn dialect version.now }
+    ensures below { IfOk result (λ is. is ≡ true
+        → IsBelow dialect term.now (version_of version.now).plain) }
+    ensures above { IfOk result (λ is. is ≡ false
+        → ¬ (IsBelow dialect term.now (version_of version.now).plain)) }
+{
+    let meaning = Meaning {
+        dialect,
+        pre_releases: PreReleases::Included,
+    };
+    let alone = match read(alloc, meaning, term) {
+        Ok(alone) => alone,
+        Err(error) => {
+            unless_out_of_memory(error)?;
+            return Ok(false);
+        }
+    };
+    let has_above = alone.has_at_or_above(alloc, version)?;
+    Ok(!has_above)
+}
+
+/// Returns `Err` if a range wasn't read because an allocation failed.
+pub(crate) fn unless_out_of_memory(error: RangeError) -> Result<(), AllocError>
+    ensures ok { IfOk result (λ _. error ≢ RangeError.OutOfMemory) }
+    ensures err { IfErr result (λ _. error ≡ RangeError.OutOfMemory) }
+{
+    match error {
+        RangeError::OutOfMemory => Err(AllocError),
+        RangeError::NotARange | RangeError::NumberTooLarge => Ok(()),
+    }
+}
+
+/// Returns whether an operator states only a lower bound.
+fn is_lower_bound(operator: Operator) -> bool
+    ensures { result ≡ is_lower_bound operator }
+{
+    matches!(operator, Operator::Greater | Operator::GreaterOrEqual)
+}
+
+/// Returns the version of a term; of a hyphen range, the one after the hyphen.
+fn last_version<'t>(term: &Term<'t>) -> PartialVersion<'t>
+    ensures { version_value result ≡ last_version (term_value term.now) }
+{
+    match term.upper {
+        Some(upper) => upper,
+        None => term.version,
+    }
+}
+
+/// Returns the range with another text for its last alternative, or `None` if the alternative isn't
+/// a part of the range. `Err` means out of memory.
+pub(crate) fn replaced(
+    alloc: Global,
+    range: &str,
+    last: &Alternative,
+    raised: &str,
+) -> Result<Option<String>, AllocError>
+    ensures some { IfOk result (λ found. IfSome found (λ new.
+        IsReplaced range.now last.now raised.now (string_bytes new))) }
+    ensures none { IfOk result (λ found. found ≡ None → (new : Text)
+        → ¬ (IsReplaced range.now last.now raised.now new)) }
+{
+    let Some(before) = part(range, 0, last.start) else {
+        return Ok(None);
+    };
+    let Some(after) = part(range, last.end, range.len()) else {
+        return Ok(None);
+    };
+    Ok(Some(format!(in alloc; "{before}{raised}{after}")?))
+}
+
+/// Returns the range with one more alternative after its last term, or `None` if the range has only
+/// one alternative. `Err` means out of memory.
+pub(crate) fn extended(
+    alloc: Global,
+    range: &str,
+    last: &Alternative,
+    raised: &str,
+) -> Result<Option<String>, AllocError>
+    ensures some { IfOk result (λ found. IfSome found (λ new.
+        IsExtended range.now last.now raised.now (string_bytes new))) }
+    ensures none { IfOk result (λ found. found ≡ None → (new : Text)
+        → ¬ (IsExtended range.now last.now raised.now new)) }
+{
+    let Some(end) = last.before else {
+        return Ok(None);
+    };
+    let Some(before) = part(range, 0, last.end) else {
+        return Ok(None);
+    };
+    let Some(between) = part(range, end, last.start) else {
+        return Ok(None);
+    };
+    let Some(after) = part(range, last.end, range.len()) else {
+        return Ok(None);
+    };
+    Ok(Some(format!(in alloc; "{before}{between}{raised}{after}")?))
+}
+
+/// Returns the part of a string between two offsets, or `None` if one of them divides a character or
+/// they aren't in order.
+fn part(text: &str, start: usize, end: usize) -> Option<&str>
+    ensures some { IfSome result (λ part. IsPart text.now start end part.now) }
+    ensures none { result ≡ None → (part : Text) → ¬ (IsPart text.now start end part) }
+{
+    if start <= end && text.is_char_boundary(start) && text.is_char_boundary(end) {
+        return Some(&text[start..end]);
+    }
+    None
+}

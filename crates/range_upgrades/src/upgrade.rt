@@ -1,0 +1,297 @@
+//! Raises a requirement, so that it contains a newer version.
+
+ghost use Rattle.std.specs.Prelude.{◌≡◌, ◌≢◌, ◌↔◌, Err, IfOk, IfSome, None, Ok, true, string_bytes};
+ghost use Rattle.semver_texts.specs.Texts.{Text};
+ghost use Rattle.semver_texts.specs.ToolVersions.{IsVersionTextIn};
+ghost use Rattle.semver_texts.specs.Versions.{PlainVersion};
+ghost use Rattle.semver_versions.specs.VersionRefs.{IsVersionRefIn, version_of};
+ghost use Rattle.semver_versions.specs.VersionRefs.{VersionRefValue};
+ghost use Rattle.semver_ranges.specs.RangeTree.{SetTree};
+ghost use Rattle.version_sets.specs.VersionSets.{IsIn};
+ghost use Rattle.tool_ranges.specs.Dialects.{HasSetAs, IsTextAs, IsTooLargeAs, SpellsAs};
+ghost use Rattle.tool_ranges.specs.Dialects.{grammar_of};
+ghost use Rattle.tool_ranges.specs.Satisfying.{Satisfies};
+ghost use Rattle.range_terms.specs.WrittenTerms.{terms_in};
+ghost use Rattle.range_upgrades.specs.Alternatives.{HasBars};
+ghost use Rattle.range_upgrades.specs.RaisedRanges.{IsRaisedRange, IsUpgraded};
+ghost use Rattle.range_upgrades.specs.Upgrades.{HasVersionFromText, IsReadIn, IsSatisfied};
+ghost use Rattle.range_upgrades.specs.Upgrades.{IsSetOf, LosesNone};
+
+use crate::alternatives::{has_bars, last_alternative};
+use crate::raised_ranges::{extended, raised_alternative, replaced, unless_out_of_memory};
+use crate::raised_versions::Form;
+use semver_ranges::RangeError;
+use semver_versions::version::{VersionRef, read_ref_in};
+use std::alloc::{AllocError, Global};
+use thiserror::Error;
+use tool_ranges::meaning::{Meaning, read};
+use version_sets::VersionSet;
+
+/// Why a requirement can't be raised.
+#[derive(Clone, Copy, PartialEq, Eq, Debug, Error)]
+pub enum UpgradeError {
+    /// The version is invalid in the dialect.
+    #[error("invalid version")]
+    InvalidVersion,
+    /// The string is not a range in the dialect, or one of its numbers is too large.
+    #[error("invalid range: {0}")]
+    InvalidRange(RangeError),
+    /// The raised requirement wouldn't contain the version.
+    #[error("the requirement can't be raised to this version")]
+    CannotUpgrade,
+    /// An allocation failed.
+    #[error("out of memory")]
+    OutOfMemory,
+}
+
+// Determined by: equation.
+impl From<AllocError> for UpgradeError {
+    ghost use Rattle.std.specs.Prelude.{◌≡◌};
+    ghost use Rattle.range_upgrades.specs.declared.upgrade.UpgradeError.TheVariants as error;
+
+    ghost from_gives = { λ _ e. e ≡ error.OutOfMemory };
+
+    fn from(_error: AllocError) -> UpgradeError {
+        UpgradeError::OutOfMemory
+    }
+}
+
+// Determined by: law range_upgrades::laws::one_upgrade.
+/// Raises a requirement, so that it contains a newer version, and keeps how it is written. Returns
+/// `None` if some version at or above the newer one is already in the range, so nothing is ever
+/// lowered.
+///
+/// ```text
+/// dialect  range               version     result
+/// Cargo    ^1.2                2.3.4       ^2.3
+/// Cargo    >= 1.2 , < 2.0.0    2.3.0       >= 1.2 , < 3.0.0
+/// Cargo    ^3                  2.0.0       None
+/// npm      v1.x                2.3.4       v2.x
+/// npm      1.2 - 1.9           2.3.4       1.2 - 2.3
+/// npm      ~1.2 || ^2.0.0      3.1.0       ~1.2 || ^2.0.0 || ^3.1.0
+/// npm      ^1.2                2.0.0-rc.1  ^2.0.0-rc.1
+/// ```
+///
+/// The terms after the last `||` are raised, if their bounds allow no version at or above the newer
+/// one:
+///
+/// - The version of a term without an operator or with `=`, `~`, `^` or `<=`, and the right version
+///   of a hyphen range, becomes the newer one, with as many components, with its wildcards and its
+///   `v`. The pre-release is written after three numbers, and build metadata is left out.
+/// - If the result wouldn't contain the newer version then, and that is a pre-release, three numbers
+///   are written where they mean the same: after `^`, after `~` instead of two, and in Cargo's
+///   dialect without an operator.
+/// - The version of `<` becomes the next one above the newer version. Its last number that isn't 0
+///   says which number is raised by one, and what follows that is 0. A pre-release `0` is kept.
+/// - `>=` and `>` are kept.
+///
+/// If the range has `||` and would lose a version, then the raised terms are added as one more
+/// alternative instead. Everything else stays as it is.
+///
+/// It reads the range and the raised range, and each term of the last alternative once more. It
+/// allocates the raised range, and the sets of versions of what it reads.
+///
+/// # Errors
+///
+/// - `InvalidVersion` if the version is invalid in the dialect.
+/// - Otherwise `InvalidRange` if the string is not a range in the dialect, or if one of its numbers
+///   is too large.
+/// - `CannotUpgrade` if the raised range wouldn't contain the version, such as `1.x` for
+///   2.0.0-rc.1 in npm's dialect.
+/// - `OutOfMemory` if an allocation failed.
+pub fn upgrade(
+    alloc: Global,
+    range: &str,
+    version: &[u8],
+    meaning: Meaning,
+) -> Result<Option<String>, UpgradeError>
+    // The version's error comes first, and then the range's.
+    ensures invalid_version { (result ≡ Err UpgradeError.InvalidVersion)
+        ↔ ¬ (IsVersionTextIn (grammar_of meaning.dialect) version.now) }
+    ensures not_a_range { (result ≡ Err (UpgradeError.InvalidRange RangeError.NotARange))
+        ↔ (IsVersionTextIn (grammar_of meaning.dialect) version.now
+        × ¬ (IsTextAs meaning.dialect range.now)) }
+    ensures too_large { (result ≡ Err (UpgradeError.InvalidRange RangeError.NumberTooLarge))
+        ↔ (IsVersionTextIn (grammar_of meaning.dialect) version.now
+        × IsTooLargeAs meaning.dialect range.now) }
+    ensures range_memory { result ≢ Err (UpgradeError.InvalidRange RangeError.OutOfMemory) }
+    ensures accepted { IfOk result (λ _. HasSetAs meaning.dialect range.now) }
+    // A result is a range of the dialect, and contains the version.
+    ensures contains { IfOk result (λ found. IfSome found (λ new.
+        Satisfies meaning version.now (string_bytes new) (Ok true))) }
+    // The result is `None` if and only if some version of the range isn't below the given one.
+    ensures none { IfOk result (λ found.
+        (found ≡ None) ↔ HasVersionFromText meaning range.now version.now) }
+    ensures above { result ≡ Err UpgradeError.CannotUpgrade
+        → ¬ (HasVersionFromText meaning range.now version.now) }
+    // If the range has `||`, no version is lost.
+    ensures loses_none { HasBars range.now → IfOk result (λ found. IfSome found (λ new.
+        LosesNone meaning range.now (string_bytes new))) }
+    // Upgrading the result again gives `None`.
+    ensures again { IfOk result (λ found. IfSome found (λ new.
+        HasVersionFromText meaning (string_bytes new) version.now)) }
+    // The result is the range with its last alternative raised, in place or as one more. The
+    // error `CannotUpgrade` is returned only if there is no such result.
+    ensures style { IfOk result (λ found. IfSome found (λ new. (tree : SetTree)
+        (spelled : SpellsAs meaning.dialect tree range.now) (v : VersionRefValue)
+        → IsVersionRefIn (grammar_of meaning.dialect) version.now v
+        → IsUpgraded meaning range.now v (terms_in meaning.dialect tree range.now spelled)
+        (string_bytes new))) }
+    ensures cannot_upgrade { result ≡ Err UpgradeError.CannotUpgrade → (tree : SetTree)
+        (spelled : SpellsAs meaning.dialect tree range.now) (v : VersionRefValue) (new : Text)
+        → IsVersionRefIn (grammar_of meaning.dialect) version.now v
+        → ¬ (IsUpgraded meaning range.now v (terms_in meaning.dialect tree range.now spelled)
+        new) }
+{
+    let Some(version) = read_ref_in(version, meaning.dialect.grammar()) else {
+        return Err(UpgradeError::InvalidVersion);
+    };
+    let old = match read(alloc, meaning, range) {
+        Ok(old) => old,
+        Err(error) => {
+            unless_out_of_memory(error)?;
+            return Err(UpgradeError::InvalidRange(error));
+        }
+    };
+    if old.has_at_or_above(alloc, &version)? {
+        return Ok(None);
+    }
+    let new = raised_in_some_form(alloc, range, &old, &version, meaning)?;
+    let Some(new) = new else {
+        return Err(UpgradeError::CannotUpgrade);
+    };
+    Ok(Some(new))
+}
+
+/// Returns the range with its last alternative raised to a version. The raised versions have as
+/// many components as before, or three if the result would otherwise not contain the version. It is
+/// `None` if the result wouldn't contain it then, either. `Err` means out of memory.
+fn raised_in_some_form(
+    alloc: Global,
+    range: &str,
+    old: &VersionSet,
+    version: &VersionRef<'_>,
+    meaning: Meaning,
+) -> Result<Option<String>, AllocError>
+    requires old { IsSetOf meaning range.now old.now }
+    requires version { IsReadIn meaning.dialect version.now }
+    ensures satisfied { IfOk result (λ found. IfSome found (λ new.
+        IsSatisfied meaning (string_bytes new) (version_of version.now))) }
+    ensures loses_none { HasBars range.now → IfOk result (λ found. IfSome found (λ new.
+        LosesNone meaning range.now (string_bytes new))) }
+    ensures style { IfOk result (λ found. IfSome found (λ new. (tree : SetTree)
+        (spelled : SpellsAs meaning.dialect tree range.now)
+        → IsUpgraded meaning range.now version.now
+        (terms_in meaning.dialect tree range.now spelled) (string_bytes new))) }
+    ensures none { IfOk result (λ found. found ≡ None → (tree : SetTree)
+        (spelled : SpellsAs meaning.dialect tree range.now) (new : Text)
+        → ¬ (IsUpgraded meaning range.now version.now
+        (terms_in meaning.dialect tree range.now spelled) new)) }
+{
+    let as_written = raised_range(alloc, range, old, version, meaning, Form::AsWritten)?;
+    if as_written.is_some() {
+        return Ok(as_written);
+    }
+    if !version.is_pre_release() {
+        return Ok(None);
+    }
+    raised_range(alloc, range, old, version, meaning, Form::InFull)
+}
+
+/// Returns the range with its last alternative raised to a version: in place, or, if that would
+/// lose a version although the range has `||`, as one more alternative. It is `None` if the result
+/// wouldn't contain the version. `Err` means out of memory.
+fn raised_range(
+    alloc: Global,
+    range: &str,
+    old: &VersionSet,
+    version: &VersionRef<'_>,
+    meaning: Meaning,
+    form: Form,
+) -> Result<Option<String>, AllocError>
+    requires old { IsSetOf meaning range.now old.now }
+    requires version { IsReadIn meaning.dialect version.now }
+    ensures satisfied { IfOk result (λ found. IfSome found (λ new.
+        IsSatisfied meaning (string_bytes new) (version_of version.now))) }
+    ensures loses_none { HasBars range.now → IfOk result (λ found. IfSome found (λ new.
+        LosesNone meaning range.now (string_bytes new))) }
+    ensures style { IfOk result (λ found. IfSome found (λ new. (tree : SetTree)
+        (spelled : SpellsAs meaning.dialect tree range.now)
+        → IsRaisedRange meaning form range.now version.now
+        (terms_in meaning.dialect tree range.now spelled) (string_bytes new))) }
+    ensures none { IfOk result (λ found. found ≡ None → (tree : SetTree)
+        (spelled : SpellsAs meaning.dialect tree range.now) (new : Text)
+        → ¬ (IsRaisedRange meaning form range.now version.now
+        (terms_in meaning.dialect tree range.now spelled) new)) }
+{
+    let Some(last) = last_alternative(range, meaning.dialect) else {
+        return Ok(None);
+    };
+    let raised = raised_alternative(alloc, range, &last, version, meaning.dialect, form)?;
+    let Some(raised) = raised else {
+        return Ok(None);
+    };
+    let text = raised.as_str();
+    let in_place = replaced(alloc, range, &last, text)?;
+    let Some(in_place) = in_place else {
+        return Ok(None);
+    };
+    let set = set_with(alloc, in_place.as_str(), version, meaning)?;
+    let Some(set) = set else {
+        return Ok(None);
+    };
+    if keeps_all(old, &set) {
+        return Ok(Some(in_place));
+    }
+    if !has_bars(range.as_bytes()) {
+        return Ok(Some(in_place));
+    }
+    let longer = extended(alloc, range, &last, text)?;
+    let Some(longer) = longer else {
+        return Ok(None);
+    };
+    let longer_set = set_with(alloc, longer.as_str(), version, meaning)?;
+    let Some(longer_set) = longer_set else {
+        return Ok(None);
+    };
+    if keeps_all(old, &longer_set) {
+        return Ok(Some(longer));
+    }
+    Ok(None)
+}
+
+/// Reads a range, and returns the set of its versions if it contains a version. `Err` means out of
+/// memory.
+fn set_with(
+    alloc: Global,
+    range: &str,
+    version: &VersionRef<'_>,
+    meaning: Meaning,
+) -> Result<Option<VersionSet>, AllocError>
+    requires version { IsReadIn meaning.dialect version.now }
+    ensures set { IfOk result (λ found. IfSome found (IsSetOf meaning range.now)) }
+    ensures satisfied { IfOk result (λ found. IfSome found (λ _.
+        IsSatisfied meaning range.now (version_of version.now))) }
+    ensures none { IfOk result (λ found. found ≡ None
+        → ¬ (IsSatisfied meaning range.now (version_of version.now))) }
+{
+    let set = match read(alloc, meaning, range) {
+        Ok(set) => set,
+        Err(error) => {
+            unless_out_of_memory(error)?;
+            return Ok(None);
+        }
+    };
+    if !set.contains_ref(version) {
+        return Ok(None);
+    }
+    Ok(Some(set))
+}
+
+/// Returns whether the second set contains every version that the first one does.
+fn keeps_all(old: &VersionSet, new: &VersionSet) -> bool
+    requires { old.now.digits ≡ new.now.digits }
+    ensures { (result ≡ true) ↔ ((v : PlainVersion) → IsIn v old.now → IsIn v new.now) }
+{
+    matches!(old.is_subset(new), Ok(true))
+}

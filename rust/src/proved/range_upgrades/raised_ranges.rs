@@ -1,0 +1,160 @@
+// Made by tools/erase.py from crates/range_upgrades/src/raised_ranges.rt; not edited by hand.
+//! The text of a range whose last alternative is raised to a newer version.
+
+use crate::rattle_std::prelude::*;
+use crate::proved::range_upgrades::alternatives::Alternative;
+use crate::proved::range_upgrades::raised_versions::{Form, raised_version};
+use crate::proved::range_terms::term::{Operator, PartialVersion, Term};
+use crate::proved::range_terms::terms::of_range;
+use crate::proved::semver_ranges::RangeError;
+use crate::proved::semver_versions::version::VersionRef;
+use crate::rattle_std::AllocError;
+use crate::proved::tool_ranges::dialect::Dialect;
+use crate::proved::tool_ranges::meaning::{Meaning, read};
+use crate::proved::version_sets::PreReleases;
+
+/// Returns the text of the last alternative, in which each version that has to be raised is
+/// replaced. It is `None` if a number would be above 2^64 - 1. `Err` means out of memory.
+pub(crate) fn raised_alternative(
+    range: &str,
+    last: &Alternative,
+    version: &VersionRef<'_>,
+    dialect: Dialect,
+    form: Form,
+) -> Result<Option<String>, AllocError> {
+    let mut raised = String::new();
+    let mut copied = last.start;
+    for term in of_range(range, dialect) {
+        if !is_to_raise(range, last, &term, version, dialect)? {
+            continue;
+        }
+        let written = last_version(&term);
+        let Some(new) = raised_version(dialect, term.operator, &written, version, form) else {
+            return Ok(None);
+        };
+        let Some(kept) = part(range, copied, written.span.start) else {
+            return Ok(None);
+        };
+        push_raised(&mut raised, kept, &new)?;
+        copied = written.span.end;
+    }
+    let Some(kept) = part(range, copied, last.end) else {
+        return Ok(None);
+    };
+    raised.fallible_push_str(kept)?;
+    Ok(Some(raised))
+}
+
+/// Appends a part of the range that is kept, and then a raised version. `Err` means out of memory.
+fn push_raised(raised: &mut String, kept: &str, new: &PartialVersion<'_>) -> Result<(), AllocError> {
+    write!(raised, "{kept}{new}")
+}
+
+/// Returns whether the version of a term has to be raised: the term is in the last alternative,
+/// doesn't state only a lower bound, and has no version at or above the newer one. `Err` means out
+/// of memory.
+fn is_to_raise(
+    range: &str,
+    last: &Alternative,
+    term: &Term<'_>,
+    version: &VersionRef<'_>,
+    dialect: Dialect,
+) -> Result<bool, AllocError> {
+    if term.range != last.range || is_lower_bound(term.operator) {
+        return Ok(false);
+    }
+    let Some(text) = part(range, term.span.start, term.span.end) else {
+        return Ok(false);
+    };
+    is_below(text, version, dialect)
+}
+
+/// Returns whether a term, which is given alone as a range, has no version at or above another
+/// version. `Err` means out of memory.
+fn is_below(
+    term: &str,
+    version: &VersionRef<'_>,
+    dialect: Dialect,
+) -> Result<bool, AllocError> {
+    let meaning = Meaning {
+        dialect,
+        pre_releases: PreReleases::Included,
+    };
+    let alone = match read(meaning, term) {
+        Ok(alone) => alone,
+        Err(error) => {
+            unless_out_of_memory(error)?;
+            return Ok(false);
+        }
+    };
+    let has_above = alone.has_at_or_above(version)?;
+    Ok(!has_above)
+}
+
+/// Returns `Err` if a range wasn't read because an allocation failed.
+pub(crate) fn unless_out_of_memory(error: RangeError) -> Result<(), AllocError> {
+    match error {
+        RangeError::OutOfMemory => Err(AllocError),
+        RangeError::NotARange | RangeError::NumberTooLarge => Ok(()),
+    }
+}
+
+/// Returns whether an operator states only a lower bound.
+fn is_lower_bound(operator: Operator) -> bool {
+    matches!(operator, Operator::Greater | Operator::GreaterOrEqual)
+}
+
+/// Returns the version of a term; of a hyphen range, the one after the hyphen.
+fn last_version<'t>(term: &Term<'t>) -> PartialVersion<'t> {
+    match term.upper {
+        Some(upper) => upper,
+        None => term.version,
+    }
+}
+
+/// Returns the range with another text for its last alternative, or `None` if the alternative isn't
+/// a part of the range. `Err` means out of memory.
+pub(crate) fn replaced(
+    range: &str,
+    last: &Alternative,
+    raised: &str,
+) -> Result<Option<String>, AllocError> {
+    let Some(before) = part(range, 0, last.start) else {
+        return Ok(None);
+    };
+    let Some(after) = part(range, last.end, range.len()) else {
+        return Ok(None);
+    };
+    Ok(Some(crate::rattle_std::fallible_format!("{before}{raised}{after}")?))
+}
+
+/// Returns the range with one more alternative after its last term, or `None` if the range has only
+/// one alternative. `Err` means out of memory.
+pub(crate) fn extended(
+    range: &str,
+    last: &Alternative,
+    raised: &str,
+) -> Result<Option<String>, AllocError> {
+    let Some(end) = last.before else {
+        return Ok(None);
+    };
+    let Some(before) = part(range, 0, last.end) else {
+        return Ok(None);
+    };
+    let Some(between) = part(range, end, last.start) else {
+        return Ok(None);
+    };
+    let Some(after) = part(range, last.end, range.len()) else {
+        return Ok(None);
+    };
+    Ok(Some(crate::rattle_std::fallible_format!("{before}{between}{raised}{after}")?))
+}
+
+/// Returns the part of a string between two offsets, or `None` if one of them divides a character or
+/// they aren't in order.
+fn part(text: &str, start: usize, end: usize) -> Option<&str> {
+    if start <= end && text.is_char_boundary(start) && text.is_char_boundary(end) {
+        return Some(&text[start..end]);
+    }
+    None
+}
