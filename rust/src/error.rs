@@ -27,6 +27,9 @@ pub enum ErrorKind {
     InvalidVersion,
     /// A string isn't a range in the dialect, or one of its numbers is too large.
     InvalidRange,
+    /// A range can't be written so that it contains a newer version
+    /// ([`upgrade`](crate::upgrade())).
+    CannotUpgrade,
     /// Two ranges were read by different rules, so they can't be combined or compared.
     DifferentRules,
     /// A string isn't the name of a dialect, or of a rule for pre-releases.
@@ -40,6 +43,7 @@ impl ErrorKind {
         match self {
             ErrorKind::InvalidVersion => "invalid version",
             ErrorKind::InvalidRange => "invalid range",
+            ErrorKind::CannotUpgrade => "the requirement can't be raised to this version",
             ErrorKind::DifferentRules => "the ranges were read by different rules",
             ErrorKind::UnknownName => "unknown name",
             ErrorKind::OutOfMemory => "out of memory",
@@ -83,6 +87,7 @@ pub struct Error {
 enum Detail {
     Found { offset: usize, reason: Reason, span: Span, dialect: Dialect },
     Expected(&'static str),
+    String,
     Sentence(String),
     None,
 }
@@ -210,12 +215,18 @@ impl Error {
         Error::new(ErrorKind::UnknownName, name, Some(Detail::Expected(expected)))
     }
 
+    /// Returns the error of a range that can't be raised to a version.
+    #[cold]
+    pub(crate) fn cannot_upgrade(range: &str) -> Error {
+        Error::new(ErrorKind::CannotUpgrade, range, Some(Detail::String))
+    }
+
     /// Returns the error for an allocation that failed.
     pub(crate) fn out_of_memory(_: AllocError) -> Error {
         Error::plain(ErrorKind::OutOfMemory)
     }
 
-    fn plain(kind: ErrorKind) -> Error {
+    pub(crate) fn plain(kind: ErrorKind) -> Error {
         Error { kind, string: String::new(), detail: Detail::None }
     }
 
@@ -309,6 +320,7 @@ impl Display for Error {
             Detail::Found { offset, reason, .. } => {
                 write!(f, "{kind} \"{text}\" at offset {offset}: {reason}")
             }
+            Detail::String => write!(f, "{kind}: \"{text}\""),
             Detail::Expected(expected) => write!(f, "{kind} \"{text}\": expected {expected}"),
             Detail::Sentence(sentence) => write!(f, "{kind}: {sentence}"),
             Detail::None => f.write_str(kind),

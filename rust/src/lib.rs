@@ -19,8 +19,10 @@
 //! | choose from a list | [`VersionRange::highest`], [`VersionRange::lowest`] |
 //! | read, make, sort and compare versions | [`Version`]; [`VersionRef`] borrows its string and doesn't allocate |
 //! | compare and combine ranges | [`VersionRange`]: `&a & &b`, `&a \| &b`, `&a - &b`, [`is_subset`](VersionRange::is_subset) |
+//! | raise a requirement to a newer version | [`upgrade`](upgrade()) |
+//! | write a range into a manifest | [`VersionRange::to_requirement`] |
 //! | edit a range, and keep how it is written | [`terms`], [`PartialVersion::with_version`] |
-//! | know where and why a string is invalid | [`Error`] |
+//! | know where and why a string is invalid, and what may have been meant | [`Error`] |
 //!
 //! A [`Dialect`] says whose grammar and semantics are meant: `^1.2 || 3.x` is a range in npm, and
 //! invalid in Cargo. If a function takes `impl Into<Rules>`, you can pass a dialect, or [`Rules`], which
@@ -103,6 +105,7 @@ pub mod docs;
 mod error;
 mod rules;
 mod terms;
+mod upgrade;
 mod version_range;
 mod versions;
 
@@ -116,6 +119,7 @@ pub use proved::tool_ranges::dialect::Dialect;
 pub use proved::tool_ranges::meaning::Meaning as Rules;
 pub use proved::version_sets::PreReleases;
 pub use terms::terms;
+pub use upgrade::upgrade;
 pub use version_range::{comparators, satisfies, VersionRange};
 pub use versions::Version;
 
