@@ -34,6 +34,7 @@ ERRORS = [
     ("DIFFERENT_DIALECTS", "", "The second range has another dialect than the first."),
     ("DIFFERENT_PRE_RELEASES", "",
      "The second range has the same dialect, and another rule for pre-releases."),
+    ("CANNOT_UPGRADE", "", "The raised requirement wouldn't contain the version."),
     ("INVALID_VERSION", "skip_invalid", "A version is invalid, and `skip_invalid` is false."),
     ("INVALID_VERSION", "", "A string is an invalid version in the dialect."),
     ("INVALID_RANGE", "", "The string is not a range in the dialect."),

@@ -215,6 +215,95 @@ static void two_ranges(void) {
     text_free(&of);
 }
 
+/* Requirements that are raised, and the errors, of which that of the version comes first. */
+static void upgrades(void) {
+    static const struct {
+        int dialect;
+        const char *range;
+        const char *version;
+        const char *upgraded;
+    } raised[] = {
+        {CARGO, "^1.2", "2.3.4", "^2.3"},
+        {CARGO, ">= 1.2 , < 2.0.0", "2.3.0", ">= 1.2 , < 3.0.0"},
+        {NPM, "~1.2 || ^2.0.0", "3.1.0", "~1.2 || ^2.0.0 || ^3.1.0"},
+        {CARGO, "^3", "2.0.0", NULL},
+    };
+    static const struct {
+        int dialect;
+        const char *range;
+        const char *version;
+        int status;
+        size_t index;
+        size_t offset;
+        semver_parser_reason reason;
+    } refused[] = {
+        {CARGO, "1 || 2", "1.2", INVALID_VERSION, 1, 3, REASON(NOT_THREE_NUMBERS)},
+        {CARGO, "1 || 2", "3.0.0", INVALID_RANGE, 0, 2, REASON(CARGO_BARS)},
+        {CARGO, "1.\xff", "1", INVALID_VERSION, 1, 1, REASON(NOT_THREE_NUMBERS)},
+        {CARGO, "1.\xff", "3.0.0", INVALID_RANGE, 0, 2, REASON(NOT_UTF8)},
+        {NPM, "1.x", "2.0.0-rc.1", CANNOT_UPGRADE, 0, 0, REASON(NONE)},
+    };
+    char *made = NULL;
+    for (size_t at = 0; at < sizeof raised / sizeof *raised; at++) {
+        semver_parser_status status = semver_parser_upgrade(
+            semver_parser_str(raised[at].range), semver_parser_str(raised[at].version),
+            options_of(raised[at].dialect, BY_DIALECT), &made, NULL);
+        check(status == SEMVER_PARSER_OK
+                  && (made == NULL ? raised[at].upgraded == NULL
+                                   : raised[at].upgraded != NULL
+                                         && strcmp(made, raised[at].upgraded) == 0),
+              "another upgrade", raised[at].range);
+        semver_parser_free(made);
+    }
+    for (size_t at = 0; at < sizeof refused / sizeof *refused; at++) {
+        semver_parser_error error;
+        semver_parser_status status = semver_parser_upgrade(
+            semver_parser_str(refused[at].range), semver_parser_str(refused[at].version),
+            options_of(refused[at].dialect, BY_DIALECT), &made, &error);
+        check(status != SEMVER_PARSER_OK, "an upgrade", refused[at].range);
+        if (status != SEMVER_PARSER_OK) {
+            is_error(error, refused[at].status, refused[at].index, refused[at].offset,
+                     refused[at].reason, refused[at].range);
+        }
+    }
+}
+
+/* What to underline for an error, and what was meant. */
+static void spans(void) {
+    static const struct {
+        int dialect;
+        const char *range;
+        size_t start;
+        size_t end;
+        const char *meant;
+    } rows[] = {
+        {NPM, "=>1.2", 0, 2, ">=1.2"},
+        {CARGO, "^01", 1, 3, "^1"},
+        {NPM, ">=1.2, <2", 5, 6, ">=1.2 <2"},
+        {CARGO, ">=1.2 <2", 6, 7, ">=1.2 , <2"},
+        {CARGO, "1 || 2", 2, 4, NULL},
+        {NPM, ">=", 2, 2, NULL},
+        {NPM, "\xc3\xa4\xc3\xb6", 0, 4, NULL},
+        {NPM, "1.\xff", 2, 3, NULL},
+    };
+    for (size_t at = 0; at < sizeof rows / sizeof *rows; at++) {
+        semver_parser_string range = semver_parser_str(rows[at].range);
+        semver_parser_error error;
+        char *meant = NULL;
+        check(semver_parser_check_range(range, rows[at].dialect, &error) != SEMVER_PARSER_OK,
+              "a range", rows[at].range);
+        semver_parser_span span = semver_parser_error_span(&error, range);
+        check(span.start == rows[at].start && span.end == rows[at].end, "another span",
+              rows[at].range);
+        check(semver_parser_suggestion(&error, range, rows[at].dialect, &meant) == SEMVER_PARSER_OK
+                  && (meant == NULL ? rows[at].meant == NULL
+                                    : rows[at].meant != NULL
+                                          && strcmp(meant, rows[at].meant) == 0),
+              "another suggestion", rows[at].range);
+        semver_parser_free(meant);
+    }
+}
+
 /* Texts and names: each number has its own, in one line; other numbers have null. */
 typedef const char *texts_of(int32_t number);
 
@@ -239,7 +328,8 @@ static void names(void) {
     static const char *const of_rules[] = {"by-dialect", "included", "excluded"};
     static const char *const statuses[STATUSES] = {
         "ok", "invalid-range", "number-too-large", "invalid-version", "out-of-memory",
-        "invalid-argument", "different-dialects", "different-pre-releases"};
+        "invalid-argument", "different-dialects", "different-pre-releases",
+        "cannot-upgrade"};
     for (int at = 0; at < DIALECTS; at++) {
         check(strcmp(semver_parser_dialect_name(at), dialects[at]) == 0, "wrong name",
               dialects[at]);
@@ -382,6 +472,8 @@ int main(void) {
     strings();
     arguments();
     two_ranges();
+    upgrades();
+    spans();
     all_are_returned();
     texts(semver_parser_status_text, STATUSES, "a status");
     texts(semver_parser_status_name, STATUSES, "the name of a status");

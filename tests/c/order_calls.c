@@ -588,6 +588,16 @@ static void replaced(const call *it, text *to) {
     say_made(to, status, string);
 }
 
+static void upgraded(const call *it, text *to) {
+    semver_parser_error error = before;
+    char *string = NULL;
+    semver_parser_options options = semver_parser_options_of(it->dialect);
+    semver_parser_status status =
+        semver_parser_upgrade(second_of(it), first_of(it), options, &string, &error);
+    say_error(to, status, &error);
+    say_made(to, status, string);
+}
+
 /* Some functions are listed more than once, and are called more often. */
 static const struct {
     const char *name;
@@ -615,6 +625,7 @@ static const struct {
     {"comparators_get and to_string", kept_comparators},
     {"terms_of_range and operator_sign", terms},
     {"replace_version", replaced},
+    {"upgrade", upgraded},
 };
 
 size_t functions_count(void) {

@@ -431,6 +431,24 @@ static bool say_highest(text *to, const row *of, int dialect, int rule) {
     return true;
 }
 
+static bool say_upgraded(text *to, const row *of, int dialect, int rule) {
+    semver_parser_string range = {of->of.bytes, of->of.length};
+    semver_parser_string version = {of->steps.bytes, of->steps.length};
+    char *made = NULL;
+    semver_parser_status status =
+        semver_parser_upgrade(range, version, options_of(dialect, rule), &made, NULL);
+    if (status != SEMVER_PARSER_OK) {
+        text_say(to, "%s%s", semver_parser_status_text(status),
+                 status == SEMVER_PARSER_INVALID_RANGE ? ": not a range" : "");
+    } else if (made == NULL) {
+        text_say(to, "nothing to do");
+    } else {
+        text_say(to, "\"%s\"", made);
+    }
+    semver_parser_free(made);
+    return true;
+}
+
 /* ---- calls of the table */
 
 typedef struct {
@@ -483,6 +501,7 @@ static table_call calls[] = {
     TOOLS("refused", say_refused, 0, 45, 30),
     {"refused-as-crate", say_refused, CRATE_NPM, 0, 15, 0, 0},
     TOOLS("refused-range", say_refused_range, 0, 85, 85),
+    TOOLS("upgraded", say_upgraded, BY_DIALECT, 4, 14),
     CRATE("refused-range-as-crate", say_refused_range, 0, 85, 85),
 };
 enum { CALLS = sizeof calls / sizeof *calls };

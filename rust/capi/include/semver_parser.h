@@ -154,7 +154,9 @@ enum {
     /* The second of two ranges has a different dialect than the first. */
     SEMVER_PARSER_DIFFERENT_DIALECTS = 6,
     /* The second of two ranges has the same dialect, but a different rule for pre-releases. */
-    SEMVER_PARSER_DIFFERENT_PRE_RELEASES = 7
+    SEMVER_PARSER_DIFFERENT_PRE_RELEASES = 7,
+    /* A requirement can't be written so that it contains a newer version. */
+    SEMVER_PARSER_CANNOT_UPGRADE = 8
 };
 
 /* Why a string is an invalid version or range. For the reasons from CARGO_COMMAS to CRATE_V, what
@@ -569,6 +571,18 @@ semver_parser_status semver_parser_replace_version(
     semver_parser_string range, const semver_parser_partial_version *written,
     semver_parser_string version, semver_parser_dialect dialect, char **replaced,
     semver_parser_error *error);
+
+/* Raises a requirement, so that it contains a newer version, and keeps how it is written: `^1.2` and
+ * 2.3.4 give `^2.3`, and `~1.2 || ^2.0.0` and 3.1.0 give `~1.2 || ^2.0.0 || ^3.1.0`. The string is
+ * null if the range has a version at or above the newer one, so nothing is ever lowered. The terms
+ * after the last `||` are raised; operators, the number of components, wildcards, spaces and lower
+ * bounds stay. The error of the version, whose index is 1, comes before that of the range.
+ * semver_parser_free frees the string. INVALID_VERSION, INVALID_RANGE, NUMBER_TOO_LARGE,
+ * CANNOT_UPGRADE. */
+SEMVER_PARSER_CHECKED(4)
+semver_parser_status semver_parser_upgrade(
+    semver_parser_string range, semver_parser_string version, semver_parser_options options,
+    char **upgraded, semver_parser_error *error);
 
 /* Returns how an operator of a term or of a comparator is written, or null if there is no such
  * number. BARE is written as an empty string. */

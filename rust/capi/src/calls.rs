@@ -8,7 +8,7 @@ use crate::proved::tool_ranges::meaning;
 use crate::proved::version_sets::OperationError;
 use crate::rattle_std::{FalliblePush, FallibleToString};
 use crate::shared::{self, read_ref_in, rewrite, SatisfiesError, VersionRange, VersionRef};
-use crate::shared::{repaired, requirement, span_at, Reason};
+use crate::shared::{repaired, requirement, span_at, upgraded, Reason, UpgradeError};
 use crate::shared::{Combination, Dialect, Extreme, PreReleases, RangeError, Rules, Terms};
 use crate::types::{dialect, Comparator, Options, PartialVersion, Span, StringView, Version};
 use alloc::{string::String, vec::Vec};
@@ -84,6 +84,23 @@ pub fn replace_version<'a>(
         .ok_or(Problem::Argument)?;
     let version = it.with_version(&version(bytes, dialect, 1)?);
     printed(format_args!("{before}{version}{after}"))
+}
+
+/// Raises a requirement to a newer version. The error of the version comes first.
+pub fn upgrade<'a>(
+    bytes: &'a [u8],
+    newer: &'a [u8],
+    options: Options,
+) -> Answer<'a, *mut c_char> {
+    let rules = options.rules()?;
+    version(newer, rules.dialect, 1)?;
+    let range = text(bytes, 0)?;
+    match upgraded(range, newer, rules) {
+        Ok(found) => found.map_or(Ok(ptr::null_mut()), printed),
+        Err(UpgradeError::InvalidRange(error)) => Err(refused(range, rules.dialect, 0)(error)),
+        Err(UpgradeError::OutOfMemory) => Err(Problem::Memory),
+        Err(_) => Err(Problem::Upgrade),
+    }
 }
 
 pub fn parse_version(bytes: &[u8], number: i32) -> Answer<'_, Version> {

@@ -12,6 +12,7 @@ const OUT_OF_MEMORY: Status = 4;
 const INVALID_ARGUMENT: Status = 5;
 const DIFFERENT_DIALECTS: Status = 6;
 const DIFFERENT_PRE_RELEASES: Status = 7;
+const CANNOT_UPGRADE: Status = 8;
 
 /// semver_parser_error.
 #[repr(C)]
@@ -43,6 +44,7 @@ pub enum Problem<'a> {
     Memory,
     Dialects,
     PreReleases,
+    Upgrade,
     Version { bytes: &'a [u8], dialect: Dialect, index: usize },
     NotUtf8 { offset: usize, index: usize },
     Range { error: RangeError, range: &'a str, dialect: Dialect, index: usize },
@@ -60,6 +62,7 @@ impl Problem<'_> {
             Problem::Argument => INVALID_ARGUMENT,
             Problem::Dialects => DIFFERENT_DIALECTS,
             Problem::PreReleases => DIFFERENT_PRE_RELEASES,
+            Problem::Upgrade => CANNOT_UPGRADE,
             Problem::Memory | Problem::Range { error: RangeError::OutOfMemory, .. } => {
                 OUT_OF_MEMORY
             }

@@ -112,6 +112,8 @@ functions! {
     semver_parser_replace_version(
         range: StringView, written: &PartialVersion, version: StringView, dialect: i32)
         -> replaced: *mut c_char, error = calls::replace_version;
+    semver_parser_upgrade(range: StringView, version: StringView, options: Options)
+        -> upgraded: *mut c_char, error = calls::upgrade;
 
     semver_parser_range_parse(string: StringView, options: Options)
         -> range: *mut Range, error = calls::parse_range;

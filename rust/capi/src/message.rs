@@ -12,7 +12,7 @@ use core::{mem::ManuallyDrop, ptr};
 // The tables are written by build.rs from the crate's texts.
 include!(concat!(env!("OUT_DIR"), "/texts.rs"));
 
-pub static STATUS_TEXTS: [&str; 8] = [
+pub static STATUS_TEXTS: [&str; 9] = [
     "no error\0",
     "invalid range\0",
     "number too large in range\0",
@@ -21,9 +21,10 @@ pub static STATUS_TEXTS: [&str; 8] = [
     "invalid argument\0",
     "the ranges have different dialects\0",
     "the ranges have different rules for pre-releases\0",
+    "the requirement can't be raised to this version\0",
 ];
 
-pub static STATUS_NAMES: [&str; 8] = [
+pub static STATUS_NAMES: [&str; 9] = [
     "ok\0",
     "invalid-range\0",
     "number-too-large\0",
@@ -32,6 +33,7 @@ pub static STATUS_NAMES: [&str; 8] = [
     "invalid-argument\0",
     "different-dialects\0",
     "different-pre-releases\0",
+    "cannot-upgrade\0",
 ];
 
 fn text_of(texts: &[&'static str], number: i32) -> Option<&'static str> {

@@ -6,6 +6,7 @@ pub use crate::proved::invalid_ranges::refusals::refused as explain_range;
 pub use crate::proved::invalid_strings::reasons::Reason;
 pub use crate::proved::range_terms::term::{Component, PartialVersion, Span, Term};
 pub use crate::proved::range_terms::terms::Terms;
+pub use crate::proved::range_upgrades::upgrade::{upgrade as upgraded, UpgradeError};
 pub use crate::proved::repaired_strings::errors::Expected;
 pub use crate::proved::repaired_strings::repairs::repaired;
 pub(crate) use crate::proved::repaired_strings::spans::span_at;
