@@ -39,7 +39,8 @@ made_anew() {
 }
 
 programs_run() {
-    quietly 'the programs' cargo build --quiet --release --bins --examples
+    quietly 'the programs' cargo build --quiet --release -p semver-parser-programs --bins
+    quietly 'the example' cargo build --quiet --release --examples
     programs=${CARGO_TARGET_DIR:-target}/release
     for name in semver-parser release-filter compare-ranges; do
         tests/runs.py --cargo "$name" "$programs/$name"

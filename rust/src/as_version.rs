@@ -6,6 +6,7 @@ use crate::proved::tool_ranges::highest::Extreme;
 use crate::proved::tool_ranges::version_range as proved;
 use crate::{version, Error, Version, VersionRange, VersionRef};
 use core::cmp::Ordering;
+use core::ops::Range;
 
 /// A version, or a string that [`VersionRange::contains`], [`VersionRange::highest`] and
 /// [`VersionRange::lowest`] read in the range's dialect:
@@ -62,6 +63,27 @@ fn first<T>(
     }
 }
 
+/// A version that was read from a string, without it: its numbers, and where its pre-release is.
+struct Placed {
+    numbers: VersionRef<'static>,
+    pre: Range<usize>,
+}
+
+impl Placed {
+    fn new(version: &VersionRef<'_>) -> Placed {
+        let (major, minor, patch) = (version.major(), version.minor(), version.patch());
+        let numbers = VersionRef::new(major, minor, patch).read_by(version.digits());
+        let start = version.pre_offset();
+        Placed { numbers, pre: start..start + version.pre_bytes().len() }
+    }
+
+    /// Returns the version without build metadata. The string is the one that it was read from.
+    fn within<'t>(&self, string: &'t impl AsRef<str>) -> VersionRef<'t> {
+        let pre = string.as_ref().as_bytes().get(self.pre.clone()).unwrap_or_default();
+        VersionRef { pre, ..self.numbers }
+    }
+}
+
 impl<T: AsRef<str>> AsVersion for T {
     type Contained = Result<bool, Error>;
 }
@@ -76,14 +98,12 @@ impl<T: AsRef<str>> sealed::Sealed<Result<bool, Error>> for T {
 
     fn extreme(range: &VersionRange, which: Extreme, all: impl Iterator<Item = Self>) -> Option<Self> {
         let grammar = range.rules().dialect.grammar();
-        // A release is kept without allocating.
         let read = all.filter_map(|item| {
             let version = read_ref_in(item.as_ref().as_bytes(), grammar)?;
-            let kept = range.contains(version).then(|| version.to_version());
-            Some((kept?, item))
+            range.0.contains_ref(&version).then(|| Placed::new(&version)).map(|it| (it, item))
         });
-        let found = first(which, read, |(version, _), (other, _)| {
-            compared(grammar.digits(), &version.as_version_ref(), &other.as_version_ref())
+        let found = first(which, read, |(version, item), (other, another)| {
+            version.within(item).compare(&other.within(another))
         });
         found.map(|(_, item)| item)
     }

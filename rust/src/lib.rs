@@ -114,6 +114,7 @@ pub use error::{Error, ErrorKind};
 pub use proved::invalid_strings::reasons::Reason;
 pub use proved::range_terms::term::{Component, Operator, PartialVersion, Span, Term};
 pub use proved::range_terms::terms::Terms;
+pub use proved::semver_versions::owned::Version;
 pub use proved::semver_versions::version::VersionRef;
 pub use proved::tool_ranges::dialect::Dialect;
 pub use proved::tool_ranges::meaning::Meaning as Rules;
@@ -121,7 +122,6 @@ pub use proved::version_sets::PreReleases;
 pub use terms::terms;
 pub use upgrade::upgrade;
 pub use version_range::{comparators, satisfies, VersionRange};
-pub use versions::Version;
 
 // Of semver-parser 0.10.
 pub use proved::semver_parser::{lexer, parser};

@@ -3,38 +3,12 @@
 use crate::original::{out_of_memory, printed};
 use crate::proved::semver_texts::grammar::Digits;
 use crate::proved::semver_versions::version::read_ref_in;
-use crate::rattle_std::{AllocError, FallibleString};
-use crate::{version, Dialect, Error, VersionRef};
+use crate::{version, Dialect, Error, Version, VersionRef};
 use alloc::string::String;
 use core::cmp::Ordering;
-use core::fmt::{self, Debug, Display, Formatter};
+use core::fmt::{self, Debug, Formatter};
 use core::hash::{Hash, Hasher};
 use core::str::FromStr;
-
-/// A version with strings of its own. Conversions from strings read SemVer 2.0.0, as Cargo does;
-/// [`Version::parse`] reads any dialect. To read many versions, [`VersionRef`] doesn't allocate.
-///
-/// `<` is SemVer's order. Versions of equal precedence are ordered by their strings, so that `==`
-/// and `Hash`, which take the build metadata into account, agree with it.
-///
-/// ```
-/// use semver_parser::Version;
-///
-/// let version: Version = "1.2.3-rc.4+5aedf".parse()?;
-/// assert_eq!((version.major(), version.minor(), version.patch()), (1, 2, 3));
-/// assert_eq!((version.pre(), version.build()), ("rc.4", "5aedf"));
-/// assert!(version < Version::new(1, 2, 3));
-/// # Ok::<(), semver_parser::Error>(())
-/// ```
-#[derive(Clone)]
-pub struct Version {
-    major: u64,
-    minor: u64,
-    patch: u64,
-    /// The pre-release, and then the build metadata.
-    parts: String,
-    pre_len: usize,
-}
 
 impl Version {
     /// Returns a release.
@@ -62,99 +36,9 @@ impl Version {
     /// assert!(Version::parse("v1.2.3", Dialect::Cargo).is_err());
     /// # Ok::<(), semver_parser::Error>(())
     /// ```
+    #[inline]
     pub fn parse(string: &str, dialect: Dialect) -> Result<Version, Error> {
-        VersionRef::parse(string, dialect)?.try_to_version().map_err(Error::out_of_memory)
-    }
-
-    /// Returns the first number.
-    ///
-    /// ```
-    /// assert_eq!(semver_parser::Version::new(1, 2, 3).major(), 1);
-    /// ```
-    #[must_use]
-    pub fn major(&self) -> u64 {
-        self.major
-    }
-
-    /// Returns the second number.
-    ///
-    /// ```
-    /// assert_eq!(semver_parser::Version::new(1, 2, 3).minor(), 2);
-    /// ```
-    #[must_use]
-    pub fn minor(&self) -> u64 {
-        self.minor
-    }
-
-    /// Returns the third number.
-    ///
-    /// ```
-    /// assert_eq!(semver_parser::Version::new(1, 2, 3).patch(), 3);
-    /// ```
-    #[must_use]
-    pub fn patch(&self) -> u64 {
-        self.patch
-    }
-
-    /// Returns the pre-release without its `-`, or an empty string if there is none.
-    ///
-    /// ```
-    /// let version: semver_parser::Version = "1.2.3-rc.4+5aedf".parse()?;
-    /// assert_eq!(version.pre(), "rc.4");
-    /// # Ok::<(), semver_parser::Error>(())
-    /// ```
-    #[must_use]
-    pub fn pre(&self) -> &str {
-        self.as_version_ref().pre()
-    }
-
-    /// Returns the build metadata without its `+`, or an empty string if there is none.
-    ///
-    /// ```
-    /// let version: semver_parser::Version = "1.2.3-rc.4+5aedf".parse()?;
-    /// assert_eq!(version.build(), "5aedf");
-    /// # Ok::<(), semver_parser::Error>(())
-    /// ```
-    #[must_use]
-    pub fn build(&self) -> &str {
-        self.as_version_ref().build()
-    }
-
-    /// Returns whether the version has a pre-release.
-    ///
-    /// ```
-    /// assert!(!semver_parser::Version::new(1, 2, 3).is_pre_release());
-    /// ```
-    #[must_use]
-    pub fn is_pre_release(&self) -> bool {
-        self.as_version_ref().is_pre_release()
-    }
-
-    /// Compares two versions by precedence (SemVer 2.0.0, section 11). Build metadata is ignored.
-    ///
-    /// ```
-    /// use semver_parser::Version;
-    ///
-    /// let (one, other): (Version, Version) = ("1.0.0+a".parse()?, "1.0.0+b".parse()?);
-    /// assert!(one.cmp_precedence(&other).is_eq() && one < other);
-    /// # Ok::<(), semver_parser::Error>(())
-    /// ```
-    #[must_use]
-    pub fn cmp_precedence(&self, other: &Version) -> Ordering {
-        self.as_version_ref().cmp_precedence(&other.as_version_ref())
-    }
-
-    /// Returns the version as one that borrows this one's strings.
-    ///
-    /// ```
-    /// use semver_parser::{Version, VersionRef};
-    ///
-    /// assert_eq!(Version::new(1, 2, 3).as_version_ref(), VersionRef::new(1, 2, 3));
-    /// ```
-    #[must_use]
-    pub fn as_version_ref(&self) -> VersionRef<'_> {
-        let (pre, build) = self.parts.as_bytes().split_at(self.pre_len);
-        VersionRef { pre, build, ..VersionRef::new(self.major, self.minor, self.patch) }
+        VersionRef::parse(string, dialect)?.owned().map_err(Error::out_of_memory)
     }
 
     /// Returns a version without build metadata that is given as data of 0.10. What is printed after
@@ -214,18 +98,10 @@ impl<'t> VersionRef<'t> {
     /// ```
     #[must_use]
     pub fn to_version(&self) -> Version {
-        self.try_to_version().unwrap_or_else(|_| out_of_memory())
+        self.owned().unwrap_or_else(|_| out_of_memory())
     }
 
-    fn try_to_version(&self) -> Result<Version, AllocError> {
-        let (pre, build) = (self.pre(), self.build());
-        let mut parts: String = FallibleString::fallible_with_capacity(pre.len() + build.len())?;
-        parts.fallible_push_str(pre)?;
-        parts.fallible_push_str(build)?;
-        let (major, minor, patch) = (self.major(), self.minor(), self.patch());
-        Ok(Version { major, minor, patch, parts, pre_len: pre.len() })
-    }
-
+    #[inline(always)]
     fn as_version_ref(&self) -> VersionRef<'t> {
         *self
     }
@@ -263,12 +139,14 @@ macro_rules! versions {
         impl Ord for $type {
             /// Compares by precedence (SemVer 2.0.0, section 11), and versions of equal precedence
             /// by their pre-releases and then by their build metadata, as strings.
+            #[inline]
             fn cmp(&self, other: &Self) -> Ordering {
-                self.as_version_ref().cmp_all(&other.as_version_ref())
+                self.cmp_all(other)
             }
         }
 
         impl PartialOrd for $type {
+            #[inline]
             fn partial_cmp(&self, other: &Self) -> Option<Ordering> {
                 Some(self.cmp(other))
             }
@@ -283,12 +161,6 @@ macro_rules! versions {
 }
 
 versions!(Version, VersionRef<'_>);
-
-impl Display for Version {
-    fn fmt(&self, f: &mut Formatter<'_>) -> fmt::Result {
-        Display::fmt(&self.as_version_ref(), f)
-    }
-}
 
 impl FromStr for Version {
     type Err = Error;

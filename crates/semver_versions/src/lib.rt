@@ -5,6 +5,7 @@
 pub mod comparing;
 pub mod identifiers;
 pub mod laws;
+pub mod owned;
 pub mod read_version;
 mod reader;
 pub mod version;

@@ -35,8 +35,12 @@ impl<'t> VersionRef<'t> {
     pub fn cmp_precedence(&self, other: &VersionRef<'_>) -> Ordering
         ensures { result ≡ precedence (semver_of self.now) (semver_of other.now) }
     {
-        self.read_by(Digits::AnySize)
-            .compare(&other.read_by(Digits::AnySize))
+        compare(
+            (self.major, self.minor, self.patch),
+            self.pre_by(Digits::AnySize),
+            (other.major, other.minor, other.patch),
+            other.pre_by(Digits::AnySize),
+        )
     }
 
     // Determined by: equation.

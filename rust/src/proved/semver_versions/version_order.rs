@@ -27,8 +27,12 @@ impl<'t> VersionRef<'t> {
     #[must_use]
     #[inline(always)]
     pub fn cmp_precedence(&self, other: &VersionRef<'_>) -> Ordering {
-        self.read_by(Digits::AnySize)
-            .compare(&other.read_by(Digits::AnySize))
+        compare(
+            (self.major, self.minor, self.patch),
+            self.pre_by(Digits::AnySize),
+            (other.major, other.minor, other.patch),
+            other.pre_by(Digits::AnySize),
+        )
     }
 
     /// Compares two borrowed versions by precedence. Versions of equal precedence are compared by

@@ -1,0 +1,191 @@
+// Made by tools/erase.py from crates/semver_versions/src/owned.rt; not edited by hand.
+//! Versions that own their strings.
+
+use crate::rattle_std::prelude::*;
+use crate::proved::semver_versions::version_ref::VersionRef;
+use crate::proved::semver_texts::grammar::Digits;
+use crate::rattle_std::AllocError;
+use crate::rattle_std::cmp::Ordering;
+use crate::rattle_std::fmt;
+
+/// A version with strings of its own. Conversions from strings read SemVer 2.0.0, as Cargo does;
+/// [`Version::parse`] reads any dialect. To read many versions, [`VersionRef`] doesn't allocate.
+///
+/// `<` is SemVer's order. Versions of equal precedence are ordered by their strings, so that `==`
+/// and `Hash`, which take the build metadata into account, agree with it.
+///
+/// ```
+/// use semver_parser::Version;
+///
+/// let version: Version = "1.2.3-rc.4+5aedf".parse()?;
+/// assert_eq!((version.major(), version.minor(), version.patch()), (1, 2, 3));
+/// assert_eq!((version.pre(), version.build()), ("rc.4", "5aedf"));
+/// assert!(version < Version::new(1, 2, 3));
+/// # Ok::<(), semver_parser::Error>(())
+/// ```
+#[derive(Clone)]
+pub struct Version {
+    pub(crate) major: u64,
+    pub(crate) minor: u64,
+    pub(crate) patch: u64,
+    /// The pre-release, and then the build metadata.
+    pub(crate) parts: String,
+    pub(crate) pre_len: usize,
+}
+
+impl crate::rattle_std::FallibleClone for Version {
+    fn fallible_clone(&self) -> Result<Self, crate::rattle_std::AllocError> {
+        match self {
+            Version { major, minor, patch, parts, pre_len } => Ok(Version { major: *major, minor: *minor, patch: *patch, parts: parts.fallible_clone()?, pre_len: *pre_len }),
+        }
+    }
+}
+
+impl Version {
+    /// Returns the first number.
+    ///
+    /// ```
+    /// assert_eq!(semver_parser::Version::new(1, 2, 3).major(), 1);
+    /// ```
+    #[must_use]
+    #[inline(always)]
+    pub fn major(&self) -> u64 {
+        self.major
+    }
+
+    /// Returns the second number.
+    ///
+    /// ```
+    /// assert_eq!(semver_parser::Version::new(1, 2, 3).minor(), 2);
+    /// ```
+    #[must_use]
+    #[inline(always)]
+    pub fn minor(&self) -> u64 {
+        self.minor
+    }
+
+    /// Returns the third number.
+    ///
+    /// ```
+    /// assert_eq!(semver_parser::Version::new(1, 2, 3).patch(), 3);
+    /// ```
+    #[must_use]
+    #[inline(always)]
+    pub fn patch(&self) -> u64 {
+        self.patch
+    }
+
+    /// Returns the pre-release without its `-`, or an empty string if there is none.
+    ///
+    /// ```
+    /// let version: semver_parser::Version = "1.2.3-rc.4+5aedf".parse()?;
+    /// assert_eq!(version.pre(), "rc.4");
+    /// # Ok::<(), semver_parser::Error>(())
+    /// ```
+    #[must_use]
+    pub fn pre(&self) -> &str {
+        self.as_version_ref().pre()
+    }
+
+    /// Returns the build metadata without its `+`, or an empty string if there is none.
+    ///
+    /// ```
+    /// let version: semver_parser::Version = "1.2.3-rc.4+5aedf".parse()?;
+    /// assert_eq!(version.build(), "5aedf");
+    /// # Ok::<(), semver_parser::Error>(())
+    /// ```
+    #[must_use]
+    pub fn build(&self) -> &str {
+        self.as_version_ref().build()
+    }
+
+    /// Returns whether the version has a pre-release.
+    ///
+    /// ```
+    /// assert!(!semver_parser::Version::new(1, 2, 3).is_pre_release());
+    /// ```
+    #[must_use]
+    pub fn is_pre_release(&self) -> bool {
+        self.pre_len > 0
+    }
+
+    /// Compares two versions by precedence (SemVer 2.0.0, section 11). Build metadata is ignored.
+    ///
+    /// ```
+    /// use semver_parser::Version;
+    ///
+    /// let (one, other): (Version, Version) = ("1.0.0+a".parse()?, "1.0.0+b".parse()?);
+    /// assert!(one.cmp_precedence(&other).is_eq() && one < other);
+    /// # Ok::<(), semver_parser::Error>(())
+    /// ```
+    #[must_use]
+    pub fn cmp_precedence(&self, other: &Version) -> Ordering {
+        self.as_version_ref().cmp_precedence(&other.as_version_ref())
+    }
+
+    /// Compares two versions like `VersionRef::cmp_all`.
+    #[must_use]
+    #[inline(always)]
+    pub(crate) fn cmp_all(&self, other: &Version) -> Ordering {
+        self.as_version_ref().cmp_all(&other.as_version_ref())
+    }
+
+    /// Returns the version as one that borrows this one's strings.
+    ///
+    /// ```
+    /// use semver_parser::{Version, VersionRef};
+    ///
+    /// assert_eq!(Version::new(1, 2, 3).as_version_ref(), VersionRef::new(1, 2, 3));
+    /// ```
+    #[must_use]
+    #[inline(always)]
+    pub fn as_version_ref(&self) -> VersionRef<'_> {
+        let (pre, build) = self.parts.as_bytes().split_at(self.pre_len);
+        VersionRef {
+            major: self.major,
+            minor: self.minor,
+            patch: self.patch,
+            pre,
+            build,
+            before_pre: 0,
+            before_build: 0,
+            digits: Digits::AnySize,
+        }
+    }
+}
+
+impl<'t> VersionRef<'t> {
+    /// Returns the version with strings of its own. It allocates once, if there is a pre-release or
+    /// build metadata. `Err` means out of memory.
+    #[inline(always)]
+    pub(crate) fn owned(&self) -> Result<Version, AllocError> {
+        Ok(Version {
+            major: self.major,
+            minor: self.minor,
+            patch: self.patch,
+            parts: self.joined()?,
+            pre_len: self.pre.len(),
+        })
+    }
+
+    /// Returns the pre-release and the build metadata in one string.
+    fn joined(&self) -> Result<String, AllocError> {
+        if self.pre.is_empty() && self.build.is_empty() {
+            return Ok(String::new());
+        }
+        let mut parts =
+            String::fallible_with_capacity(self.pre.len().saturating_add(self.build.len()))?;
+        parts.fallible_push_str(self.pre())?;
+        parts.fallible_push_str(self.build())?;
+        Ok(parts)
+    }
+}
+
+impl fmt::Display for Version {
+    /// Writes what `Display` of [`VersionRef`] writes. It does not allocate, and its only error is the
+    /// writer's.
+    fn fmt(&self, f: &mut fmt::Formatter<'_>) -> fmt::Result {
+        let version = self.as_version_ref();
+        write!(f, "{version}")
+    }
+}
