@@ -1,11 +1,11 @@
 """The errors for invalid versions and invalid ranges."""
 
-from typing import Literal, NamedTuple, Optional, cast
+from typing import Literal, NamedTuple, Optional, Tuple, cast
 
 from ._interface import INVALID_RANGE, INVALID_VERSION, OK, CError, CVersion
 from ._library import LIBRARY, check
 from ._options import AnyDialect, Dialect, dialect_of
-from ._strings import String, c_string, index_of
+from ._strings import String, c_string, index_of, printed_or_none
 
 Reason = Literal[
     "empty",
@@ -42,6 +42,7 @@ class _Explanation(NamedTuple):
 
     status: int
     offset: int
+    span: Tuple[int, int]
     reason: Reason
     sentence: str
 
@@ -56,11 +57,14 @@ class SemverError(ValueError):
     - `offset`: the index in `string` of the first invalid character. If something is missing at
       the end, it is the length of `string`. If a number in a range is too large, it is the index
       where the number begins.
+    - `span`: the part of `string` to underline, as the index at which it begins and the one after
+      it.
     - `reason`: why it is invalid, as a word for programs.
     - `sentence`: why it is invalid, as an English sentence.
+    - `suggestion`: the valid string that may have been meant, or None if none is known.
 
-    The last three are computed when one of them is first used, so an error that is ignored costs
-    little.
+    All of these from `offset` on are computed only when they are used, so an error that is ignored
+    costs little.
     """
 
     _STATUS = OK
@@ -85,17 +89,26 @@ class SemverError(ValueError):
             self._found = self._find()
         return self._found
 
-    def _find(self) -> Optional[_Explanation]:
-        """Has the library read the string."""
+    def _read(self) -> Optional[CError]:
+        """Has the library read the string. Returns the error; None if the string is valid."""
         error = CError()
         status = self._explain(error)
         if status == OK:
             return None
         if not error.reason:
             check(status)
+        return error
+
+    def _find(self) -> Optional[_Explanation]:
+        """Returns what the library reports for the string; None if it is valid."""
+        error = self._read()
+        if error is None:
+            return None
+        span = LIBRARY.semver_parser_error_span(error, c_string(self.string))
         return _Explanation(
-            status,
+            error.status,
             index_of(self.string, error.offset),
+            (index_of(self.string, span.start), index_of(self.string, span.end)),
             cast(Reason, LIBRARY.semver_parser_reason_name(error.reason).decode("ascii")),
             LIBRARY.semver_parser_reason_text(error.reason).decode("utf-8"),
         )
@@ -104,13 +117,33 @@ class SemverError(ValueError):
         """Returns the explanation. Raises `ValueError` if the error was made for a valid string."""
         explanation = self._explanation()
         if explanation is None:
-            raise ValueError(f"the string is valid: {self.string!r}")
+            raise self._valid()
         return explanation
+
+    def _valid(self) -> ValueError:
+        """Returns the error for an error that was made for a valid string."""
+        return ValueError(f"the string is valid: {self.string!r}")
 
     @property
     def offset(self) -> int:
         """Where the string is invalid."""
         return self._explained().offset
+
+    @property
+    def span(self) -> Tuple[int, int]:
+        """The part of the string to underline, as two indices of `string`: the one at which it
+        begins, and the one after it.
+
+        It has the characters of the same kind around `offset`, such as a whole number or a whole
+        operator. For a leading zero it is the number that begins with it. It is empty only at the
+        end of the string, if something is missing there.
+
+        >>> error = VersionError("1.2.03", "cargo")
+        >>> start, end = error.span
+        >>> error.string[start:end]
+        '03'
+        """
+        return self._explained().span
 
     @property
     def reason(self) -> Reason:
@@ -121,6 +154,28 @@ class SemverError(ValueError):
     def sentence(self) -> str:
         """Why it is invalid, as an English sentence."""
         return self._explained().sentence
+
+    @property
+    def suggestion(self) -> Optional[str]:
+        """A string that is valid in the dialect, and that may have been meant, or None if none is
+        known. It differs from `string` only in the spans of errors. It is a `str` also if `string`
+        is `bytes`, and None if these aren't UTF-8.
+
+        >>> RangeError("=>1.02", "cargo").suggestion
+        '>=1.2'
+        >>> RangeError(">=1.2, <2", "npm").suggestion
+        '>=1.2 <2'
+        >>> RangeError("latest", "npm").suggestion is None
+        True
+
+        It is computed each time that it is used.
+        """
+        error = self._read()
+        if error is None:
+            raise self._valid()
+        return printed_or_none(
+            LIBRARY.semver_parser_suggestion, error, c_string(self.string), self.dialect._number
+        )
 
     def __str__(self) -> str:
         explained = self._explanation()

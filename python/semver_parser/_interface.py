@@ -42,6 +42,12 @@ class CError(ctypes.Structure):
     ]
 
 
+class CSpan(ctypes.Structure):
+    """A part of a string: the offset at which it begins, and the one after it."""
+
+    _fields_ = [("start", ctypes.c_size_t), ("end", ctypes.c_size_t)]
+
+
 class CVersion(ctypes.Structure):
     """A version, whose `pre` and `build` are in the string that was parsed."""
 
@@ -116,10 +122,12 @@ def _status_functions() -> Dict[str, List[Any]]:
         "range_is_disjoint": [address, address, to(flag), error],
         "range_lowest_version": [address, printed],
         "range_to_string": [address, flag, printed],
+        "range_to_requirement": [address, printed],
         "comparators_of_range": [one, number, flag, made, error],
         "comparators_to_string": [address, printed],
         "replace_version": [one, to(CPartialVersion), one, number, printed, error],
         "terms_of_range": [one, number, to(CTerm), size, to(size), error],
+        "suggestion": [error, one, number, printed],
     }
 
 
@@ -127,6 +135,7 @@ def _other_functions() -> Dict[str, Tuple[List[Any], Any]]:
     """The other functions: what they take and return."""
     number, address, zero_terminated = ctypes.c_int32, ctypes.c_void_p, ctypes.c_char_p
     return {
+        "error_span": ([ctypes.POINTER(CError), CString], CSpan),
         "status_text": ([number], zero_terminated),
         "reason_name": ([number], zero_terminated),
         "reason_text": ([number], zero_terminated),

@@ -10,7 +10,7 @@ from ._interface import INVALID_VERSION, OK, CError
 from ._library import LIBRARY, check
 from ._options import AnyDialect, AnyPreReleases, Dialect, PreReleases, dialect_of, pre_releases_of
 from ._origins import Combination, Origin, Step, steps_to
-from ._strings import Printed, String, c_string, c_strings, printed
+from ._strings import Printed, String, c_string, c_strings, printed, printed_or_none
 from ._terms import Term, terms_of
 from ._versions import AnyVersion, Version, fields_of_printed, string_of
 
@@ -297,6 +297,20 @@ class Range(Printed):
         '>=1.2.3-rc <1.2.3'
         """
         return printed(LIBRARY.semver_parser_range_to_string, self._handle, True)
+
+    def to_requirement(self) -> Optional[str]:
+        """Returns the range as it can be written into a Cargo.toml or a package.json: a string that
+        reads back, with the options of the range, as a range of the same versions. It is None if no
+        such string was found. Cargo's syntax has no `||`, for example, so it can't say a range with
+        a gap.
+
+        >>> old, new = Range("^1.2.3-rc.1", dialect="cargo"), Range("<1.9", dialect="cargo")
+        >>> old.to_requirement(), (old & new).to_requirement()
+        ('>=1.2.3-rc.1, <2.0.0', '>=1.2.3, <1.9.0')
+        >>> (old - new).to_requirement() is None  # it has 1.2.3-rc.1, and versions from 1.9.0 on
+        True
+        """
+        return printed_or_none(LIBRARY.semver_parser_range_to_requirement, self._handle)
 
     def __str__(self) -> str:
         """Returns the string that the range was made of. For a combined range, it returns the

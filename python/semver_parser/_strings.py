@@ -2,7 +2,7 @@
 
 import ctypes
 from itertools import accumulate
-from typing import Any, Callable, List, Union
+from typing import Any, Callable, List, Optional, Union
 
 from ._interface import CString
 from ._library import LIBRARY, check
@@ -35,11 +35,16 @@ def c_strings(strings: List[String]) -> "ctypes.Array[CString]":
     return array
 
 
+_CONTINUATIONS = bytes(range(0x80, 0xC0))
+"""The bytes of UTF-8 that don't begin a character."""
+
+
 def index_of(string: String, offset: int) -> int:
-    """Returns the index of the character of a string that is at a byte offset."""
+    """Returns the index of the character of a string that is at a byte offset. If the offset is
+    within a character, it is the index of the next one."""
     if isinstance(string, bytes):
         return offset
-    return len(encoded(string)[:offset].decode("utf-8", "surrogatepass"))
+    return len(encoded(string)[:offset].translate(None, _CONTINUATIONS))
 
 
 def indices_in(string: String) -> Callable[[int], int]:
@@ -53,10 +58,15 @@ def indices_in(string: String) -> Callable[[int], int]:
 
 def printed(function: Callable[..., int], *arguments: Any) -> str:
     """Returns the string that a function of the library makes; an empty string if it makes none."""
+    return printed_or_none(function, *arguments) or ""
+
+
+def printed_or_none(function: Callable[..., int], *arguments: Any) -> Optional[str]:
+    """Returns the string that a function of the library makes; None if it makes none."""
     string = ctypes.c_char_p()
     check(function(*arguments, string))
     try:
-        return (string.value or b"").decode("ascii")
+        return None if string.value is None else string.value.decode("utf-8")
     finally:
         LIBRARY.semver_parser_free(string)
 

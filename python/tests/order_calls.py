@@ -46,6 +46,7 @@ RANGES: List[str] = [
     *["1.2.3 - 1.10", "1 || 2", "2 || 1", "<2.0.0-beta || >=3", "=1.2.3-rc.1", ">1.2.3-rc.1"],
     *[">1.2", ">=0", "<0.0.0-0", ">2 <1", "^0.0.3 || ^0.1", "1.2.3", "=1.2.3", "v1.2.3", "1.2.3.4"],
     *[">>1", "^", "||", "1,", "latest", "ä", "^1.2.3-ä", "€", "\ud800", "^1\ud800", "1.2.3\0"],
+    *["=>1.02", "^^1", "^^2"],
     *[">9007199254740991", ">18446744073709551615", "=18446744073709551616", "ü" * 400],
 ]
 
@@ -201,7 +202,8 @@ TEMPLATES: List[str] = [
     *("{Range}." + it for it in ("dialect", "pre_releases", "string", "lowest_version")),
     *["{Range}.comparators"] * 3,
     *("{Range}.terms", "pickle.loads(pickle.dumps({Range}.terms))"),
-    *("{Range}." + it for it in ("printed_releases", "printed_pre_releases")),
+    *("{Range}." + it for it in ("printed_releases", "printed_pre_releases", "to_requirement()")),
+    "({Range} - {Range}).to_requirement()",
     *(f"{{Range}} {operator} {{Range}}" for operator in ("|", "&", "-", "<", "<=", ">", ">=")),
     *("{Range} == {Range}", "{Range} != {Range}", "{Range} | {version}", "{Range} < {version}"),
     *("{Range}.isdisjoint({Range})", "{Range}.isdisjoint({version})", "bool({Range})"),
@@ -212,6 +214,7 @@ TEMPLATES: List[str] = [
     *("{Comparison}." + it for it in ("lost", "gained", "shared")),
     *("{Comparison}." + it for it in ("overlaps", "is_subset", "is_equal")),
     *("{Error}." + it for it in ("string", "dialect", "index", "offset", "reason", "sentence")),
+    *["{Error}.span", "{Error}.suggestion"],
     *("str({Error})", "pickle.loads(pickle.dumps({Error}))", "isinstance({Error}, SemverError)"),
     "str(Comparators({Range}.comparators))",
 ]

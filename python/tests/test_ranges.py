@@ -188,6 +188,29 @@ class Printing(unittest.TestCase):
             printed = (made.printed_releases, made.printed_pre_releases)
             self.assertEqual(printed, (releases, pre_releases))
 
+    def test_requirements(self) -> None:
+        """A requirement reads back, with the options of the range, as an equal range."""
+        options = [(dialect, rule) for dialect in Dialect for rule in PreReleases]
+        for dialect, rule in options:
+            for string in ("*", "^1.2.3-rc.1", "=1.2.3", ">2, <1", ">2 <1", "1 || 3", ">=0.0.0-0"):
+                try:
+                    range = Range(string, dialect=dialect, pre_releases=rule)
+                except RangeError:
+                    continue
+                for it in (range, range - Range("~1.5", dialect=dialect, pre_releases=rule)):
+                    requirement = it.to_requirement()
+                    if requirement is not None:
+                        again = Range(requirement, dialect=dialect, pre_releases=rule)
+                        self.assertEqual(again, it, requirement)
+        # npm has a syntax for a range with a gap, and Cargo has none.
+        for dialect, has_one in ((NPM, True), (Dialect.CARGO, False)):
+            parts = Range("^1.2", dialect=dialect) - Range("~1.5", dialect=dialect)
+            self.assertEqual(parts.to_requirement() is not None, has_one)
+        old = Range("^1.2.3-rc.1", dialect="cargo")
+        both = old & Range("<1.9", dialect="cargo")
+        self.assertEqual(both.to_requirement(), ">=1.2.3, <1.9.0")
+        self.assertEqual(pickle.loads(pickle.dumps(both)).to_requirement(), ">=1.2.3, <1.9.0")
+
     def test_string(self) -> None:
         for string in ("^1.2", " 1.x  ||2 ", "=1.2.3-a"):
             for made in (Range(string, dialect="npm"), Range(string.encode(), dialect="npm")):

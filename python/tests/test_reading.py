@@ -431,17 +431,80 @@ class Errors(unittest.TestCase):
         self.assertEqual((again.index, again.offset, again.sentence), (1, 2, caught.exception.sentence))
 
     def test_not_utf8(self) -> None:
+        """The span is one byte of `bytes`, and one character of a `str`."""
         for text, offset in (
             (b"1.2.3\xff", 5),
             (b"\x80", 0),
+            (b"1.2.3\xe2\x82", 5),
             ("1.2.3\ud800", 5),
+            ("1.2.3\ud800.\ud800", 5),
             ("\udcff", 0),
             ("\ud83d\ude00", 0),
             ("\u00a01\ud800", 2),
         ):
             self.refuses_version(text)
             self.refuses_range(text, "not-utf8")
-            self.assertEqual(RangeError(text, "npm").offset, offset)
+            error = RangeError(text, "npm")
+            self.assertEqual((error.offset, error.span), (offset, (offset, offset + 1)))
+            self.assertIsNone(error.suggestion)
+
+    def test_spans(self) -> None:
+        """A span has the characters of the same kind around the offset, and for a leading zero it
+        is the number that begins with it. The comments in the header say so."""
+        versions: List[Tuple[String, str, Tuple[int, int]]] = [
+            ("1.2.03", "cargo", (4, 6)),
+            ("1.2.3-rc.007", "npm", (9, 12)),
+            ("1.2", "cargo", (3, 3)),
+            ("", "npm", (0, 0)),
+            ("latest", "npm", (0, 6)),
+            ("v1.2.3", "cargo", (0, 1)),
+            ("1.2.x", "npm", (4, 5)),
+            ("\u00a0\u00a001.2.3", "npm", (2, 4)),
+            ("\u00a0\u00a001.2.3".encode(), "npm", (4, 6)),
+            ("1.2.3-\u00e4\u00e4b", "npm", (6, 8)),
+            ("1.2.3-\u00e4\u00e4b".encode(), "npm", (6, 10)),
+            ("\U0001f600", "cargo", (0, 1)),
+        ]
+        for text, dialect, span in versions:
+            with self.subTest(text=text):
+                self.assertEqual(VersionError(text, dialect).span, span)
+        ranges: List[Tuple[String, str, Tuple[int, int]]] = [
+            ("1 || 2", "cargo", (2, 4)),
+            ("=>1.2", "npm", (0, 2)),
+            (">=1.2, <2", "npm", (5, 6)),
+            (">=9007199254740992", "npm", (2, 18)),
+            ("^", "npm", (1, 1)),
+            ("\u3000>\u3000v\u2070", "npm", (4, 5)),
+            ("\u3000>\u3000v\u2070".encode(), "npm", (8, 11)),
+        ]
+        for text, dialect, span in ranges:
+            with self.subTest(text=text):
+                self.assertEqual(RangeError(text, dialect).span, span)
+
+    def test_suggestions(self) -> None:
+        """A suggestion repairs slips, and is a `str` whether the string is `str` or `bytes`."""
+        for string, dialect, wanted in (
+            ("=>1.2", "npm", ">=1.2"),
+            ("=>1.02", "cargo", ">=1.2"),
+            (">=1.2, <2", "npm", ">=1.2 <2"),
+            ("v1", "cargo", "1"),
+            ("\u00a0=>1.2", "npm", "\u00a0>=1.2"),
+            ("latest", "npm", None),
+            ("", "cargo", None),
+            ("1 || 2", "cargo", None),
+        ):
+            for text in (string, string.encode()):
+                with self.subTest(text=text):
+                    self.assertEqual(RangeError(text, dialect).suggestion, wanted)
+        for string, dialect, wanted in (
+            ("v1.2", "cargo", "1.2.0"),
+            ("1.2.03", "npm", "1.2.3"),
+            ("=1.2.3", "cargo", "1.2.3"),
+            ("latest", "npm", None),
+        ):
+            error = VersionError(string, dialect)
+            for _ in range(2):
+                self.assertEqual(error.suggestion, wanted)
 
     def test_messages(self) -> None:
         for error, message in (
@@ -487,7 +550,7 @@ class Errors(unittest.TestCase):
                 )
                 self.assertEqual((again.offset, str(again)), (error.offset, str(error)))
         for fine in (VersionError("1.2.3", "npm"), RangeError("1", "npm", 0)):
-            for name in ("offset", "reason", "sentence"):
+            for name in ("offset", "span", "reason", "sentence", "suggestion"):
                 with self.assertRaisesRegex(ValueError, "^the string is valid: '1"):
                     getattr(fine, name)
 
@@ -531,7 +594,7 @@ class Errors(unittest.TestCase):
                 compare_ranges("1", "1 2", dialect="cargo")
             self.assertEqual(asked, [])
             self.assertEqual((of_version.exception.offset, of_range.exception.offset), (0, 2))
-            of_reason = ["reason_name", "reason_text"]
+            of_reason = ["error_span", "reason_name", "reason_text"]
             self.assertEqual(asked, ["parse_version", *of_reason, "check_range", *of_reason])
 
     def test_out_of_memory(self) -> None:
