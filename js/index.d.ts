@@ -115,6 +115,11 @@ export declare class Range<D extends Dialect = 'npm'> {
   readonly range: string
   format(): string
   toString(): string
+  /**
+   * Returns a string that reads back, with the options of the range, as a range of the same versions, in the syntax of
+   * its dialect: what can be written into a package.json or a Cargo.toml. It is null if no such string was found.
+   */
+  toRequirement(): string | null
   toJSON(): object
   /** Returns the comparators of another range with the options of this one. If the range has several parts, they are those of the first. */
   parseRange(range: string): readonly Comparator<D>[]
@@ -135,16 +140,29 @@ export type Reason =
   | 'cargo-v' | 'cargo-hyphen' | 'npm-comma' | 'crate-comma' | 'crate-v' | 'npm-too-large'
   | 'too-many-comparators' | 'bound-too-large' | 'npm-bound-too-large'
 
-/** Where and why a string is invalid. */
+/** A part of a string: the index at which it begins, and the one after it. */
+export interface Span {
+  readonly start: number
+  readonly end: number
+}
+
+/** Where and why a string is invalid, and what may have been meant. */
 export interface Explanation {
   /**
    * An index of the string. It is the index of the first character that isn't allowed there, or the string's length if
    * something is missing at its end. If a number of a range is too large, it is the index of that number.
    */
   readonly offset: number
+  /**
+   * The part of the string to underline: the characters of the same kind around the offset, such as a whole number or a
+   * whole operator. For a leading zero it is the number that begins with it. It is empty only at the end of the string.
+   */
+  readonly span: Span
   readonly reason: Reason
   /** The reason as a sentence. */
   readonly sentence: string
+  /** The valid string that may have been meant, or null if none is known. It differs from the string only in the spans of errors. */
+  readonly suggestion: string | null
 }
 
 /** A version or a range is invalid. */
@@ -158,8 +176,10 @@ export declare class SemverError extends TypeError implements Explanation {
   /** The invalid string. */
   readonly input: string
   readonly offset: number
+  readonly span: Span
   readonly reason: Reason
   readonly sentence: string
+  readonly suggestion: string | null
 }
 
 /** The versions that are in a range and not in another. The comparators are npm's in each dialect. */

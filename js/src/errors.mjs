@@ -1,5 +1,5 @@
 // Where and why a string is an invalid version or range.
-import { callWith, numberAt } from './calls.mjs'
+import { OUT_OF_MEMORY, callWith, numberAt, stringBack } from './calls.mjs'
 import { reasonOf, sentenceOf } from './names.mjs'
 import { field } from './options.mjs'
 
@@ -17,13 +17,25 @@ export function indicesIn(string) {
   return (offset) => indices[Number(offset)]
 }
 
-/** Where and why a string is refused, by a call; null if it isn't. */
-export function explained(call, string, { dialect }) {
-  const number = callWith(call, string, dialect)
+/** The string that a call handed back, by what it returned; null if there is none. */
+export function stringOrNull(returned) {
+  if (returned === OUT_OF_MEMORY) throw new RangeError('out of memory')
+  return returned === 0 ? stringBack() : null
+}
+
+/** Where and why a version or a range is invalid, and what may be meant; null if it is valid. */
+export function explained(kind, string, { dialect }) {
+  const number = callWith(`${kind}_refused`, string, dialect)
   if (number === 0) return null
   if (number < 0) throw new RangeError('out of memory')
-  const offset = indicesIn(string)(numberAt(0))
-  return { offset, reason: reasonOf(number), sentence: sentenceOf(number) }
+  const [offset, start, end] = [0, 1, 2].map(numberAt).map(indicesIn(string))
+  return {
+    offset,
+    span: Object.freeze({ start, end }),
+    reason: reasonOf(number),
+    sentence: sentenceOf(number),
+    suggestion: stringOrNull(callWith(`${kind}_suggested`, string, dialect)),
+  }
 }
 
 const BEGINS = { version: 'Invalid Version', range: 'Invalid SemVer Range' }
@@ -47,11 +59,11 @@ export class SemverError extends TypeError {
 
 /** Why a string wasn't read as a version. */
 export const invalidVersion = (string, meaning, argument = 0) =>
-  new SemverError('version', argument, string, explained('version_refused', string, meaning))
+  new SemverError('version', argument, string, explained('version', string, meaning))
 
 /** Why a string wasn't read as a range: it is invalid, or memory ran out. */
 export function invalidRange(string, meaning, argument = 0) {
-  const explanation = explained('range_refused', string, meaning)
+  const explanation = explained('range', string, meaning)
   if (explanation === null) return new RangeError('out of memory')
   return new SemverError('range', argument, string, explanation)
 }

@@ -1,6 +1,6 @@
 // Ranges that are read once.
 import { askRange, callWith, calls, stringBack } from './calls.mjs'
-import { invalidRange, noString } from './errors.mjs'
+import { invalidRange, noString, stringOrNull } from './errors.mjs'
 import {
   MEANING, checkDialect, identify, isSameMeaning, meaningFor,
 } from './options.mjs'
@@ -61,6 +61,11 @@ class ReadRange {
   /** The string that a call returns of it. */
   shown(call) {
     return shownOf(this.address, call)
+  }
+
+  /** A string that reads back as a range of the same versions; null if none was found. */
+  requirement() {
+    return stringOrNull(calls().range_requirement(this.address))
   }
 
   /** What is in this range and not in another, each kind as comparators; null if nothing is. */
@@ -126,6 +131,7 @@ export class Range {
 
   format() { return this.range }
   toString() { return this.range }
+  toRequirement() { return this.#read.requirement() }
 
   toJSON() {
     const { options, loose, includePrerelease, raw, set, range } = this

@@ -45,7 +45,7 @@ export function toComparators(range, options) {
 
 export function explainRange(range, options) {
   const meaning = meaningFor(options, [range])
-  return explained('range_refused', rangeStringOf(range), meaning)
+  return explained('range', rangeStringOf(range), meaning)
 }
 
 // The versions of a list that are any, with their strings, and what the options say of them.

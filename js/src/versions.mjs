@@ -195,7 +195,7 @@ export const patch = (version, options) => partOfVersion(version, options, 2)
 
 export function explainVersion(version, options) {
   const meaning = meaningFor(options, [version])
-  return explained('version_refused', stringOf(version), meaning)
+  return explained('version', stringOf(version), meaning)
 }
 
 // ---- precedence

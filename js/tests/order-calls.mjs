@@ -52,7 +52,7 @@ const LONG_VERSIONS = [
 const RANGES = [
   '', ' ', '*', 'x', '1', '2', '^1.2', '^1.3', '~1.2.3', '1.x', '>=1.2.3 <2', '>=1.2.3, <2',
   '1.2.3 - 1.10', '1 || 2', '2 || 1', '<2.0.0-beta || >=3', '=1.2.3-rc.1', '>1.2.3-rc.1', '>1.2',
-  '>=0', '<0.0.0-0', '>2 <1', '^0.0.3 || ^0.1', '1.2.3', '=1.2.3', 'v1.2.3', '1.2.3.4', '>>1', '^',
+  '>=0', '<0.0.0-0', '>2 <1', '^0.0.3 || ^0.1', '1.2.3', '=1.2.3', 'v1.2.3', '1.2.3.4', '>>1', '^', '=>1.02',
   '||', '1,', 'latest', 'ä', '^1.2.3-ä', '€', '\ud800', '^1\ud800', '1.2.3\0', '\u00a01.2.3\ufeff',
   '  >=1.2.3 \t <2 ', '>9007199254740991', '>18446744073709551615', '=18446744073709551616',
 ]
@@ -273,7 +273,7 @@ export const CALLS = {
 const FIELDS = {
   SemVer: 'options loose includePrerelease raw major minor patch prerelease build version format ' +
     'toString toJSON',
-  Range: 'options loose includePrerelease raw set range format toString toJSON',
+  Range: 'options loose includePrerelease raw set range format toString toRequirement toJSON',
   Comparator: 'options loose operator semver value toString toJSON',
 }
 for (const [name, fields] of Object.entries(FIELDS)) {

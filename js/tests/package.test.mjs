@@ -108,20 +108,62 @@ test('wrong options are rejected', () => {
 })
 
 test('where and why a string is invalid', () => {
-  assert.deepEqual(semver.explainVersion('1.2.03', cargo),
-    { offset: 5, reason: 'leading-zero', sentence: 'numbers and identifiers of digits may not have a leading zero' })
+  assert.deepEqual(semver.explainVersion('1.2.03', cargo), {
+    offset: 5, span: { start: 4, end: 6 }, reason: 'leading-zero', sentence: 'numbers and identifiers of digits may not have a leading zero', suggestion: '1.2.3',
+  })
   assert.deepEqual(semver.explainRange('1.2 || 3', cargo),
-    { offset: 4, reason: 'cargo-bars', sentence: "Cargo doesn't accept ||; npm does" })
+    { offset: 4, span: { start: 4, end: 6 }, reason: 'cargo-bars', sentence: "Cargo doesn't accept ||; npm does", suggestion: null })
   assert.equal(semver.explainVersion('1.2.3'), null)
   assert.equal(semver.explainRange('1 || 2'), null)
   assert.equal(semver.explainRange('1 |').offset, 3)
   // The offset counts UTF-16 units, as JavaScript does; a no-break space has two bytes.
   assert.equal(semver.explainVersion('\u00a0\u00a01.2.x').offset, 6)
   assert.deepEqual(semver.explainRange('1 || >=9007199254740992'),
-    { offset: 7, reason: 'npm-too-large', sentence: "npm's numbers are at most 2^53 - 1" })
-  assert.deepEqual(semver.explainRange('>1.9007199254740991'),
-    { offset: 3, reason: 'npm-bound-too-large', sentence: "the bound above this number is above npm's limit of 2^53 - 1" })
+    { offset: 7, span: { start: 7, end: 23 }, reason: 'npm-too-large', sentence: "npm's numbers are at most 2^53 - 1", suggestion: null })
+  assert.deepEqual(semver.explainRange('>1.9007199254740991'), {
+    offset: 3, span: { start: 3, end: 19 }, reason: 'npm-bound-too-large', sentence: "the bound above this number is above npm's limit of 2^53 - 1", suggestion: null,
+  })
   assert.throws(() => semver.explainRange(5), /Invalid range\. Must be a string\. Got type "number"/)
+})
+
+// A span has the characters of the same kind around the offset, and for a leading zero it is the
+// number that begins with it. The comments in the header of the C API say so.
+test('the span of an error', () => {
+  const versions = [
+    ['1.2.3-rc.007', {}, 9, 12], ['1.2', cargo, 3, 3], ['', {}, 0, 0], ['latest', {}, 0, 6], ['v1.2.3', cargo, 0, 1],
+    // Indices count UTF-16 units, of which the last character has two.
+    ['\u00a0\u00a01.2.x', {}, 6, 7], ['\u00a0001.2.3', {}, 1, 4], ['1.2.3-ääb', {}, 6, 8], ['1.2.3-\u{1f600}\u{1f600}a', {}, 6, 10], ['\ud800', {}, 0, 1],
+  ]
+  for (const [string, options, start, end] of versions) assert.deepEqual(semver.explainVersion(string, options).span, { start, end }, string)
+  const ranges = [
+    ['=>1.2', {}, 0, 2], ['1 || 2', cargo, 2, 4], ['>=1.2, <2', {}, 5, 6], ['^', {}, 1, 1], ['\u3000>\u3000v\u2070', {}, 4, 5],
+  ]
+  for (const [string, options, start, end] of ranges) assert.deepEqual(semver.explainRange(string, options).span, { start, end }, string)
+})
+
+test('what may have been meant', () => {
+  const versions = [['v1.2', cargo, '1.2.0'], ['1.2.03', {}, '1.2.3'], ['=1.2.3', cargo, '1.2.3'], ['latest', {}, null]]
+  for (const [string, options, right] of versions) assert.equal(semver.explainVersion(string, options).suggestion, right, string)
+  const ranges = [
+    ['=>1.2', {}, '>=1.2'], ['=>1.02', cargo, '>=1.2'], ['>=1.2, <2', {}, '>=1.2 <2'], ['v1', cargo, '1'], ['\u00a0=>1.2', {}, '\u00a0>=1.2'],
+    ['\ufeff=>1', {}, '\ufeff>=1'], ['latest', {}, null], ['', cargo, null], ['1 || 2', cargo, null], ['=>1\ud800', {}, null],
+  ]
+  for (const [string, options, right] of ranges) assert.equal(semver.explainRange(string, options).suggestion, right, string)
+})
+
+test('a requirement reads back as a range of the same versions', () => {
+  for (const dialect of ['npm', 'cargo', 'crate-npm', 'crate-cargo']) {
+    for (const preReleases of ['by-dialect', 'included', 'excluded']) {
+      const options = { dialect, preReleases }
+      for (const string of ['*', '^1.2.3-rc.1', '=1.2.3', '>2, <1', '>2 <1', '1 || 3', '>=0.0.0-0']) {
+        if (semver.validRange(string, options) === null) continue
+        const requirement = new semver.Range(string, options).toRequirement()
+        if (requirement !== null) assert.deepEqual(semver.compareRanges(string, requirement, options), { lost: null, gained: null }, string)
+      }
+    }
+  }
+  assert.equal(new semver.Range('^1.2.3-rc.1', cargo).toRequirement(), '>=1.2.3-rc.1, <2.0.0')
+  assert.match(new semver.Range('1 || 3').toRequirement(), / \|\| /)
 })
 
 test('errors have a class and all that is known', () => {
@@ -129,6 +171,7 @@ test('errors have a class and all that is known', () => {
     assert.ok(error instanceof semver.SemverError && error instanceof TypeError)
     assert.match(error.message, /^Invalid Version: 1\.2 \(offset 3: /)
     assert.throws(() => { error.offset = 5 }, TypeError)
+    assert.throws(() => { error.span.start = 5 }, TypeError)
     assert.deepEqual(JSON.parse(JSON.stringify(error)), { kind: 'version', argument: 1, input: '1.2', ...semver.explainVersion('1.2') })
     return error.offset === 3 && error.name === 'SemverError' && String(error) === error.stack.split('\n')[0]
   })
@@ -503,8 +546,8 @@ test('the file for browsers has no bytes, but takes them', async () => {
 test('the example of the README', () => {
   const readme = readFileSync(new URL('node_modules/semver-parser-proved/README.md', import.meta.url), 'utf8')
   const [, example] = /```js\n([^]*?)```/.exec(readme)
-  const lines = [...example.matchAll(/^((?:new )?\w+\(.*\))\s+\/\/ (.*?)(?: \(.*\))?$/gm)]
-  assert.ok(lines.length >= 7, `${lines.length} lines`)
+  const lines = [...example.matchAll(/^((?:new )?\w+\(.*\)[.\w]*)\s+\/\/ (.*?)(?: \(.*\))?$/gm)]
+  assert.equal(lines.length, 11)
   for (const [, call, right] of lines) {
     const { default: all } = semver
     const found = Function(...Object.keys(all), `return ${call}`)(...Object.values(all))

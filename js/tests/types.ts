@@ -16,6 +16,9 @@ const sorted: string[] = semver.sort(['1.2.3'])
 const kept: (string | semver.SemVer)[] = semver.filter(['1.2.3', ...(version ? [version] : [])], '1')
 const valid: (string | null)[] = ['1.2.3'].map(semver.valid)
 const why: semver.Explanation | null = semver.explainVersion('1.2')
+const part: semver.Span | undefined = why?.span
+const meant: string | null | undefined = why?.suggestion
+const requirement: string | null = new semver.Range('^1').toRequirement()
 const lost: string | null | undefined = semver.compareRanges('^1', '^1.2').lost?.releases
 const values: string[] = new semver.Range('^1').set.flatMap((it) => it.map(({ value }) => value))
 const written: semver.Term[] = semver.terms('^1.2 || 1 - 2', { loose: false })
@@ -23,7 +26,7 @@ const second: number | 'x' | 'X' | '*' | null | undefined = written[1].upper?.mi
 const where: [number, number, boolean] = [written[0].start, written[0].version.end, written[0].version.hasV]
 const incremented: string | null = semver.inc('1.2.3', 'prerelease', 'beta', false)
 const ready: Promise<void> = semver.ready()
-export { isMet, isMetToo, highest, parts, next, ofCargo, large, order, sorted, kept, valid, why, lost, values, written, second, where, incremented, ready }
+export { isMet, isMetToo, highest, parts, next, ofCargo, large, order, sorted, kept, valid, why, part, meant, requirement, lost, values, written, second, where, incremented, ready }
 
 // @ts-expect-error: no dialect has this name
 semver.valid('1.2.3', { dialect: 'yarn' })
@@ -53,7 +56,7 @@ const either = (dialect: semver.Dialect, options: semver.Options, any: semver.An
 ]
 const reason: semver.Reason | undefined = why?.reason
 const lowest: string | undefined = semver.compareRanges('^1', '^1.2').lost?.lowest
-const place = (error: semver.SemverError): [string, number] => [error.kind, error.argument]
+const place = (error: semver.SemverError): [string, number, number] => [error.kind, error.argument, error.span.end]
 class Named extends semver.Range { readonly label: string = 'a' }
 const satisfiedByAny: boolean = semver.satisfies(new semver.SemVer('1.2.3', C), new Named('^1'), C)
 export { sum, ofBound, ofAlone, kept64, readAgain, lowestOfNpm, either, reason, lowest, place, satisfiedByAny }
@@ -85,5 +88,7 @@ bound === semver.Comparator.ANY ? 0 : bound.major + 1
 semver.major('1.2.3', { dialect: 'npm' as semver.Dialect }) + 1
 // @ts-expect-error: no reason has this name
 const wrongReason: semver.Reason = 'broken'
+// @ts-expect-error: there may be no suggestion
+const repaired: string = semver.explainVersion('1.2')!.suggestion
 // @ts-expect-error: there may be no pre-releases
 const unchecked: string = semver.compareRanges('^1', '^1.2').lost!.preReleases

@@ -3,7 +3,7 @@
 //!
 //! A string is the address and the length of its bytes, which JavaScript wrote at the address that
 //! [`reserve`] returns. Further outputs of a function are in [`numbers`]: the address and the
-//! length of a string, the parts of a version, or the offset in an invalid string.
+//! length of a string, the parts of a version, or the offset and the span in an invalid string.
 #![no_std]
 #![warn(missing_docs)]
 
@@ -16,6 +16,7 @@ mod proved;
 mod rattle_std;
 
 mod allocator;
+mod errors;
 mod names;
 mod ranges;
 #[path = "../../capi/src/shared.rs"]

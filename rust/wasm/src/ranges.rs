@@ -2,8 +2,8 @@
 
 use crate::proved::tool_ranges::npm::rewrite_included;
 use crate::shared::{self, rewrite, Combination, Dialect, Extreme, PreReleases, RangeError, Reason};
-use crate::shared::{Rules, SatisfiesError, VersionRange as Range};
-use crate::versions::refused;
+use crate::errors::{refused, show_if_any, suggest};
+use crate::shared::{requirement, Expected, Rules, SatisfiesError, VersionRange as Range};
 use crate::{bytes, state, status};
 use alloc::alloc::{alloc, Layout};
 use alloc::boxed::Box;
@@ -51,7 +51,8 @@ pub unsafe extern "C" fn range_satisfied(
 }
 
 /// Returns the number of the reason why a string isn't a range, 0 if it is one, or the status for
-/// out of memory. The first output number is the byte offset.
+/// out of memory. The output numbers are the byte offset, and those at which the span begins and
+/// ends.
 ///
 /// # Safety
 /// There are `len` bytes at the address.
@@ -62,10 +63,20 @@ pub unsafe extern "C" fn range_refused(at: *const u8, len: usize, dialect: i32) 
         return Reason::NotUtf8.number();
     };
     match shared::explain_range(dialect, range) {
-        Ok(Some(refusal)) => refused(refusal.offset, refusal.reason),
+        Ok(Some(refusal)) => refused(range.as_bytes(), refusal.offset, refusal.reason),
         Ok(None) => 0,
         Err(_) => status::OUT_OF_MEMORY,
     }
+}
+
+/// Outputs the valid range that may have been meant by a string. Returns 0, or 1 if none is known,
+/// or the status for out of memory.
+///
+/// # Safety
+/// There are `len` bytes at the address.
+#[no_mangle]
+pub unsafe extern "C" fn range_suggested(at: *const u8, len: usize, dialect: i32) -> i32 {
+    suggest(Expected::Range, unsafe { bytes(at, len) }, dialect)
 }
 
 /// A string that grows as it is written to, or returns an error if out of memory.
@@ -232,6 +243,13 @@ pub extern "C" fn range_lowest(range: &Range) -> i32 {
         Ok(None) => show(""),
         Err(_) => status::OUT_OF_MEMORY,
     }
+}
+
+/// Outputs a string that reads back as a range of the same versions, in the syntax of its dialect.
+/// Returns 0, or 1 if none was found, or the status for out of memory.
+#[no_mangle]
+pub extern "C" fn range_requirement(range: &Range) -> i32 {
+    requirement(range).map_or(status::OUT_OF_MEMORY, show_if_any)
 }
 
 /// Outputs the releases of a range as comparators. Returns 0, or the status for out of memory.

@@ -1,6 +1,7 @@
 //! Versions: reading one, why a string is invalid, and how two compare.
 
-use crate::shared::{explain_version, read_ref_in, Dialect, Reason, VersionRef};
+use crate::errors::{refused, suggest};
+use crate::shared::{explain_version, read_ref_in, Dialect, Expected, VersionRef};
 use crate::{bytes, state, status};
 
 /// Returns the borrowed version of a string in a dialect, or `None` if it is invalid, or if no
@@ -48,22 +49,28 @@ pub unsafe extern "C" fn version_compare(
 }
 
 /// Returns the number of the reason why a string is an invalid version, 0 if it is valid, or the
-/// status for out of memory. The first output number is the byte offset.
+/// status for out of memory. The output numbers are the byte offset, and those at which the span
+/// begins and ends.
 ///
 /// # Safety
 /// There are `len` bytes at the address.
 #[no_mangle]
 pub unsafe extern "C" fn version_refused(at: *const u8, len: usize, dialect: i32) -> i32 {
     let Some(dialect) = Dialect::from_number(dialect) else { return status::INVALID_VERSION };
-    match explain_version(unsafe { bytes(at, len) }, dialect) {
-        Ok(Some(refusal)) => refused(refusal.offset, refusal.reason),
+    let version = unsafe { bytes(at, len) };
+    match explain_version(version, dialect) {
+        Ok(Some(refusal)) => refused(version, refusal.offset, refusal.reason),
         Ok(None) => 0,
         Err(_) => status::OUT_OF_MEMORY,
     }
 }
 
-/// Outputs an offset. Returns the number of the reason.
-pub fn refused(offset: usize, reason: Reason) -> i32 {
-    state::with(|state| state.numbers[0] = offset as u64);
-    reason.number()
+/// Outputs the valid version that may have been meant by a string. Returns 0, or 1 if none is
+/// known, or the status for out of memory.
+///
+/// # Safety
+/// There are `len` bytes at the address.
+#[no_mangle]
+pub unsafe extern "C" fn version_suggested(at: *const u8, len: usize, dialect: i32) -> i32 {
+    suggest(Expected::Version, unsafe { bytes(at, len) }, dialect)
 }
