@@ -13,7 +13,7 @@ const [page, package_, profile, picture, draw] = process.argv.slice(2);
 
 // What the picture shows. No error in it names a dialect's own rule.
 const SHOWN = {
-    range: '1.2.3', other: '^1.2.4', versions: '1.2.3\n1.2.4\n1.3.0-rc.1\nv1.2.3\n1.2.03', preReleases: 'default', dialect: 'npm',
+    range: '1.2.3', other: '^1.2.4', versions: '1.2.3\n1.2.4\n1.3.0-rc.1\nv1.2.3\n1.2.03', preReleases: 'by-dialect', dialect: 'npm',
 };
 
 // Chromium with two pipes, one for requests and one for responses.
@@ -90,20 +90,20 @@ async function main() {
     ]);
     expect('the marked rows', await marked(), ['1.2.4', 'v1.2.3']);
     expect('the errors', await errors(), [
-        "Cargo: invalid version: Cargo doesn't accept a leading v; npm does\nv1.2.3\n^",
-        'Cargo: invalid version: numbers and identifiers of digits may not have a leading zero\n1.2.03\n     ^',
+        "Cargo: invalid version: Cargo doesn't accept a leading v; npm does\nv1.2.3\n^\nDid you mean 1.2.3?",
+        'Cargo: invalid version: numbers and identifiers of digits may not have a leading zero\n1.2.03\n    ^^\nDid you mean 1.2.3?',
     ]);
     expect('what the range contains', await ranges(), [
         'Cargo: >=1.2.3 <2.0.0', 'npm: =1.2.3', 'semver-parser 0.10, Cargo mode: >=1.2.3 <2.0.0', 'semver-parser 0.10, npm mode: =1.2.3',
     ]);
     await type('range', '1 || 2');
     expect('the heads', await heads(), ['version', 'Cargo: invalid', 'npm', 'semver-parser 0.10, Cargo mode', 'semver-parser 0.10, npm mode']);
-    expect('the first error', (await errors())[0], "Cargo: invalid range: Cargo doesn't accept ||; npm does\n1 || 2\n  ^");
+    expect('the first error', (await errors())[0], "Cargo: invalid range: Cargo doesn't accept ||; npm does\n1 || 2\n  ^^");
     expect('a row', (await rows())[1], '1.2.4 – yes yes yes');
     expect('the address', new URLSearchParams(new URL(await value('location.href')).hash.slice(1)).get('range'), '1 || 2');
     await type('range', '>=18446744073709551616');
     expect('a number too large', (await errors())[0],
-        'Cargo: invalid range: numbers are at most 2^64 - 1\n>=18446744073709551616\n  ^');
+        'Cargo: invalid range: numbers are at most 2^64 - 1\n>=18446744073709551616\n  ^^^^^^^^^^^^^^^^^^^^');
 
     await type('range', '^1.2');
     await type('other', '>=1.2.1');
@@ -113,13 +113,13 @@ async function main() {
     ]);
     await type('other', '>=1.2.1 <2');
     expect('another range that is rejected', (await ranges())[0], 'Cargo: >=1.2.0 <2.0.0: invalid: invalid');
-    expect('its error', (await errors())[0], 'Cargo: invalid range: Cargo separates comparators by commas\n>=1.2.1 <2\n        ^');
+    expect('its error', (await errors())[0], 'Cargo: invalid range: Cargo separates comparators by commas\n>=1.2.1 <2\n        ^\nDid you mean >=1.2.1 , <2?');
     expect('the same range by npm', (await ranges())[1], 'npm: >=1.2.0 <2.0.0: =1.2.0: nothing');
 
     // Colours, on a page with each kind of text.
     for (const scheme of ['light', 'dark']) {
         await ask('Emulation.setEmulatedMedia', { features: [{ name: 'prefers-color-scheme', value: scheme }] });
-        await open('#range=1.2.3&other=x%20y&versions=1.2.3%0A1.2.4%0Av1.2.3%0A1.2&preReleases=default&dialect=cargo');
+        await open('#range=1.2.3&other=x%20y&versions=1.2.3%0A1.2.4%0Av1.2.3%0A1.2&preReleases=by-dialect&dialect=cargo');
         expect(`the scheme ${scheme}`, await value(`matchMedia('(prefers-color-scheme: ${scheme})').matches`), true);
         const { count, low } = await value(`(${contrasts})()`);
         if (count < 40) throw new Error(`only ${count} texts are seen`);
@@ -140,7 +140,7 @@ async function main() {
 
     await open('#range=%5E1.2&versions=1.3.0-rc.1&preReleases=included&dialect=npm');
     expect('a link', await rows(), ['1.3.0-rc.1 yes yes yes yes']);
-    await open('#range=%5E1.2&versions=1.3.0-rc.1&preReleases=default&dialect=npm');
+    await open('#range=%5E1.2&versions=1.3.0-rc.1&preReleases=by-dialect&dialect=npm');
     expect('the same by default', await rows(), ['1.3.0-rc.1 no no no no']);
     await open('#range=1&versions=1.3.0&preReleases=all&dialect=yarn');
     expect('a link with unknown options', await rows(), ['1.3.0 yes yes yes yes']);

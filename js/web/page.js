@@ -90,15 +90,19 @@ function rowOf(version, ranges, now) {
 
 // ---- errors
 
-// An invalid string, with a caret under the character, and why it is invalid.
-function errorOf(what, { dialect }, string, { offset, sentence }) {
+// An invalid string, with carets under the part that the error is about, why it is invalid, and
+// what may have been meant.
+function errorOf(what, { dialect }, string, { offset, span, sentence, suggestion }) {
   const [, title] = COLUMNS.find(([name]) => name === dialect)
-  const from = Math.max(0, offset - AROUND)
-  const before = (from > 0 ? '…' : '') + string.slice(from, offset)
-  const after = string.slice(offset, offset + AROUND) + (string.length > offset + AROUND ? '…' : '')
+  const from = Math.max(0, offset - AROUND), until = Math.min(string.length, offset + AROUND)
+  const start = Math.max(from, span.start), end = Math.min(until, span.end)
+  const before = (from > 0 ? '…' : '') + string.slice(from, start)
+  const after = string.slice(start, until) + (until < string.length ? '…' : '')
+  const carets = '^'.repeat(Math.max(1, [...string.slice(start, end)].length))
   const section = made('div', 'error', '')
   section.append(made('div', '', `${title}: invalid ${what}: ${sentence}`))
-  section.append(made('pre', '', `${before}${after}\n${' '.repeat([...before].length)}^`))
+  section.append(made('pre', '', `${before}${after}\n${' '.repeat([...before].length)}${carets}`))
+  if (suggestion !== null) section.append(made('div', '', `Did you mean ${suggestion}?`))
   return section
 }
 
