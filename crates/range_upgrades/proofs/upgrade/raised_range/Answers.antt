@@ -1,4 +1,4 @@
-use Rattle.std.proofs.Common.{◌≡◌, ◌∙◌, inl, inr, string_bytes, subst, sym}
+use Rattle.std.proofs.Common.{◌≡◌, inl, inr, string_bytes, subst, sym, ◌∙◌}
 use Rattle.std.specs.Prelude.{Some}
 use Rattle.semver_texts.specs.Texts.{Text}
 use Rattle.semver_versions.specs.VersionRefs.{version_of}
@@ -12,282 +12,326 @@ use Rattle.range_upgrades.proofs.upgrade.raised_range.Goals as goal
 
 pub returns-in_default-clause-none : goal.returns-in_default-clause-none
 returns-in_default-clause-none c = λ none tree spelled.
-    let all = terms_in c.args.meaning.dialect tree c.args.range.now spelled in
-    no_last c.args.meaning c.args.form c.args.range.now c.args.version.now all (sym (c.last_alternative.ensures tree spelled) ∙ c.in_default.is)
+    let m = c.args.meaning in
+    let form = c.args.form in
+    let t = c.args.range.now in
+    let v = c.args.version.now in
+    let all = terms_in m.dialect tree t spelled in
+    no_last m form t v all (sym (c.last_alternative.ensures tree spelled) ∙ c.in_default.is)
 
 pub returns-in_default-raised-clause-none : goal.returns-in_default-raised-clause-none
 returns-in_default-raised-clause-none c = λ none tree spelled.
-    let all = terms_in c.args.meaning.dialect tree c.args.range.now spelled in
-    let is_last : last_of all ≡ Some c.in-Some.last = sym (c.last_alternative.ensures tree spelled) ∙ c.in-Some.is in
-    no_raised c.args.meaning c.args.form c.args.range.now c.args.version.now all c.in-Some.last is_last (c.in_ok-raised.ensures.none c.in_default-raised.is tree spelled)
+    let m = c.args.meaning in
+    let form = c.args.form in
+    let t = c.args.range.now in
+    let v = c.args.version.now in
+    let last = c.in-Some.last in
+    let all = terms_in m.dialect tree t spelled in
+    let is_last : last_of all ≡ Some last = sym (c.last_alternative.ensures tree spelled) ∙ c.in-Some.is in
+    no_raised m form t v all last is_last (c.in_ok-raised.ensures.none c.in_default-raised.is tree spelled)
 
 pub returns-in_default-in_place-clause-none : goal.returns-in_default-in_place-clause-none
 returns-in_default-in_place-clause-none c = λ none tree spelled.
-    let all = terms_in c.args.meaning.dialect tree c.args.range.now spelled in
-    let is_last : last_of all ≡ Some c.in-Some.last = sym (c.last_alternative.ensures tree spelled) ∙ c.in-Some.is in
+    let m = c.args.meaning in
+    let form = c.args.form in
+    let t = c.args.range.now in
+    let v = c.args.version.now in
+    let last = c.in-Some.last in
+    let all = terms_in m.dialect tree t spelled in
+    let is_last : last_of all ≡ Some last = sym (c.last_alternative.ensures tree spelled) ∙ c.in-Some.is in
     let raised = c.as_str-text.result.now in
-    let same : raised ≡ string_bytes c.in-Some-raised.raised = c.as_str-text.ensures.value in
-    let only : (s : Text) → IsRaised c.args.meaning.dialect c.args.form c.args.range.now c.args.version.now c.in-Some.last all s → s ≡ raised =
+    let same = c.as_str-text.ensures.value in
+    let only : (s : Text) → IsRaised m.dialect form t v last all s → s ≡ raised =
     λ s is. (rw c.in-Some-raised.is at c.in_ok-raised.ensures.only) tree spelled s is ∙ sym same in
-    no_replaced c.args.meaning c.args.form c.args.range.now c.args.version.now all c.in-Some.last is_last raised only (c.in_ok-in_place.ensures.none c.in_default-in_place.is)
+    no_replaced m form t v all last is_last raised only (c.in_ok-in_place.ensures.none c.in_default-in_place.is)
 
 pub returns-in_default-set-clause-none : goal.returns-in_default-set-clause-none
 returns-in_default-set-clause-none c = λ none tree spelled.
-    let all = terms_in c.args.meaning.dialect tree c.args.range.now spelled in
-    let is_last : last_of all ≡ Some c.in-Some.last = sym (c.last_alternative.ensures tree spelled) ∙ c.in-Some.is in
+    let m = c.args.meaning in
+    let form = c.args.form in
+    let t = c.args.range.now in
+    let v = c.args.version.now in
+    let last = c.in-Some.last in
+    let all = terms_in m.dialect tree t spelled in
+    let is_last : last_of all ≡ Some last = sym (c.last_alternative.ensures tree spelled) ∙ c.in-Some.is in
     let raised = c.as_str-text.result.now in
-    let same : raised ≡ string_bytes c.in-Some-raised.raised = c.as_str-text.ensures.value in
-    let only : (s : Text) → IsRaised c.args.meaning.dialect c.args.form c.args.range.now c.args.version.now c.in-Some.last all s → s ≡ raised =
+    let same = c.as_str-text.ensures.value in
+    let only : (s : Text) → IsRaised m.dialect form t v last all s → s ≡ raised =
     λ s is. (rw c.in-Some-raised.is at c.in_ok-raised.ensures.only) tree spelled s is ∙ sym same in
     let new = string_bytes c.in-Some-in_place.in_place in
-    let replaces : IsReplaced c.args.range.now c.in-Some.last c.as_str-text.result.now new = rw c.in-Some-in_place.is at c.in_ok-in_place.ensures.some in
+    let replaces : IsReplaced t last c.as_str-text.result.now new =
+    rw c.in-Some-in_place.is at c.in_ok-in_place.ensures.some in
     let new_text : c.as_str.result.now ≡ new = c.as_str.ensures.value in
-    not_satisfied c.args.meaning c.args.form c.args.range.now c.args.version.now all c.in-Some.last is_last raised only new replaces
-    (λ met. c.in_ok-set.ensures.none c.in_default-set.is (subst (λ t. IsSatisfied c.args.meaning t (version_of c.args.version.now)) (sym new_text) met))
+    not_satisfied m form t v all last is_last raised only new replaces
+    (λ met. c.in_ok-set.ensures.none c.in_default-set.is (subst (λ r. IsSatisfied m r (version_of v)) (sym new_text) met))
 
 pub returns-then-keeps_all-clause-satisfied : goal.returns-then-keeps_all-clause-satisfied
 returns-then-keeps_all-clause-satisfied c =
+    let m = c.args.meaning in
+    let v = c.args.version.now in
     let new = string_bytes c.in-Some-in_place.in_place in
-    let replaces : IsReplaced c.args.range.now c.in-Some.last c.as_str-text.result.now new = rw c.in-Some-in_place.is at c.in_ok-in_place.ensures.some in
     let new_text : c.as_str.result.now ≡ new = c.as_str.ensures.value in
-    let set : IsSetOf c.args.meaning new c.in-Some-set.set =
-    subst (λ t. IsSetOf c.args.meaning t c.in-Some-set.set) new_text (rw c.in-Some-set.is at c.in_ok-set.ensures.set) in
-    let met : IsSatisfied c.args.meaning new (version_of c.args.version.now) =
-    subst (λ t. IsSatisfied c.args.meaning t (version_of c.args.version.now)) new_text (rw c.in-Some-set.is at c.in_ok-set.ensures.satisfied) in
+    let met : IsSatisfied m new (version_of v) =
+    subst (λ r. IsSatisfied m r (version_of v)) new_text (rw c.in-Some-set.is at c.in_ok-set.ensures.satisfied) in
     met
 
 pub returns-then-keeps_all-clause-loses_none : goal.returns-then-keeps_all-clause-loses_none
 returns-then-keeps_all-clause-loses_none c = λ has.
+    let m = c.args.meaning in
+    let t = c.args.range.now in
     let new = string_bytes c.in-Some-in_place.in_place in
-    let replaces : IsReplaced c.args.range.now c.in-Some.last c.as_str-text.result.now new = rw c.in-Some-in_place.is at c.in_ok-in_place.ensures.some in
     let new_text : c.as_str.result.now ≡ new = c.as_str.ensures.value in
-    let set : IsSetOf c.args.meaning new c.in-Some-set.set =
-    subst (λ t. IsSetOf c.args.meaning t c.in-Some-set.set) new_text (rw c.in-Some-set.is at c.in_ok-set.ensures.set) in
-    let met : IsSatisfied c.args.meaning new (version_of c.args.version.now) =
-    subst (λ t. IsSatisfied c.args.meaning t (version_of c.args.version.now)) new_text (rw c.in-Some-set.is at c.in_ok-set.ensures.satisfied) in
-    let keeps : LosesNone c.args.meaning c.args.range.now new =
-    none_lost c.args.meaning c.args.range.now new c.args.old.now c.in-Some-set.set c.requires.old set (c.keeps_all.ensures.0 c.if-keeps_all.true) in
+    let new_set : IsSetOf m new c.in-Some-set.set =
+    subst (λ r. IsSetOf m r c.in-Some-set.set) new_text (rw c.in-Some-set.is at c.in_ok-set.ensures.set) in
+    let keeps : LosesNone m t new =
+    none_lost m t new c.args.old.now c.in-Some-set.set c.requires.old new_set (c.keeps_all.ensures.0 c.if-keeps_all.true) in
     keeps
 
 pub returns-then-keeps_all-clause-style : goal.returns-then-keeps_all-clause-style
 returns-then-keeps_all-clause-style c = λ tree spelled.
-    let all = terms_in c.args.meaning.dialect tree c.args.range.now spelled in
-    let is_last : last_of all ≡ Some c.in-Some.last = sym (c.last_alternative.ensures tree spelled) ∙ c.in-Some.is in
+    let m = c.args.meaning in
+    let form = c.args.form in
+    let t = c.args.range.now in
+    let v = c.args.version.now in
+    let last = c.in-Some.last in
+    let all = terms_in m.dialect tree t spelled in
+    let is_last : last_of all ≡ Some last = sym (c.last_alternative.ensures tree spelled) ∙ c.in-Some.is in
     let raised = c.as_str-text.result.now in
-    let same : raised ≡ string_bytes c.in-Some-raised.raised = c.as_str-text.ensures.value in
-    let only : (s : Text) → IsRaised c.args.meaning.dialect c.args.form c.args.range.now c.args.version.now c.in-Some.last all s → s ≡ raised =
+    let same = c.as_str-text.ensures.value in
+    let only : (s : Text) → IsRaised m.dialect form t v last all s → s ≡ raised =
     λ s is. (rw c.in-Some-raised.is at c.in_ok-raised.ensures.only) tree spelled s is ∙ sym same in
-    let raises : IsRaised c.args.meaning.dialect c.args.form c.args.range.now c.args.version.now c.in-Some.last all raised =
-    subst (IsRaised c.args.meaning.dialect c.args.form c.args.range.now c.args.version.now c.in-Some.last all) (sym same)
+    let raises : IsRaised m.dialect form t v last all raised =
+    subst (IsRaised m.dialect form t v last all) (sym same)
     ((rw c.in-Some-raised.is at c.in_ok-raised.ensures.some) tree spelled) in
     let new = string_bytes c.in-Some-in_place.in_place in
-    let replaces : IsReplaced c.args.range.now c.in-Some.last c.as_str-text.result.now new = rw c.in-Some-in_place.is at c.in_ok-in_place.ensures.some in
+    let replaces : IsReplaced t last c.as_str-text.result.now new =
+    rw c.in-Some-in_place.is at c.in_ok-in_place.ensures.some in
     let new_text : c.as_str.result.now ≡ new = c.as_str.ensures.value in
-    let set : IsSetOf c.args.meaning new c.in-Some-set.set =
-    subst (λ t. IsSetOf c.args.meaning t c.in-Some-set.set) new_text (rw c.in-Some-set.is at c.in_ok-set.ensures.set) in
-    let met : IsSatisfied c.args.meaning new (version_of c.args.version.now) =
-    subst (λ t. IsSatisfied c.args.meaning t (version_of c.args.version.now)) new_text (rw c.in-Some-set.is at c.in_ok-set.ensures.satisfied) in
-    let keeps : LosesNone c.args.meaning c.args.range.now new =
-    none_lost c.args.meaning c.args.range.now new c.args.old.now c.in-Some-set.set c.requires.old set (c.keeps_all.ensures.0 c.if-keeps_all.true) in
-    inl (record { last = c.in-Some.last; raised = raised; is_last = is_last; raises = raises; replaces = replaces }, met, λ has. keeps)
+    let new_set : IsSetOf m new c.in-Some-set.set =
+    subst (λ r. IsSetOf m r c.in-Some-set.set) new_text (rw c.in-Some-set.is at c.in_ok-set.ensures.set) in
+    let met : IsSatisfied m new (version_of v) =
+    subst (λ r. IsSatisfied m r (version_of v)) new_text (rw c.in-Some-set.is at c.in_ok-set.ensures.satisfied) in
+    let keeps : LosesNone m t new =
+    none_lost m t new c.args.old.now c.in-Some-set.set c.requires.old new_set (c.keeps_all.ensures.0 c.if-keeps_all.true) in
+    inl (record { last = last; raised = raised; is_last = is_last; raises = raises; replaces = replaces }, met, λ has. keeps)
 
 pub returns-then-not-has_bars-clause-satisfied : goal.returns-then-not-has_bars-clause-satisfied
 returns-then-not-has_bars-clause-satisfied c =
+    let m = c.args.meaning in
+    let v = c.args.version.now in
     let new = string_bytes c.in-Some-in_place.in_place in
-    let replaces : IsReplaced c.args.range.now c.in-Some.last c.as_str-text.result.now new = rw c.in-Some-in_place.is at c.in_ok-in_place.ensures.some in
     let new_text : c.as_str.result.now ≡ new = c.as_str.ensures.value in
-    let set : IsSetOf c.args.meaning new c.in-Some-set.set =
-    subst (λ t. IsSetOf c.args.meaning t c.in-Some-set.set) new_text (rw c.in-Some-set.is at c.in_ok-set.ensures.set) in
-    let met : IsSatisfied c.args.meaning new (version_of c.args.version.now) =
-    subst (λ t. IsSatisfied c.args.meaning t (version_of c.args.version.now)) new_text (rw c.in-Some-set.is at c.in_ok-set.ensures.satisfied) in
+    let met : IsSatisfied m new (version_of v) =
+    subst (λ r. IsSatisfied m r (version_of v)) new_text (rw c.in-Some-set.is at c.in_ok-set.ensures.satisfied) in
     met
 
 pub returns-then-not-has_bars-clause-loses_none : goal.returns-then-not-has_bars-clause-loses_none
-returns-then-not-has_bars-clause-loses_none c = λ has. absurd (true_not_false (sym (c.has_bars.ensures.1 (subst HasBars (sym c.as_bytes.ensures.value) has)) ∙ c.if-not-has_bars.true))
+returns-then-not-has_bars-clause-loses_none c =
+    λ has. absurd (true_not_false
+    (sym (c.has_bars.ensures.1 (subst HasBars (sym c.as_bytes.ensures.value) has)) ∙ c.if-not-has_bars.true))
 
 pub returns-then-not-has_bars-clause-style : goal.returns-then-not-has_bars-clause-style
 returns-then-not-has_bars-clause-style c = λ tree spelled.
-    let all = terms_in c.args.meaning.dialect tree c.args.range.now spelled in
-    let is_last : last_of all ≡ Some c.in-Some.last = sym (c.last_alternative.ensures tree spelled) ∙ c.in-Some.is in
+    let m = c.args.meaning in
+    let form = c.args.form in
+    let t = c.args.range.now in
+    let v = c.args.version.now in
+    let last = c.in-Some.last in
+    let all = terms_in m.dialect tree t spelled in
+    let is_last : last_of all ≡ Some last = sym (c.last_alternative.ensures tree spelled) ∙ c.in-Some.is in
     let raised = c.as_str-text.result.now in
-    let same : raised ≡ string_bytes c.in-Some-raised.raised = c.as_str-text.ensures.value in
-    let only : (s : Text) → IsRaised c.args.meaning.dialect c.args.form c.args.range.now c.args.version.now c.in-Some.last all s → s ≡ raised =
+    let same = c.as_str-text.ensures.value in
+    let only : (s : Text) → IsRaised m.dialect form t v last all s → s ≡ raised =
     λ s is. (rw c.in-Some-raised.is at c.in_ok-raised.ensures.only) tree spelled s is ∙ sym same in
-    let raises : IsRaised c.args.meaning.dialect c.args.form c.args.range.now c.args.version.now c.in-Some.last all raised =
-    subst (IsRaised c.args.meaning.dialect c.args.form c.args.range.now c.args.version.now c.in-Some.last all) (sym same)
+    let raises : IsRaised m.dialect form t v last all raised =
+    subst (IsRaised m.dialect form t v last all) (sym same)
     ((rw c.in-Some-raised.is at c.in_ok-raised.ensures.some) tree spelled) in
     let new = string_bytes c.in-Some-in_place.in_place in
-    let replaces : IsReplaced c.args.range.now c.in-Some.last c.as_str-text.result.now new = rw c.in-Some-in_place.is at c.in_ok-in_place.ensures.some in
+    let replaces : IsReplaced t last c.as_str-text.result.now new =
+    rw c.in-Some-in_place.is at c.in_ok-in_place.ensures.some in
     let new_text : c.as_str.result.now ≡ new = c.as_str.ensures.value in
-    let set : IsSetOf c.args.meaning new c.in-Some-set.set =
-    subst (λ t. IsSetOf c.args.meaning t c.in-Some-set.set) new_text (rw c.in-Some-set.is at c.in_ok-set.ensures.set) in
-    let met : IsSatisfied c.args.meaning new (version_of c.args.version.now) =
-    subst (λ t. IsSatisfied c.args.meaning t (version_of c.args.version.now)) new_text (rw c.in-Some-set.is at c.in_ok-set.ensures.satisfied) in
+    let met : IsSatisfied m new (version_of v) =
+    subst (λ r. IsSatisfied m r (version_of v)) new_text (rw c.in-Some-set.is at c.in_ok-set.ensures.satisfied) in
     inl (
-      record { last = c.in-Some.last; raised = raised; is_last = is_last; raises = raises; replaces = replaces },
+      record { last = last; raised = raised; is_last = is_last; raises = raises; replaces = replaces },
       met,
-      λ has. absurd (true_not_false (sym (c.has_bars.ensures.1 (subst HasBars (sym c.as_bytes.ensures.value) has)) ∙ c.if-not-has_bars.true)),
+      λ has. absurd (true_not_false
+          (sym (c.has_bars.ensures.1 (subst HasBars (sym c.as_bytes.ensures.value) has)) ∙ c.if-not-has_bars.true)),
     )
 
 pub returns-in_default-longer-clause-none : goal.returns-in_default-longer-clause-none
 returns-in_default-longer-clause-none c = λ none tree spelled.
-    let all = terms_in c.args.meaning.dialect tree c.args.range.now spelled in
-    let is_last : last_of all ≡ Some c.in-Some.last = sym (c.last_alternative.ensures tree spelled) ∙ c.in-Some.is in
+    let m = c.args.meaning in
+    let form = c.args.form in
+    let t = c.args.range.now in
+    let v = c.args.version.now in
+    let last = c.in-Some.last in
+    let all = terms_in m.dialect tree t spelled in
+    let is_last : last_of all ≡ Some last = sym (c.last_alternative.ensures tree spelled) ∙ c.in-Some.is in
     let raised = c.as_str-text.result.now in
-    let same : raised ≡ string_bytes c.in-Some-raised.raised = c.as_str-text.ensures.value in
-    let only : (s : Text) → IsRaised c.args.meaning.dialect c.args.form c.args.range.now c.args.version.now c.in-Some.last all s → s ≡ raised =
+    let same = c.as_str-text.ensures.value in
+    let only : (s : Text) → IsRaised m.dialect form t v last all s → s ≡ raised =
     λ s is. (rw c.in-Some-raised.is at c.in_ok-raised.ensures.only) tree spelled s is ∙ sym same in
     let new = string_bytes c.in-Some-in_place.in_place in
-    let replaces : IsReplaced c.args.range.now c.in-Some.last c.as_str-text.result.now new = rw c.in-Some-in_place.is at c.in_ok-in_place.ensures.some in
+    let replaces : IsReplaced t last c.as_str-text.result.now new =
+    rw c.in-Some-in_place.is at c.in_ok-in_place.ensures.some in
     let new_text : c.as_str.result.now ≡ new = c.as_str.ensures.value in
-    let set : IsSetOf c.args.meaning new c.in-Some-set.set =
-    subst (λ t. IsSetOf c.args.meaning t c.in-Some-set.set) new_text (rw c.in-Some-set.is at c.in_ok-set.ensures.set) in
-    let met : IsSatisfied c.args.meaning new (version_of c.args.version.now) =
-    subst (λ t. IsSatisfied c.args.meaning t (version_of c.args.version.now)) new_text (rw c.in-Some-set.is at c.in_ok-set.ensures.satisfied) in
-    let loses : ¬ (LosesNone c.args.meaning c.args.range.now new) =
-    λ keeps. true_not_false (sym (c.keeps_all.ensures.1 (keeps_none c.args.meaning c.args.range.now new c.args.old.now c.in-Some-set.set c.requires.old set keeps))
+    let new_set : IsSetOf m new c.in-Some-set.set =
+    subst (λ r. IsSetOf m r c.in-Some-set.set) new_text (rw c.in-Some-set.is at c.in_ok-set.ensures.set) in
+    let loses : ¬ (LosesNone m t new) = λ keeps. true_not_false
+    (sym (c.keeps_all.ensures.1 (keeps_none m t new c.args.old.now c.in-Some-set.set c.requires.old new_set keeps))
     ∙ c.if-keeps_all.false) in
-    let bars : HasBars c.args.range.now = subst HasBars c.as_bytes.ensures.value (c.has_bars.ensures.0 c.if-not-has_bars.false) in
-    no_extended c.args.meaning c.args.form c.args.range.now c.args.version.now all c.in-Some.last is_last raised only new replaces bars loses (c.in_ok-longer.ensures.none c.in_default-longer.is)
+    let bars : HasBars t = subst HasBars c.as_bytes.ensures.value (c.has_bars.ensures.0 c.if-not-has_bars.false) in
+    no_extended m form t v all last is_last raised only new replaces bars loses
+    (c.in_ok-longer.ensures.none c.in_default-longer.is)
 
 pub returns-in_default-longer_set-clause-none : goal.returns-in_default-longer_set-clause-none
 returns-in_default-longer_set-clause-none c = λ none tree spelled.
-    let all = terms_in c.args.meaning.dialect tree c.args.range.now spelled in
-    let is_last : last_of all ≡ Some c.in-Some.last = sym (c.last_alternative.ensures tree spelled) ∙ c.in-Some.is in
+    let m = c.args.meaning in
+    let form = c.args.form in
+    let t = c.args.range.now in
+    let v = c.args.version.now in
+    let last = c.in-Some.last in
+    let all = terms_in m.dialect tree t spelled in
+    let is_last : last_of all ≡ Some last = sym (c.last_alternative.ensures tree spelled) ∙ c.in-Some.is in
     let raised = c.as_str-text.result.now in
-    let same : raised ≡ string_bytes c.in-Some-raised.raised = c.as_str-text.ensures.value in
-    let only : (s : Text) → IsRaised c.args.meaning.dialect c.args.form c.args.range.now c.args.version.now c.in-Some.last all s → s ≡ raised =
+    let same = c.as_str-text.ensures.value in
+    let only : (s : Text) → IsRaised m.dialect form t v last all s → s ≡ raised =
     λ s is. (rw c.in-Some-raised.is at c.in_ok-raised.ensures.only) tree spelled s is ∙ sym same in
     let new = string_bytes c.in-Some-in_place.in_place in
-    let replaces : IsReplaced c.args.range.now c.in-Some.last c.as_str-text.result.now new = rw c.in-Some-in_place.is at c.in_ok-in_place.ensures.some in
+    let replaces : IsReplaced t last c.as_str-text.result.now new =
+    rw c.in-Some-in_place.is at c.in_ok-in_place.ensures.some in
     let new_text : c.as_str.result.now ≡ new = c.as_str.ensures.value in
-    let set : IsSetOf c.args.meaning new c.in-Some-set.set =
-    subst (λ t. IsSetOf c.args.meaning t c.in-Some-set.set) new_text (rw c.in-Some-set.is at c.in_ok-set.ensures.set) in
-    let met : IsSatisfied c.args.meaning new (version_of c.args.version.now) =
-    subst (λ t. IsSatisfied c.args.meaning t (version_of c.args.version.now)) new_text (rw c.in-Some-set.is at c.in_ok-set.ensures.satisfied) in
-    let loses : ¬ (LosesNone c.args.meaning c.args.range.now new) =
-    λ keeps. true_not_false (sym (c.keeps_all.ensures.1 (keeps_none c.args.meaning c.args.range.now new c.args.old.now c.in-Some-set.set c.requires.old set keeps))
+    let new_set : IsSetOf m new c.in-Some-set.set =
+    subst (λ r. IsSetOf m r c.in-Some-set.set) new_text (rw c.in-Some-set.is at c.in_ok-set.ensures.set) in
+    let loses : ¬ (LosesNone m t new) = λ keeps. true_not_false
+    (sym (c.keeps_all.ensures.1 (keeps_none m t new c.args.old.now c.in-Some-set.set c.requires.old new_set keeps))
     ∙ c.if-keeps_all.false) in
-    let bars : HasBars c.args.range.now = subst HasBars c.as_bytes.ensures.value (c.has_bars.ensures.0 c.if-not-has_bars.false) in
+    let bars : HasBars t = subst HasBars c.as_bytes.ensures.value (c.has_bars.ensures.0 c.if-not-has_bars.false) in
     let more = string_bytes c.in-Some-longer.longer in
-    let extends : IsExtended c.args.range.now c.in-Some.last c.as_str-text.result.now more = rw c.in-Some-longer.is at c.in_ok-longer.ensures.some in
+    let extends : IsExtended t last c.as_str-text.result.now more =
+    rw c.in-Some-longer.is at c.in_ok-longer.ensures.some in
     let more_text : c.as_str-2.result.now ≡ more = c.as_str-2.ensures.value in
-    more_not_satisfied c.args.meaning c.args.form c.args.range.now c.args.version.now all c.in-Some.last is_last raised only new replaces bars loses more extends
-    (λ met. c.in_ok-longer_set.ensures.none c.in_default-longer_set.is (subst (λ t. IsSatisfied c.args.meaning t (version_of c.args.version.now)) (sym more_text) met))
+    more_not_satisfied m form t v all last is_last raised only new replaces bars loses more extends
+    (λ met. c.in_ok-longer_set.ensures.none c.in_default-longer_set.is (subst (λ r. IsSatisfied m r (version_of v)) (sym more_text) met))
 
 pub returns-then-keeps_all-2-clause-satisfied : goal.returns-then-keeps_all-2-clause-satisfied
 returns-then-keeps_all-2-clause-satisfied c =
+    let m = c.args.meaning in
+    let v = c.args.version.now in
     let more = string_bytes c.in-Some-longer.longer in
-    let extends : IsExtended c.args.range.now c.in-Some.last c.as_str-text.result.now more = rw c.in-Some-longer.is at c.in_ok-longer.ensures.some in
     let more_text : c.as_str-2.result.now ≡ more = c.as_str-2.ensures.value in
-    let more_set : IsSetOf c.args.meaning more c.in-Some-longer_set.longer_set =
-    subst (λ t. IsSetOf c.args.meaning t c.in-Some-longer_set.longer_set) more_text (rw c.in-Some-longer_set.is at c.in_ok-longer_set.ensures.set) in
-    let more_met : IsSatisfied c.args.meaning more (version_of c.args.version.now) =
-    subst (λ t. IsSatisfied c.args.meaning t (version_of c.args.version.now)) more_text (rw c.in-Some-longer_set.is at c.in_ok-longer_set.ensures.satisfied) in
+    let more_met : IsSatisfied m more (version_of v) =
+    subst (λ r. IsSatisfied m r (version_of v)) more_text (rw c.in-Some-longer_set.is at c.in_ok-longer_set.ensures.satisfied) in
     more_met
 
 pub returns-then-keeps_all-2-clause-loses_none : goal.returns-then-keeps_all-2-clause-loses_none
 returns-then-keeps_all-2-clause-loses_none c = λ has.
+    let m = c.args.meaning in
+    let t = c.args.range.now in
     let more = string_bytes c.in-Some-longer.longer in
-    let extends : IsExtended c.args.range.now c.in-Some.last c.as_str-text.result.now more = rw c.in-Some-longer.is at c.in_ok-longer.ensures.some in
     let more_text : c.as_str-2.result.now ≡ more = c.as_str-2.ensures.value in
-    let more_set : IsSetOf c.args.meaning more c.in-Some-longer_set.longer_set =
-    subst (λ t. IsSetOf c.args.meaning t c.in-Some-longer_set.longer_set) more_text (rw c.in-Some-longer_set.is at c.in_ok-longer_set.ensures.set) in
-    let more_met : IsSatisfied c.args.meaning more (version_of c.args.version.now) =
-    subst (λ t. IsSatisfied c.args.meaning t (version_of c.args.version.now)) more_text (rw c.in-Some-longer_set.is at c.in_ok-longer_set.ensures.satisfied) in
-    let more_keeps : LosesNone c.args.meaning c.args.range.now more =
-    none_lost c.args.meaning c.args.range.now more c.args.old.now c.in-Some-longer_set.longer_set c.requires.old more_set
+    let more_set : IsSetOf m more c.in-Some-longer_set.longer_set =
+    subst (λ r. IsSetOf m r c.in-Some-longer_set.longer_set) more_text (rw c.in-Some-longer_set.is at c.in_ok-longer_set.ensures.set) in
+    let more_keeps : LosesNone m t more =
+    none_lost m t more c.args.old.now c.in-Some-longer_set.longer_set c.requires.old more_set
     (c.keeps_all-2.ensures.0 c.if-keeps_all-2.true) in
     more_keeps
 
 pub returns-then-keeps_all-2-clause-style : goal.returns-then-keeps_all-2-clause-style
 returns-then-keeps_all-2-clause-style c = λ tree spelled.
-    let all = terms_in c.args.meaning.dialect tree c.args.range.now spelled in
-    let is_last : last_of all ≡ Some c.in-Some.last = sym (c.last_alternative.ensures tree spelled) ∙ c.in-Some.is in
+    let m = c.args.meaning in
+    let form = c.args.form in
+    let t = c.args.range.now in
+    let v = c.args.version.now in
+    let last = c.in-Some.last in
+    let all = terms_in m.dialect tree t spelled in
+    let is_last : last_of all ≡ Some last = sym (c.last_alternative.ensures tree spelled) ∙ c.in-Some.is in
     let raised = c.as_str-text.result.now in
-    let same : raised ≡ string_bytes c.in-Some-raised.raised = c.as_str-text.ensures.value in
-    let only : (s : Text) → IsRaised c.args.meaning.dialect c.args.form c.args.range.now c.args.version.now c.in-Some.last all s → s ≡ raised =
+    let same = c.as_str-text.ensures.value in
+    let only : (s : Text) → IsRaised m.dialect form t v last all s → s ≡ raised =
     λ s is. (rw c.in-Some-raised.is at c.in_ok-raised.ensures.only) tree spelled s is ∙ sym same in
-    let raises : IsRaised c.args.meaning.dialect c.args.form c.args.range.now c.args.version.now c.in-Some.last all raised =
-    subst (IsRaised c.args.meaning.dialect c.args.form c.args.range.now c.args.version.now c.in-Some.last all) (sym same)
+    let raises : IsRaised m.dialect form t v last all raised =
+    subst (IsRaised m.dialect form t v last all) (sym same)
     ((rw c.in-Some-raised.is at c.in_ok-raised.ensures.some) tree spelled) in
     let new = string_bytes c.in-Some-in_place.in_place in
-    let replaces : IsReplaced c.args.range.now c.in-Some.last c.as_str-text.result.now new = rw c.in-Some-in_place.is at c.in_ok-in_place.ensures.some in
+    let replaces : IsReplaced t last c.as_str-text.result.now new =
+    rw c.in-Some-in_place.is at c.in_ok-in_place.ensures.some in
     let new_text : c.as_str.result.now ≡ new = c.as_str.ensures.value in
-    let set : IsSetOf c.args.meaning new c.in-Some-set.set =
-    subst (λ t. IsSetOf c.args.meaning t c.in-Some-set.set) new_text (rw c.in-Some-set.is at c.in_ok-set.ensures.set) in
-    let met : IsSatisfied c.args.meaning new (version_of c.args.version.now) =
-    subst (λ t. IsSatisfied c.args.meaning t (version_of c.args.version.now)) new_text (rw c.in-Some-set.is at c.in_ok-set.ensures.satisfied) in
-    let loses : ¬ (LosesNone c.args.meaning c.args.range.now new) =
-    λ keeps. true_not_false (sym (c.keeps_all.ensures.1 (keeps_none c.args.meaning c.args.range.now new c.args.old.now c.in-Some-set.set c.requires.old set keeps))
+    let new_set : IsSetOf m new c.in-Some-set.set =
+    subst (λ r. IsSetOf m r c.in-Some-set.set) new_text (rw c.in-Some-set.is at c.in_ok-set.ensures.set) in
+    let met : IsSatisfied m new (version_of v) =
+    subst (λ r. IsSatisfied m r (version_of v)) new_text (rw c.in-Some-set.is at c.in_ok-set.ensures.satisfied) in
+    let loses : ¬ (LosesNone m t new) = λ keeps. true_not_false
+    (sym (c.keeps_all.ensures.1 (keeps_none m t new c.args.old.now c.in-Some-set.set c.requires.old new_set keeps))
     ∙ c.if-keeps_all.false) in
-    let bars : HasBars c.args.range.now = subst HasBars c.as_bytes.ensures.value (c.has_bars.ensures.0 c.if-not-has_bars.false) in
+    let bars : HasBars t = subst HasBars c.as_bytes.ensures.value (c.has_bars.ensures.0 c.if-not-has_bars.false) in
     let more = string_bytes c.in-Some-longer.longer in
-    let extends : IsExtended c.args.range.now c.in-Some.last c.as_str-text.result.now more = rw c.in-Some-longer.is at c.in_ok-longer.ensures.some in
+    let extends : IsExtended t last c.as_str-text.result.now more =
+    rw c.in-Some-longer.is at c.in_ok-longer.ensures.some in
     let more_text : c.as_str-2.result.now ≡ more = c.as_str-2.ensures.value in
-    let more_set : IsSetOf c.args.meaning more c.in-Some-longer_set.longer_set =
-    subst (λ t. IsSetOf c.args.meaning t c.in-Some-longer_set.longer_set) more_text (rw c.in-Some-longer_set.is at c.in_ok-longer_set.ensures.set) in
-    let more_met : IsSatisfied c.args.meaning more (version_of c.args.version.now) =
-    subst (λ t. IsSatisfied c.args.meaning t (version_of c.args.version.now)) more_text (rw c.in-Some-longer_set.is at c.in_ok-longer_set.ensures.satisfied) in
-    let more_keeps : LosesNone c.args.meaning c.args.range.now more =
-    none_lost c.args.meaning c.args.range.now more c.args.old.now c.in-Some-longer_set.longer_set c.requires.old more_set
+    let more_set : IsSetOf m more c.in-Some-longer_set.longer_set =
+    subst (λ r. IsSetOf m r c.in-Some-longer_set.longer_set) more_text (rw c.in-Some-longer_set.is at c.in_ok-longer_set.ensures.set) in
+    let more_met : IsSatisfied m more (version_of v) =
+    subst (λ r. IsSatisfied m r (version_of v)) more_text (rw c.in-Some-longer_set.is at c.in_ok-longer_set.ensures.satisfied) in
+    let more_keeps : LosesNone m t more =
+    none_lost m t more c.args.old.now c.in-Some-longer_set.longer_set c.requires.old more_set
     (c.keeps_all-2.ensures.0 c.if-keeps_all-2.true) in
     inr (
-      record { last = c.in-Some.last; raised = raised; is_last = is_last; raises = raises; extends = extends },
-      record { bars = bars; replaced = new; in_place = record { last = c.in-Some.last; raised = raised; is_last = is_last; raises = raises; replaces = replaces }; satisfied = met; loses = loses },
+      record { last = last; raised = raised; is_last = is_last; raises = raises; extends = extends },
+      record { bars = bars; replaced = new; in_place = record { last = last; raised = raised; is_last = is_last; raises = raises; replaces = replaces }; satisfied = met; loses = loses },
       more_met,
       more_keeps,
     )
 
 pub returns-clause-none : goal.returns-clause-none
 returns-clause-none c = λ none tree spelled.
-    let all = terms_in c.args.meaning.dialect tree c.args.range.now spelled in
-    let is_last : last_of all ≡ Some c.in-Some.last = sym (c.last_alternative.ensures tree spelled) ∙ c.in-Some.is in
+    let m = c.args.meaning in
+    let form = c.args.form in
+    let t = c.args.range.now in
+    let v = c.args.version.now in
+    let last = c.in-Some.last in
+    let all = terms_in m.dialect tree t spelled in
+    let is_last : last_of all ≡ Some last = sym (c.last_alternative.ensures tree spelled) ∙ c.in-Some.is in
     let raised = c.as_str-text.result.now in
-    let same : raised ≡ string_bytes c.in-Some-raised.raised = c.as_str-text.ensures.value in
-    let only : (s : Text) → IsRaised c.args.meaning.dialect c.args.form c.args.range.now c.args.version.now c.in-Some.last all s → s ≡ raised =
+    let same = c.as_str-text.ensures.value in
+    let only : (s : Text) → IsRaised m.dialect form t v last all s → s ≡ raised =
     λ s is. (rw c.in-Some-raised.is at c.in_ok-raised.ensures.only) tree spelled s is ∙ sym same in
     let new = string_bytes c.in-Some-in_place.in_place in
-    let replaces : IsReplaced c.args.range.now c.in-Some.last c.as_str-text.result.now new = rw c.in-Some-in_place.is at c.in_ok-in_place.ensures.some in
+    let replaces : IsReplaced t last c.as_str-text.result.now new =
+    rw c.in-Some-in_place.is at c.in_ok-in_place.ensures.some in
     let new_text : c.as_str.result.now ≡ new = c.as_str.ensures.value in
-    let set : IsSetOf c.args.meaning new c.in-Some-set.set =
-    subst (λ t. IsSetOf c.args.meaning t c.in-Some-set.set) new_text (rw c.in-Some-set.is at c.in_ok-set.ensures.set) in
-    let met : IsSatisfied c.args.meaning new (version_of c.args.version.now) =
-    subst (λ t. IsSatisfied c.args.meaning t (version_of c.args.version.now)) new_text (rw c.in-Some-set.is at c.in_ok-set.ensures.satisfied) in
-    let loses : ¬ (LosesNone c.args.meaning c.args.range.now new) =
-    λ keeps. true_not_false (sym (c.keeps_all.ensures.1 (keeps_none c.args.meaning c.args.range.now new c.args.old.now c.in-Some-set.set c.requires.old set keeps))
+    let new_set : IsSetOf m new c.in-Some-set.set =
+    subst (λ r. IsSetOf m r c.in-Some-set.set) new_text (rw c.in-Some-set.is at c.in_ok-set.ensures.set) in
+    let loses : ¬ (LosesNone m t new) = λ keeps. true_not_false
+    (sym (c.keeps_all.ensures.1 (keeps_none m t new c.args.old.now c.in-Some-set.set c.requires.old new_set keeps))
     ∙ c.if-keeps_all.false) in
-    let bars : HasBars c.args.range.now = subst HasBars c.as_bytes.ensures.value (c.has_bars.ensures.0 c.if-not-has_bars.false) in
+    let bars : HasBars t = subst HasBars c.as_bytes.ensures.value (c.has_bars.ensures.0 c.if-not-has_bars.false) in
     let more = string_bytes c.in-Some-longer.longer in
-    let extends : IsExtended c.args.range.now c.in-Some.last c.as_str-text.result.now more = rw c.in-Some-longer.is at c.in_ok-longer.ensures.some in
+    let extends : IsExtended t last c.as_str-text.result.now more =
+    rw c.in-Some-longer.is at c.in_ok-longer.ensures.some in
     let more_text : c.as_str-2.result.now ≡ more = c.as_str-2.ensures.value in
-    let more_set : IsSetOf c.args.meaning more c.in-Some-longer_set.longer_set =
-    subst (λ t. IsSetOf c.args.meaning t c.in-Some-longer_set.longer_set) more_text (rw c.in-Some-longer_set.is at c.in_ok-longer_set.ensures.set) in
-    let more_met : IsSatisfied c.args.meaning more (version_of c.args.version.now) =
-    subst (λ t. IsSatisfied c.args.meaning t (version_of c.args.version.now)) more_text (rw c.in-Some-longer_set.is at c.in_ok-longer_set.ensures.satisfied) in
-    let more_loses_some : ¬ (LosesNone c.args.meaning c.args.range.now more) =
-    λ keeps. true_not_false (sym (c.keeps_all-2.ensures.1 (keeps_none c.args.meaning c.args.range.now more c.args.old.now c.in-Some-longer_set.longer_set
-    c.requires.old more_set keeps)) ∙ c.if-keeps_all-2.false) in
-    more_loses c.args.meaning c.args.form c.args.range.now c.args.version.now all c.in-Some.last is_last raised only new replaces bars loses more extends more_loses_some
+    let more_set : IsSetOf m more c.in-Some-longer_set.longer_set =
+    subst (λ r. IsSetOf m r c.in-Some-longer_set.longer_set) more_text (rw c.in-Some-longer_set.is at c.in_ok-longer_set.ensures.set) in
+    let more_loses_some : ¬ (LosesNone m t more) = λ keeps. true_not_false
+    (sym (c.keeps_all-2.ensures.1 (keeps_none m t more c.args.old.now c.in-Some-longer_set.longer_set c.requires.old more_set keeps))
+    ∙ c.if-keeps_all-2.false) in
+    more_loses m form t v all last is_last raised only new replaces bars loses more extends more_loses_some
 
 pub keeps_all-requires : goal.keeps_all-requires
 keeps_all-requires c =
+    let m = c.args.meaning in
     let new = string_bytes c.in-Some-in_place.in_place in
-    let replaces : IsReplaced c.args.range.now c.in-Some.last c.as_str-text.result.now new = rw c.in-Some-in_place.is at c.in_ok-in_place.ensures.some in
     let new_text : c.as_str.result.now ≡ new = c.as_str.ensures.value in
-    let set : IsSetOf c.args.meaning new c.in-Some-set.set =
-    subst (λ t. IsSetOf c.args.meaning t c.in-Some-set.set) new_text (rw c.in-Some-set.is at c.in_ok-set.ensures.set) in
-    let met : IsSatisfied c.args.meaning new (version_of c.args.version.now) =
-    subst (λ t. IsSatisfied c.args.meaning t (version_of c.args.version.now)) new_text (rw c.in-Some-set.is at c.in_ok-set.ensures.satisfied) in
-    c.requires.old.digits ∙ sym set.digits
+    let new_set : IsSetOf m new c.in-Some-set.set =
+    subst (λ r. IsSetOf m r c.in-Some-set.set) new_text (rw c.in-Some-set.is at c.in_ok-set.ensures.set) in
+    c.requires.old.digits ∙ sym new_set.digits
 
 pub keeps_all-requires-2 : goal.keeps_all-requires-2
 keeps_all-requires-2 c =
+    let m = c.args.meaning in
     let more = string_bytes c.in-Some-longer.longer in
-    let extends : IsExtended c.args.range.now c.in-Some.last c.as_str-text.result.now more = rw c.in-Some-longer.is at c.in_ok-longer.ensures.some in
     let more_text : c.as_str-2.result.now ≡ more = c.as_str-2.ensures.value in
-    let more_set : IsSetOf c.args.meaning more c.in-Some-longer_set.longer_set =
-    subst (λ t. IsSetOf c.args.meaning t c.in-Some-longer_set.longer_set) more_text (rw c.in-Some-longer_set.is at c.in_ok-longer_set.ensures.set) in
-    let more_met : IsSatisfied c.args.meaning more (version_of c.args.version.now) =
-    subst (λ t. IsSatisfied c.args.meaning t (version_of c.args.version.now)) more_text (rw c.in-Some-longer_set.is at c.in_ok-longer_set.ensures.satisfied) in
+    let more_set : IsSetOf m more c.in-Some-longer_set.longer_set =
+    subst (λ r. IsSetOf m r c.in-Some-longer_set.longer_set) more_text (rw c.in-Some-longer_set.is at c.in_ok-longer_set.ensures.set) in
     c.requires.old.digits ∙ sym more_set.digits
