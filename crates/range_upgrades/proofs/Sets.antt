@@ -9,8 +9,8 @@ use Rattle.version_sets.specs.AtOrAbove.{HasAtOrAbove}
 use Rattle.version_sets.specs.VersionSets.{Fits, IsIn, SetValue, contains, contains_kept}
 use Rattle.semver_ranges.specs.declared.range_set.RangeError.{RangeError}
 use Rattle.semver_ranges.specs.declared.range_set.RangeError.TheVariants.{NotARange, NumberTooLarge, OutOfMemory}
-use Rattle.tool_ranges.proofs.ReadingLaws.{one_tree}
-use Rattle.tool_ranges.specs.Dialects.{HasSetAs, RefusesAs, fits_as, grammar_of}
+use Rattle.semver_ranges.specs.RangeTree.{SetTree}
+use Rattle.tool_ranges.specs.Dialects.{HasSetAs, RefusesAs, SpellsAs, fits_as, grammar_of}
 use Rattle.tool_ranges.specs.declared.dialect.Dialect.{Dialect}
 use Rattle.tool_ranges.specs.declared.meaning.Meaning.{Meaning}
 use Rattle.range_upgrades.specs.Upgrades.{HasVersionFrom, IsReadIn, IsSatisfied, IsSetOf, LosesNone}
@@ -56,12 +56,13 @@ none_lost m old new a b of_old of_new keeps = λ w fits met.
     from_set m new b of_new w (keeps w.plain (in_set m old a of_old w fits met))
 
 -- a string that couldn't be read, although there was enough memory, has no set
-pub no_set : {A : Type 0} (d : Dialect) (t : Text) (e : RangeError) → RefusesAs {A = A} d t (Err e) → e ≢ OutOfMemory → ¬ (HasSetAs d t)
-no_set d t NotARange refused enough set = refused.not_a_range.0 refl (set.0, set.1)
-no_set d t NumberTooLarge refused enough set =
+pub no_set : {A : Type 0} → ((d : Dialect) (tree other : SetTree) (t : Text) → SpellsAs d tree t → SpellsAs d other t → tree ≡ other)
+    → (d : Dialect) (t : Text) (e : RangeError) → RefusesAs {A = A} d t (Err e) → e ≢ OutOfMemory → ¬ (HasSetAs d t)
+no_set same d t NotARange refused enough set = refused.not_a_range.0 refl (set.0, set.1)
+no_set same d t NumberTooLarge refused enough set =
     let large = refused.too_large.0 refl in
-    true≢false (sym set.2 ∙ ap (fits_as d) (one_tree d set.0 large.0 t set.1 large.1) ∙ large.2)
-no_set d t OutOfMemory refused enough set = enough refl
+    true≢false (sym set.2 ∙ ap (fits_as d) (same d set.0 large.0 t set.1 large.1) ∙ large.2)
+no_set same d t OutOfMemory refused enough set = enough refl
 
 pub flip : (b : Bool) → not b ≡ false → b ≡ true
 flip true e = refl

@@ -20,6 +20,7 @@ use semver_ranges::RangeError;
 use semver_versions::version::VersionRef;
 use std::alloc::{AllocError, Global};
 use tool_ranges::dialect::Dialect;
+use tool_ranges::laws;
 use tool_ranges::meaning::{Meaning, read};
 use version_sets::PreReleases;
 
@@ -120,6 +121,7 @@ fn is_below(
         dialect,
         pre_releases: PreReleases::Included,
     };
+    laws::one_tree();
     let alone = match read(alloc, meaning, term) {
         Ok(alone) => alone,
         Err(error) => {

@@ -24,6 +24,7 @@ use semver_ranges::RangeError;
 use semver_versions::version::{VersionRef, read_ref_in};
 use std::alloc::{AllocError, Global};
 use thiserror::Error;
+use tool_ranges::laws;
 use tool_ranges::meaning::{Meaning, read};
 use version_sets::VersionSet;
 
@@ -275,6 +276,7 @@ fn set_with(
     ensures none { IfOk result (λ found. found ≡ None
         → ¬ (IsSatisfied meaning range.now (version_of version.now))) }
 {
+    laws::one_tree();
     let set = match read(alloc, meaning, range) {
         Ok(set) => set,
         Err(error) => {

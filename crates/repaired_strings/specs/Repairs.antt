@@ -30,8 +30,7 @@ slip t =
     else (if bytes_eq t (codes "^=") then Some (codes "^")
     else (if bytes_eq t (codes "=^") then Some (codes "^")
     else (if bytes_eq t (codes "&&") then Some (codes " ")
-    else (if bytes_eq t (codes "|") then Some (codes "||")
-    else None))))))))))))
+    else None)))))))))))
 
 -- a number without its leading zeros
 abbrev pub without_zeros : Text → Text

@@ -163,7 +163,6 @@ fn slip(old: &str) -> Option<&'static str>
         "~=" | "=~" | "~>" | "~~" => Some("~"),
         "^^" | "^=" | "=^" => Some("^"),
         "&&" => Some(" "),
-        "|" => Some("||"),
         _ => None,
     }
 }

@@ -127,7 +127,6 @@ fn slip(old: &str) -> Option<&'static str> {
         "~=" | "=~" | "~>" | "~~" => Some("~"),
         "^^" | "^=" | "=^" => Some("^"),
         "&&" => Some(" "),
-        "|" => Some("||"),
         _ => None,
     }
 }

@@ -6,7 +6,7 @@ use Rattle.range_upgrades.proofs.raised_ranges.is_below.Goals as goal
 
 pub returns-in-Err-clause-above : goal.returns-in-Err-clause-above
 returns-in-Err-clause-above c = λ e below.
-    no_set c.args.dialect c.args.term.now c.in-Err.error c.in-Err.ensures.refusals c.in_ok-unless_out_of_memory-in-Err.ensures.ok below.0
+    no_set c.one_tree.ensures.same_tree c.args.dialect c.args.term.now c.in-Err.error c.in-Err.ensures.refusals c.in_ok-unless_out_of_memory-in-Err.ensures.ok below.0
 
 pub returns-clause-above : goal.returns-clause-above
 returns-clause-above c = λ e below.
