@@ -65,7 +65,8 @@ KNOWN = {
     'TakeWhile as Iterator': 'count', 'Utf8Error': 'valid_up_to',
     # `extend` is from `fallible_vec!`, which has allocated.
     'Vec': 'as_mut_slice as_slice clear is_empty len new pop truncate', 'Vec as Deref': 'deref',
-    'Vec as DerefMut': 'deref_mut', 'Vec as Extend': 'extend',
+    'Vec as DerefMut': 'deref_mut', 'Vec as Extend': 'extend', 'Vec as Index': 'index',
+    'Vec as IndexMut': 'index_mut',
     'Zip as IntoIterator': 'into_iter', 'Zip as Iterator': 'all next',
     '[]': '''as_slice copy_from_slice escape_ascii first get get_mut is_empty iter last len
         partition_point reverse sort_unstable_by split_at split_first split_last starts_with
@@ -85,7 +86,8 @@ KNOWN = {
     'u128 as From': 'from', 'u32': 'saturating_add saturating_mul wrapping_add',
     'u32 as From': 'from',
     'u64': 'checked_add checked_ilog10 checked_mul saturating_add saturating_sub',
-    'u64 as From': 'from', 'u64 as Ord': 'cmp min', 'u8': 'is_ascii_alphanumeric is_ascii_digit',
+    'u64 as From': 'from', 'u64 as Ord': 'cmp min',
+    'u8': 'is_ascii_alphabetic is_ascii_alphanumeric is_ascii_digit',
     'u8 as Sub': 'sub', 'usize': 'saturating_add saturating_mul saturating_sub',
     'usize as From': 'from', 'usize as Ord': 'cmp min'}
 CALLS = {f'{kind}::{name}' for kind, names in KNOWN.items() for name in names.split()}

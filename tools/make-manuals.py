@@ -58,7 +58,7 @@ def markdown_of(comment):
     """Returns a comment of the header as Markdown, without the list of statuses at its end, which
     has its own section."""
     text = " ".join(line.strip().lstrip("*").strip() for line in comment.strip().split("\n"))
-    text = re.sub(r"(?<=[.`]) (?:[A-Z_]+, )*[A-Z_]{6,}\.$", "", " ".join(text.split()))
+    text = re.sub(r"(?<=[.`]) Errors: (?:[A-Z_]+, )*[A-Z_]{6,}\.$", "", " ".join(text.split()))
     return re.sub(r"(`[^`]*`)|([\\*\[\]<])", lambda it: it[1] or f"\\{it[2]}", text)
 
 

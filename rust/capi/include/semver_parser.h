@@ -254,11 +254,11 @@ SEMVER_PARSER_NONNULL(1)
 semver_parser_span semver_parser_error_span(
     const semver_parser_error *error, semver_parser_string string);
 
-/* Makes the valid string that may have been meant by the invalid one of an error, or null if none is
- * known: `>=1.2` for `=>1.2`. It differs from `string` only in the spans of errors. `string` is the
- * string of the call that `error->index` refers to, and `dialect` is that of the call. For an error
- * that isn't about a string, and for one that isn't UTF-8, it is null. semver_parser_free frees
- * it. */
+/* Makes the valid string that may have been meant by the invalid one of an error, or null if none
+ * is known: `>=1.2` for `=>1.2`. It differs from `string` only in the spans of errors. `string` is
+ * the string of the call that `error->index` refers to, and `dialect` is that of the call. For an
+ * error that isn't about a string, and for one that isn't UTF-8, it is null. semver_parser_free
+ * frees it. */
 SEMVER_PARSER_CHECKED(1, 4)
 semver_parser_status semver_parser_suggestion(
     const semver_parser_error *error, semver_parser_string string, semver_parser_dialect dialect,
@@ -279,13 +279,13 @@ uint32_t semver_parser_library_version_number(void);
 /* ---- versions, and whether one satisfies a range */
 
 /* Checks whether a version satisfies a range: 1.9.0 satisfies `^1.2`. Build metadata is ignored.
- * INVALID_VERSION, INVALID_RANGE, NUMBER_TOO_LARGE. */
+ * Errors: INVALID_VERSION, INVALID_RANGE, NUMBER_TOO_LARGE. */
 SEMVER_PARSER_CHECKED(4)
 semver_parser_status semver_parser_satisfies(
     semver_parser_string version, semver_parser_string range, semver_parser_options options,
     bool *satisfies, semver_parser_error *error);
 
-/* Checks that a string is a range. INVALID_RANGE, NUMBER_TOO_LARGE. */
+/* Checks that a string is a range. Errors: INVALID_RANGE, NUMBER_TOO_LARGE. */
 SEMVER_PARSER_USED
 semver_parser_status semver_parser_check_range(
     semver_parser_string range, semver_parser_dialect dialect, semver_parser_error *error);
@@ -300,14 +300,14 @@ typedef struct {
 } semver_parser_version;
 
 /* Parses a version: `1.2.3-rc.1+b5` gives 1, 2, 3, `rc.1` and `b5`. `pre` and `build` point into
- * the string that was parsed. INVALID_VERSION. */
+ * the string that was parsed. Errors: INVALID_VERSION. */
 SEMVER_PARSER_CHECKED(3)
 semver_parser_status semver_parser_parse_version(
     semver_parser_string version, semver_parser_dialect dialect, semver_parser_version *parsed,
     semver_parser_error *error);
 
 /* Compares two versions by precedence (SemVer 2.0.0, section 11): `order` is -1, 0 or 1. It is -1
- * for 1.0.0-rc and 1.0.0. INVALID_VERSION. */
+ * for 1.0.0-rc and 1.0.0. Errors: INVALID_VERSION. */
 SEMVER_PARSER_CHECKED(4)
 semver_parser_status semver_parser_compare_versions(
     semver_parser_string version, semver_parser_string other, semver_parser_dialect dialect,
@@ -317,7 +317,7 @@ semver_parser_status semver_parser_compare_versions(
 
 typedef struct semver_parser_range semver_parser_range;
 
-/* Reads a range. semver_parser_range_free frees it. INVALID_RANGE, NUMBER_TOO_LARGE. */
+/* Reads a range. semver_parser_range_free frees it. Errors: INVALID_RANGE, NUMBER_TOO_LARGE. */
 SEMVER_PARSER_CHECKED(3)
 semver_parser_status semver_parser_range_parse(
     semver_parser_string string, semver_parser_options options, semver_parser_range **range,
@@ -330,7 +330,8 @@ void semver_parser_range_free(semver_parser_range *range);
 SEMVER_PARSER_NONNULL(1)
 semver_parser_options semver_parser_range_options(const semver_parser_range *range);
 
-/* Checks whether a version is in the range, like semver_parser_satisfies. INVALID_VERSION. */
+/* Checks whether a version is in the range, like semver_parser_satisfies. Errors: INVALID_VERSION.
+ */
 SEMVER_PARSER_CHECKED(1, 3)
 semver_parser_status semver_parser_range_contains(
     const semver_parser_range *range, semver_parser_string version, bool *contains,
@@ -359,8 +360,9 @@ semver_parser_status semver_parser_range_lowest_of(
     bool skip_invalid, size_t *index, semver_parser_error *error);
 
 /* Makes the range of the versions that are in either range, in both, or only in the first: the
- * difference of `^1.2` and `>=1.4` contains 1.2.0 and not 1.4.0. semver_parser_range_free frees it.
- * Both ranges must have the same options. DIFFERENT_DIALECTS, DIFFERENT_PRE_RELEASES. */
+ * difference of `^1.2` and `>=1.4` contains 1.2.0 and not 1.4.0. semver_parser_range_free frees
+ * it. Both ranges must have the same options. Errors: DIFFERENT_DIALECTS, DIFFERENT_PRE_RELEASES.
+ */
 SEMVER_PARSER_CHECKED(1, 2, 3)
 semver_parser_status semver_parser_range_union(
     const semver_parser_range *range, const semver_parser_range *other,
@@ -374,9 +376,10 @@ semver_parser_status semver_parser_range_difference(
     const semver_parser_range *range, const semver_parser_range *other,
     semver_parser_range **made, semver_parser_error *error);
 
-/* Checks whether two ranges contain the same versions, whether every version in the first is in the
- * other, and whether no version is in both. Both ranges must have the same options. These functions
- * don't allocate, with or without `error`. DIFFERENT_DIALECTS, DIFFERENT_PRE_RELEASES. */
+/* Checks whether two ranges contain the same versions, whether every version in the first is in
+ * the other, and whether no version is in both. Both ranges must have the same options. These
+ * functions don't allocate, with or without `error`. Errors: DIFFERENT_DIALECTS,
+ * DIFFERENT_PRE_RELEASES. */
 SEMVER_PARSER_CHECKED(1, 2, 3)
 semver_parser_status semver_parser_range_equal(
     const semver_parser_range *range, const semver_parser_range *other, bool *equal,
@@ -412,10 +415,10 @@ SEMVER_PARSER_CHECKED(1, 3)
 semver_parser_status semver_parser_range_to_string(
     const semver_parser_range *range, bool pre_releases, char **string);
 
-/* Makes a string that reads back, with the options of the range, as a range of the same versions, in
- * the syntax of its dialect: what can be written into a Cargo.toml or a package.json. It is null if
- * no such string was found: Cargo's syntax can't say a range with a gap. semver_parser_free frees
- * it. */
+/* Makes a string that reads back, with the options of the range, as a range of the same versions,
+ * in the syntax of its dialect: what can be written into a Cargo.toml or a package.json. It is null
+ * if no such string was found: Cargo's syntax can't say a range with a gap. semver_parser_free
+ * frees it. */
 SEMVER_PARSER_CHECKED(1, 2)
 semver_parser_status semver_parser_range_to_requirement(
     const semver_parser_range *range, char **requirement);
@@ -453,7 +456,7 @@ typedef struct {
 /* Rewrites a range to plain comparators: `^1.2` gives `>=` 1.2.0 and `<` 2.0.0-0. In the crate's
  * dialects the second is `<` 2.0.0, unless `exact` is true. The comparators determine which
  * releases satisfy the range; for pre-releases use semver_parser_range.
- * semver_parser_comparators_free frees them. INVALID_RANGE, NUMBER_TOO_LARGE. */
+ * semver_parser_comparators_free frees them. Errors: INVALID_RANGE, NUMBER_TOO_LARGE. */
 SEMVER_PARSER_CHECKED(4)
 semver_parser_status semver_parser_comparators_of_range(
     semver_parser_string range, semver_parser_dialect dialect, bool exact,
@@ -548,9 +551,9 @@ typedef struct {
 
 /* Reads the terms of a range in order: `^1.2 || 3.x` has two. `count` is set to their number. At
  * most `capacity` of them are written to `terms`, which may be null if `capacity` is 0. You may
- * replace the bytes of a version with another partial version that the dialect's grammar allows; in
- * Cargo's dialect it must have a number. The grammar then still allows the string, but one of its
- * numbers may be too large. INVALID_RANGE, NUMBER_TOO_LARGE. */
+ * replace the bytes of a version with another partial version that the dialect's grammar allows;
+ * in Cargo's dialect it must have a number. The grammar then still allows the string, but one of
+ * its numbers may be too large. Errors: INVALID_RANGE, NUMBER_TOO_LARGE. */
 SEMVER_PARSER_CHECKED(5)
 semver_parser_status semver_parser_terms_of_range(
     semver_parser_string range, semver_parser_dialect dialect, semver_parser_term *terms,
@@ -559,26 +562,26 @@ semver_parser_status semver_parser_terms_of_range(
 /* Makes the string of a range in which a version of a term has the numbers of another version.
  * `written` is the version of the term, as semver_parser_terms_of_range returned it. The string
  * from which it was read must still be there. If the range is valid, and doesn't have this version
- * at this offset, the status is INVALID_ARGUMENT. Replace several versions of a range from the last
- * one to the first, so that the others stay where they are. The form of the version is kept: how
- * many components it has, its wildcards and its `v`. If it has three numbers, the pre-release of
- * the other version is written, too; the build metadata of the other version never is. If 3.1.4
+ * at this offset, the status is INVALID_ARGUMENT. Replace several versions of a range from the
+ * last one to the first, so that the others stay where they are. The form of the version is kept:
+ * how many components it has, its wildcards and its `v`. If it has three numbers, the pre-release
+ * of the other version is written, too; the build metadata of the other version never is. If 3.1.4
  * replaces the last version of `^1.x || v2`, it becomes `^1.x || v3`. Check the result with
  * semver_parser_check_range, since a raised bound may be too large. semver_parser_free frees it.
- * INVALID_RANGE, NUMBER_TOO_LARGE, INVALID_VERSION. */
+ * Errors: INVALID_RANGE, NUMBER_TOO_LARGE, INVALID_VERSION. */
 SEMVER_PARSER_CHECKED(2, 5)
 semver_parser_status semver_parser_replace_version(
     semver_parser_string range, const semver_parser_partial_version *written,
     semver_parser_string version, semver_parser_dialect dialect, char **replaced,
     semver_parser_error *error);
 
-/* Raises a requirement, so that it contains a newer version, and keeps how it is written: `^1.2` and
- * 2.3.4 give `^2.3`, and `~1.2 || ^2.0.0` and 3.1.0 give `~1.2 || ^2.0.0 || ^3.1.0`. The string is
- * null if the range has a version at or above the newer one, so nothing is ever lowered. The terms
- * after the last `||` are raised; operators, the number of components, wildcards, spaces and lower
- * bounds stay. The error of the version, whose index is 1, comes before that of the range.
- * semver_parser_free frees the string. INVALID_VERSION, INVALID_RANGE, NUMBER_TOO_LARGE,
- * CANNOT_UPGRADE. */
+/* Raises a requirement, so that it contains a newer version, and keeps how it is written: `^1.2`
+ * and 2.3.4 give `^2.3`, and `~1.2 || ^2.0.0` and 3.1.0 give `~1.2 || ^2.0.0 || ^3.1.0`. The
+ * string is null if the range has a version at or above the newer one, so nothing is ever lowered.
+ * The terms after the last `||` are raised; operators, the number of components, wildcards, spaces
+ * and lower bounds stay. The error of the version, whose index is 1, comes before that of the
+ * range. semver_parser_free frees the string. Errors: INVALID_VERSION, INVALID_RANGE,
+ * NUMBER_TOO_LARGE, CANNOT_UPGRADE. */
 SEMVER_PARSER_CHECKED(4)
 semver_parser_status semver_parser_upgrade(
     semver_parser_string range, semver_parser_string version, semver_parser_options options,
