@@ -77,7 +77,7 @@ copied() {
     rm -rf "$work/copy" "$work"/planted*
     mkdir -p "$work/copy/rust"
     cp crates.txt "$work/copy"
-    cp -R rust/Cargo.toml rust/src rust/tests "$work/copy/rust"
+    cp -R rust/Cargo.toml rust/programs rust/src rust/tests "$work/copy/rust"
     for crate in crates/*; do
         mkdir -p "$work/copy/$crate" && cp -R "$crate/src" "$work/copy/$crate"
     done
