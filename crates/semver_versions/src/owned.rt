@@ -139,7 +139,8 @@ impl Version {
     pub fn cmp_precedence(&self, other: &Version) -> Ordering
         ensures { result ≡ precedence (semver_of self.now) (semver_of other.now) }
     {
-        self.as_version_ref().cmp_precedence(&other.as_version_ref())
+        self.as_version_ref()
+            .cmp_precedence(&other.as_version_ref())
     }
 
     // Determined by: equation.
@@ -199,8 +200,8 @@ impl Model for Version {
     } };
 
     ghost invariant = { λ o. (o.pre_len ≤ length (string_bytes o.parts))
-      × (ArePartTexts (take o.pre_len (string_bytes o.parts))
-      × ArePartTexts (drop o.pre_len (string_bytes o.parts))) };
+        × (ArePartTexts (take o.pre_len (string_bytes o.parts))
+        × ArePartTexts (drop o.pre_len (string_bytes o.parts))) };
 }
 
 impl<'t> VersionRef<'t> {
@@ -233,8 +234,10 @@ impl<'t> VersionRef<'t> {
         if self.pre.is_empty() && self.build.is_empty() {
             return Ok(String::new(alloc));
         }
-        let mut parts =
-            String::with_capacity(alloc, self.pre.len().saturating_add(self.build.len()))?;
+        let mut parts = String::with_capacity(
+            alloc,
+            self.pre.len().saturating_add(self.build.len()),
+        )?;
         parts.push_str(self.pre())?;
         parts.push_str(self.build())?;
         Ok(parts)

@@ -120,7 +120,8 @@ impl Version {
     /// ```
     #[must_use]
     pub fn cmp_precedence(&self, other: &Version) -> Ordering {
-        self.as_version_ref().cmp_precedence(&other.as_version_ref())
+        self.as_version_ref()
+            .cmp_precedence(&other.as_version_ref())
     }
 
     /// Compares two versions like `VersionRef::cmp_all`.
@@ -173,8 +174,9 @@ impl<'t> VersionRef<'t> {
         if self.pre.is_empty() && self.build.is_empty() {
             return Ok(String::new());
         }
-        let mut parts =
-            String::fallible_with_capacity(self.pre.len().saturating_add(self.build.len()))?;
+        let mut parts = String::fallible_with_capacity(
+            self.pre.len().saturating_add(self.build.len()),
+        )?;
         parts.fallible_push_str(self.pre())?;
         parts.fallible_push_str(self.build())?;
         Ok(parts)
