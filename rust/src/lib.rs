@@ -18,7 +18,7 @@
 //! | know whether a version satisfies a range | [`satisfies`]; for many versions, [`VersionRange::contains`] |
 //! | choose from a list | [`VersionRange::highest`], [`VersionRange::lowest`] |
 //! | read, make, sort and compare versions | [`Version`]; [`VersionRef`] borrows its string and doesn't allocate |
-//! | compare and combine ranges | [`VersionRange`]: `&a & &b`, `&a \| &b`, `&a - &b`, [`is_subset`](VersionRange::is_subset) |
+//! | compare and combine ranges | [`VersionRange`]: [`VersionRange::is_subset`], [`is_disjoint`](VersionRange::is_disjoint), [`union`](VersionRange::union) and others; `&a & &b`, `&a \| &b` and `&a - &b` panic if the rules differ |
 //! | raise a requirement to a newer version | [`upgrade`](upgrade()) |
 //! | write a range into a manifest | [`VersionRange::to_requirement`] |
 //! | edit a range, and keep how it is written | [`terms`], [`PartialVersion::with_version`] |

@@ -228,26 +228,26 @@ fn the_lowest_version_is_one_of_the_dialect() {
 // ---------------------------------------------------------------- errors
 
 /// The string is printed in one line, with each character escaped that isn't a printable one of
-/// ASCII, and the caret is in the column of the character at the offset.
+/// ASCII, and the carets are in the columns of the span, which begins at the offset here.
 #[test]
-fn a_caret_is_below_the_character_at_the_offset() {
+fn carets_are_below_the_span() {
     let of_range = |range| VersionRange::parse(range, Dialect::Npm).unwrap_err();
     let rows = [
-        ("1 \u{e9}", 2, "1 \\u{e9}", 2),
-        ("1\t\u{e9}", 2, "1\\t\\u{e9}", 3),
-        ("1\t\t\u{e9}\u{4e2d}", 3, "1\\t\\t\\u{e9}\\u{4e2d}", 5),
-        ("\u{a0}1 \u{1b123}", 4, "\\u{a0}1 \\u{1b123}", 8),
-        ("\u{1b}[31m", 0, "\\u{1b}[31m", 0),
-        ("1\t\"", 2, "1\\t\\\"", 3),
-        ("1\t\\", 2, "1\\t\\\\", 3),
-        ("1\r\n\u{7f}", 3, "1\\r\\n\\u{7f}", 5),
-        ("\u{1f600}", 0, "\\u{1f600}", 0),
+        ("1 \u{e9}", 2, "1 \\u{e9}", 2, 6),
+        ("1\t\u{e9}", 2, "1\\t\\u{e9}", 3, 6),
+        ("1\t\t\u{e9}\u{4e2d}", 3, "1\\t\\t\\u{e9}\\u{4e2d}", 5, 14),
+        ("\u{a0}1 \u{1b123}", 4, "\\u{a0}1 \\u{1b123}", 8, 9),
+        ("\u{1b}[31m", 0, "\\u{1b}[31m", 0, 6),
+        ("1\t\"", 2, "1\\t\\\"", 3, 2),
+        ("1\t\\", 2, "1\\t\\\\", 3, 2),
+        ("1\r\n\u{7f}", 3, "1\\r\\n\\u{7f}", 5, 6),
+        ("\u{1f600}", 0, "\\u{1f600}", 0, 9),
     ];
-    for (range, offset, shown, column) in rows {
+    for (range, offset, shown, column, width) in rows {
         let error = of_range(range);
         assert_eq!(error.offset(), Some(offset), "{range:?}");
-        let caret = format!("{}^", " ".repeat(4 + column));
-        let wanted = format!("invalid range: unexpected character\n    {shown}\n{caret}");
+        let carets = format!("{}{}", " ".repeat(4 + column), "^".repeat(width));
+        let wanted = format!("invalid range: unexpected character\n    {shown}\n{carets}");
         assert_eq!(format!("{error:#}"), wanted, "{range:?}");
     }
 }
