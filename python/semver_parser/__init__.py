@@ -21,6 +21,7 @@ versions and ranges, and which versions satisfy a range.
 Strings are `str`, or `bytes` in UTF-8. These errors are raised:
 
 - `VersionError` or `RangeError` for an invalid string;
+- `UpgradeError` if a requirement can't be raised to a version;
 - `TypeError` for a value of another type;
 - `MemoryError` if memory runs out.
 
@@ -41,12 +42,13 @@ from typing import TYPE_CHECKING
 if TYPE_CHECKING:
     from ._comparators import Comparator, Comparators, Op, crate_comparators
     from ._comparing import Comparison, compare_ranges
-    from ._errors import RangeError, Reason, SemverError, VersionError
+    from ._errors import RangeError, Reason, SemverError, UpgradeError, VersionError
     from ._options import AnyDialect, AnyPreReleases, Dialect, PreReleases
     from ._ranges import Invalid, Range
     from ._satisfying import satisfies
     from ._strings import String
     from ._terms import Component, PartialVersion, Term, TermOperator, replace_version, terms
+    from ._upgrading import upgrade
     from ._versions import AnyVersion, Identifier, Version, precedence
 
 __version__ = "1.0.0"
@@ -72,6 +74,7 @@ __all__ = [
     "String",
     "Term",
     "TermOperator",
+    "UpgradeError",
     "Version",
     "VersionError",
     "compare_ranges",
@@ -80,13 +83,14 @@ __all__ = [
     "replace_version",
     "satisfies",
     "terms",
+    "upgrade",
 ]
 
 _UNPICKLE = "_unpickled_range"
 """The function that pickles name, besides the public classes."""
 
 _MODULES = ["strings", "options", "errors", "versions", "comparators", "terms", "ranges"]
-_MODULES += ["satisfying", "comparing"]
+_MODULES += ["satisfying", "comparing", "upgrading"]
 
 if not TYPE_CHECKING:
 

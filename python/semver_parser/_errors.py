@@ -2,7 +2,7 @@
 
 from typing import Literal, NamedTuple, Optional, Tuple, cast
 
-from ._interface import INVALID_RANGE, INVALID_VERSION, OK, CError, CVersion
+from ._interface import CANNOT_UPGRADE, INVALID_RANGE, INVALID_VERSION, OK, CError, CVersion
 from ._library import LIBRARY, check
 from ._options import AnyDialect, Dialect, dialect_of
 from ._strings import String, c_string, index_of, printed_or_none
@@ -45,6 +45,20 @@ class _Explanation(NamedTuple):
     span: Tuple[int, int]
     reason: Reason
     sentence: str
+
+
+def _text_of(status: int) -> str:
+    """Returns what a status means, in English."""
+    text: bytes = LIBRARY.semver_parser_status_text(status)
+    return text.decode("utf-8")
+
+
+def _shown(string: String) -> str:
+    """Returns a string as a message shows it: only its beginning if it is long."""
+    shown = repr(string)
+    if len(shown) > _LONGEST_SHOWN:
+        return f"{shown[:_LONGEST_SHOWN]}... (length {len(string)})"
+    return shown
 
 
 class SemverError(ValueError):
@@ -180,13 +194,9 @@ class SemverError(ValueError):
     def __str__(self) -> str:
         explained = self._explanation()
         status = self._STATUS if explained is None else explained.status
-        what = LIBRARY.semver_parser_status_text(status).decode("utf-8")
         index = "" if self.index is None else f", index {self.index}"
-        shown = repr(self.string)
-        if len(shown) > _LONGEST_SHOWN:
-            shown = f"{shown[:_LONGEST_SHOWN]}... (length {len(self.string)})"
         where = "" if explained is None else f" (offset {explained.offset}: {explained.sentence})"
-        return f"{what}{index}: {shown}{where}"
+        return f"{_text_of(status)}{index}: {_shown(self.string)}{where}"
 
 
 class VersionError(SemverError):
@@ -227,3 +237,27 @@ class RangeError(SemverError):
         number = self.dialect._number
         status: int = LIBRARY.semver_parser_check_range(c_string(self.string), number, error)
         return status
+
+
+class UpgradeError(ValueError):
+    """A requirement can't be raised to a version: the raised range wouldn't contain it.
+
+    - `range`: the requirement.
+    - `version`: the version, as a string.
+
+    >>> from semver_parser import upgrade
+    >>> try:
+    ...     upgrade("1.x", "2.0.0-rc.1", dialect="npm")
+    ... except UpgradeError as error:
+    ...     error.range, error.version
+    ('1.x', '2.0.0-rc.1')
+    """
+
+    def __init__(self, range: String, version: String) -> None:
+        super().__init__(range, version)
+        self.range = range
+        self.version = version
+
+    def __str__(self) -> str:
+        what = _text_of(CANNOT_UPGRADE)
+        return f"{what}: {_shown(self.range)}, {_shown(self.version)}"

@@ -12,6 +12,7 @@ INVALID_ARGUMENT = 5
 OUT_OF_MEMORY = 4
 DIFFERENT_DIALECTS = 6
 DIFFERENT_PRE_RELEASES = 7
+CANNOT_UPGRADE = 8
 
 
 class CString(ctypes.Structure):
@@ -127,6 +128,7 @@ def _status_functions() -> Dict[str, List[Any]]:
         "comparators_to_string": [address, printed],
         "replace_version": [one, to(CPartialVersion), one, number, printed, error],
         "terms_of_range": [one, number, to(CTerm), size, to(size), error],
+        "upgrade": [one, one, COptions, printed, error],
         "suggestion": [error, one, number, printed],
     }
 

@@ -65,6 +65,11 @@ def printed_or_none(function: Callable[..., int], *arguments: Any) -> Optional[s
     """Returns the string that a function of the library makes; None if it makes none."""
     string = ctypes.c_char_p()
     check(function(*arguments, string))
+    return taken(string)
+
+
+def taken(string: ctypes.c_char_p) -> Optional[str]:
+    """Returns a string that the library made, and frees it; None if it made none."""
     try:
         return None if string.value is None else string.value.decode("utf-8")
     finally:

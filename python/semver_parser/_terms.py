@@ -9,7 +9,7 @@ from ._interface import INVALID_RANGE, INVALID_VERSION, NUMBER_TOO_LARGE
 from ._interface import CComponent, CPartialVersion, CString, CTerm
 from ._library import LIBRARY, check
 from ._options import AnyDialect, Dialect, dialect_of
-from ._strings import String, c_string, indices_in
+from ._strings import String, c_string, indices_in, taken
 from ._versions import Version
 
 Component = Union[int, Literal["x", "X", "*"]]
@@ -136,10 +136,7 @@ def replace_version(
     if status == INVALID_VERSION:
         raise VersionError(other, dialect)
     check(status)
-    try:
-        return (replaced.value or b"").decode("utf-8")
-    finally:
-        LIBRARY.semver_parser_free(replaced)
+    return taken(replaced) or ""
 
 
 def _term(term: CTerm, index_at: Callable[[int], int]) -> Term:

@@ -45,7 +45,8 @@ def _shown(value: Any) -> str:
 def _shown_error(error: Exception) -> str:
     """Returns the class of an error and its values, which may raise another error."""
     said = [f"raises {type(error).__name__} {error.args!r}"]
-    for name in ("__str__", "index", "offset", "span", "reason", "sentence", "suggestion"):
+    names = ["__str__", "index", "offset", "span", "reason", "sentence", "suggestion"]
+    for name in [*names, "range", "version"]:
         try:
             it = getattr(error, name, None)
             said.append(f"{it() if callable(it) else it}")

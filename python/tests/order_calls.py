@@ -188,6 +188,8 @@ TEMPLATES: List[str] = [
     *["terms({range}, dialect={dialect})"] * 2,
     "Term(0, {op}, 0, 1, PartialVersion(0, 1, False, {number}, None, None, '', ''), None)",
     "replace_version({range}, terms({range}, dialect={dialect})[-1].version, {version}, dialect={dialect})",
+    *["upgrade({range}, {version}, {options})"] * 3,
+    "UpgradeError({range}, {version})",
     "precedence({version}, dialect={dialect})",
     "precedence({Version})",
     *(maker for makers in OBJECTS.values() for maker in makers),

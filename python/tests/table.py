@@ -113,6 +113,7 @@ def rows_of_tools() -> Iterator[Tuple[str, str, Row]]:
     - `meant`, or `meant-with-all` with all pre-releases: the versions that satisfy a range
     - `version`: the fields of a version
     - `refused`, `refused-range`: where and why a version or a range is invalid
+    - `upgraded`: a range that is raised to a version
     """
     for row in rows():
         function, _, tool = row.call.partition("-as-")

@@ -573,7 +573,8 @@ class Errors(unittest.TestCase):
         """Their numbers are those in the header."""
         header = Path(__file__).resolve().parents[2] / "rust/capi/include/semver_parser.h"
         numbers = dict(re.findall(r"^ *SEMVER_PARSER_(\w+) = (\d+),?$", header.read_text(), re.M))
-        names = ("OK", "INVALID_RANGE", "NUMBER_TOO_LARGE", "INVALID_VERSION", "OUT_OF_MEMORY")
+        names = ["OK", "INVALID_RANGE", "NUMBER_TOO_LARGE", "INVALID_VERSION", "OUT_OF_MEMORY"]
+        names += ["CANNOT_UPGRADE"]
         for name in names:
             self.assertEqual(getattr(_interface, name), int(numbers[name]), name)
 

@@ -12,10 +12,12 @@ from semver_parser import (
     PreReleases,
     Range,
     RangeError,
+    UpgradeError,
     Version,
     VersionError,
     precedence,
     satisfies,
+    upgrade,
 )
 from tests.table import answer, checksum, fields_of_version, is_too_large, rows, rows_of_tools
 
@@ -23,6 +25,7 @@ _SUM = "sum-of-"
 _VERSION = "version"
 _REFUSED = "refused"
 _NO_RANGE = "refused-range"
+_UPGRADED = "upgraded"
 _DIALECTS_OF_TOOLS = {"cargo": Dialect.CARGO, "npm": Dialect.NPM}
 _DIALECTS_OF_CRATE = {"crate-cargo": Dialect.CRATE_CARGO, "crate-npm": Dialect.CRATE_NPM}
 _DIALECTS_OF_REFUSED = {**_DIALECTS_OF_TOOLS, "crate": Dialect.CRATE_CARGO}
@@ -78,6 +81,8 @@ class Tools(unittest.TestCase):
                 elif function in _RULES_OF_MEANT:
                     rule = _RULES_OF_MEANT[function]
                     self.check_meaning(row.text, dialect, rule, row.steps.split(" "), row.wanted)
+                elif function == _UPGRADED:
+                    self.check_upgrade(row.text, dialect, row.steps, row.wanted)
                 else:
                     self.check_rewriting(row.text, dialect, row.wanted)
             counts[tool, function] += 1
@@ -90,6 +95,8 @@ class Tools(unittest.TestCase):
             self.assertGreaterEqual(counts[tool, _REFUSED], 15)
         for tool in (*_DIALECTS_OF_TOOLS, *_DIALECTS_OF_CRATE):
             self.assertGreaterEqual(counts[tool, _NO_RANGE], 69)
+        self.assertGreaterEqual(counts["cargo", _UPGRADED], 4)
+        self.assertGreaterEqual(counts["npm", _UPGRADED], 14)
 
     def check_refusal(self, text: str, dialect: Dialect, wanted: str) -> None:
         """Checks where and why a version is invalid; the table has the offset in bytes."""
@@ -109,6 +116,20 @@ class Tools(unittest.TestCase):
             offset = len(text[: error.offset].encode())
             name = _NAMES[is_too_large(error)].replace("-", " ")
             answered = f"{offset}: {name}, {error.reason}"
+        self.assertEqual(answered, wanted)
+
+    def check_upgrade(self, text: str, dialect: Dialect, version: str, wanted: str) -> None:
+        """Checks a range that is raised to a version, in quotes, or why it isn't."""
+        try:
+            raised = upgrade(text, version, dialect=dialect)
+            answered = "nothing to do" if raised is None else f'"{raised}"'
+        except VersionError:
+            answered = "invalid version"
+        except RangeError as error:
+            name = _NAMES[is_too_large(error)].replace("-", " ")
+            answered = f"invalid range: {name}"
+        except UpgradeError as error:
+            answered = str(error).partition(": ")[0]
         self.assertEqual(answered, wanted)
 
     def check_version(self, call: str, text: str, dialect: Dialect, wanted: str) -> None:
