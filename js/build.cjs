@@ -14,7 +14,7 @@ const [, , module_, directory] = process.argv
 const js = __dirname
 const PARTS = [
   'calls', 'names', 'options', 'errors', 'versions', 'increments', 'comparators', 'ranges',
-  'selections', 'terms',
+  'selections', 'terms', 'upgrades',
 ]
 const HEAD = '// Made of js/src, which has comments, and of the WebAssembly module.\n'
 

@@ -182,6 +182,16 @@ export declare class SemverError extends TypeError implements Explanation {
   readonly suggestion: string | null
 }
 
+/** A requirement can't be raised to a version: the raised range wouldn't contain it. */
+export declare class UpgradeError extends TypeError {
+  private constructor()
+  readonly name: 'UpgradeError'
+  /** The requirement. */
+  readonly range: string
+  /** The version. */
+  readonly version: string
+}
+
 /** The versions that are in a range and not in another. The comparators are npm's in each dialect. */
 export interface Part {
   /** The releases, or null if there are none. Read this range with `preReleases: 'excluded'`. */
@@ -300,6 +310,28 @@ export declare function terms<D extends Dialect = 'npm'>(range: string, options:
  * range or the other version is invalid, and a `TypeError` if the range doesn't have the version `written` there.
  */
 export declare function replaceVersion(range: string, written: TermVersion<Dialect>, version: AnyVersion, options?: OptionsOrLoose<Dialect>): string
+/**
+ * Raises a requirement, so that it contains a newer version, and keeps how it is written: `^1.2` and 2.3.4 give `^2.3`.
+ * Returns null if the range has a version at or above the newer one, so nothing is ever lowered.
+ *
+ * The terms after the last `||` are raised, if their bounds allow no version at or above the newer one:
+ *
+ * - The version of a term without an operator or with `=`, `~`, `^` or `<=`, and the right version of a hyphen range,
+ *   becomes the newer one, with as many components, with its wildcards and its `v`. The pre-release is written after
+ *   three numbers, and build metadata is left out.
+ * - If the result wouldn't contain the newer version then, and that is a pre-release, three numbers are written where
+ *   they mean the same: after `^`, after `~` instead of two, and in Cargo's dialect without an operator.
+ * - The version of `<` becomes the next one above the newer version. Its last number that isn't 0 says which number is
+ *   raised by one, and what follows that is 0. A pre-release `0` is kept.
+ * - `>=` and `>` are kept.
+ *
+ * If the range has `||` and would lose a version, then the raised terms are added as one more alternative instead.
+ * Everything else stays as it is.
+ *
+ * Throws a `SemverError` if the version is invalid, or else if the range is, and an `UpgradeError` if the raised range
+ * wouldn't contain the version, such as `1.x` for 2.0.0-rc.1.
+ */
+export declare function upgrade(range: string, version: AnyVersion, options?: OptionsOrLoose<Dialect>): string | null
 /** Returns the lowest version of all that satisfy a range; null if none does. */
 export declare function minVersion<D extends Dialect = 'npm'>(range: RangeOf<D>, options?: WithoutDialect): SemVer<D> | null
 export declare function minVersion<D extends Dialect = 'npm'>(range: AnyRange, options: OptionsOrLoose<D>): SemVer<D> | null

@@ -1,6 +1,6 @@
 // Tests the JavaScript package with the rows of crates/replayed_cases and rust/tests/layers: which
-// versions satisfy a range, what a version is parsed to, where and why a string is invalid, and how
-// two ranges compare.
+// versions satisfy a range, what a version is parsed to, where and why a string is invalid, how two
+// ranges compare, and what a raised range is.
 //
 //     node tests/js-rows.js PACKAGE
 'use strict';
@@ -33,6 +33,7 @@ const REFUSED_RANGES = {
     'refused-range-as-cargo': 'cargo', 'refused-range-as-npm': 'npm',
     'refused-range-as-crate-cargo': 'crate-cargo', 'refused-range-as-crate-npm': 'crate-npm',
 };
+const UPGRADED = { 'upgraded-as-cargo': 'cargo', 'upgraded-as-npm': 'npm' };
 const IS_ERROR = /^(not[- ]a[- ]range|number[- ]too[- ]large)$/;
 const NOTHING = '<0.0.0-0';
 
@@ -111,6 +112,22 @@ function askWholePair(what, range, other, options, answer) {
     expect(what, `lost ${shown(lost)}; gained ${shown(gained)}`, answer.replace(/; shared.*/, ''));
 }
 
+function askUpgrade(what, range, version, dialect, answer) {
+    expect(what, upgraded(range, version, dialect), answer);
+}
+
+// A range that is raised, in quotes, or why it isn't.
+function upgraded(range, version, dialect) {
+    try {
+        const raised = semver.upgrade(range, version, { dialect });
+        return raised === null ? 'nothing to do' : `"${raised}"`;
+    } catch (error) {
+        if (error instanceof semver.UpgradeError) return error.message.replace(/: .*/, '');
+        if (!(error instanceof semver.SemverError)) throw error;
+        return error.kind === 'version' ? 'invalid version' : 'invalid range: not a range';
+    }
+}
+
 const lines = (name) => TABLES.flatMap((table) =>
     fs.readFileSync(path.join(__dirname, '..', table, name), 'utf8').split('\n').slice(0, -1));
 const wanted = lines('stdout');
@@ -123,6 +140,7 @@ lines('stdin').forEach((line, at) => {
     if (call in VERSIONS) askVersion(what, string, VERSIONS[call], answer);
     if (call in REFUSED_VERSIONS) askWhy(what, string, semver.explainVersion(string, { dialect: REFUSED_VERSIONS[call] }), answer);
     if (call in REFUSED_RANGES) askWhy(what, string, semver.explainRange(string, { dialect: REFUSED_RANGES[call] }), answer);
+    if (call in UPGRADED) askUpgrade(what, string, expanded(list), UPGRADED[call], answer);
     if (call in PAIRS) askPair(what, string, expanded(list), PAIRS[call], answer);
     if (call in SETS) askSet(what, string, SETS[call], answer);
     if (call in WHOLES) askWhole(what, string, WHOLES[call], answer);

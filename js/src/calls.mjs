@@ -241,6 +241,18 @@ export function replaceOnce(range, start, version, dialect) {
   return call(begin, rangeLength, start, begin + rangeLength, length, dialect)
 }
 
+/**
+ * Makes a range that is raised to a version. Returns 0 if it was made, 1 if there is nothing to do,
+ * or else a negative number.
+ */
+export function upgradeOnce(range, version, dialect, rule) {
+  const { range_upgraded: call } = calls()
+  const rangeLength = hold(range)
+  const length = write(rangeLength, version)
+  const { begin } = buffer
+  return call(begin, rangeLength, begin + rangeLength, length, dialect, rule)
+}
+
 /** A string of ASCII that is in the memory. */
 export function stringAt(begin, length) {
   return decoder.decode(bytes.subarray(begin, begin + length))

@@ -38,6 +38,9 @@ export function explained(kind, string, { dialect }) {
   }
 }
 
+/** A string, as a message shows it. */
+const shortened = (string) => (string.length > 80 ? `${string.slice(0, 80)}...` : string)
+
 const BEGINS = { version: 'Invalid Version', range: 'Invalid SemVer Range' }
 
 /** A version or a range is invalid. */
@@ -49,11 +52,26 @@ export class SemverError extends TypeError {
   }
 
   constructor(kind, argument, input, explanation) {
-    const shown = input.length > 80 ? `${input.slice(0, 80)}...` : input
     const { offset, sentence } = explanation
-    super(`${BEGINS[kind]}: ${shown} (offset ${offset}: ${sentence})`)
+    super(`${BEGINS[kind]}: ${shortened(input)} (offset ${offset}: ${sentence})`)
     const fields = { kind, argument, input, ...explanation }
     for (const [name, value] of Object.entries(fields)) field(this, name, value)
+  }
+}
+
+/** A requirement can't be raised to a version. */
+export class UpgradeError extends TypeError {
+  static {
+    Object.defineProperty(this.prototype, 'name', {
+      value: 'UpgradeError', writable: true, configurable: true,
+    })
+  }
+
+  constructor(range, version) {
+    const shown = `${shortened(range)}, ${shortened(version)}`
+    super(`the requirement can't be raised to this version: ${shown}`)
+    field(this, 'range', range)
+    field(this, 'version', version)
   }
 }
 

@@ -1,6 +1,6 @@
 // What the package exports.
 export { init, ready } from './calls.mjs'
-export { SemverError } from './errors.mjs'
+export { SemverError, UpgradeError } from './errors.mjs'
 export {
   SemVer, cmp, compare, compareBuild, compareIdentifiers, compareLoose, eq, explainVersion, gt, gte,
   lt, lte, major, minor, neq, parse, patch, prerelease, rcompare, rcompareIdentifiers, rsort, sort,
@@ -14,3 +14,4 @@ export {
   minVersion, outside, satisfies, simplifyRange, subset, toComparators, validRange,
 } from './selections.mjs'
 export { replaceVersion, terms } from './terms.mjs'
+export { upgrade } from './upgrades.mjs'

@@ -99,7 +99,7 @@ class Instance {
     const isChanged = method === 'inc' || method === 'parse'
     const of = isChanged ? this.madeObject(object) : object && this.object(object)
     const found = method === undefined ? this.library[name] : of[method]
-    const isCall = typeof found === 'function' && name !== 'SemverError'
+    const isCall = typeof found === 'function' && !/Error$/.test(name)
     return isCall ? found.apply(of, given) : found
   }
 

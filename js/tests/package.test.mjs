@@ -271,6 +271,42 @@ test('a version in a range gets the numbers of another one', () => {
   assert.throws(() => semver.replaceVersion('^1.2', written, 5), /Invalid version\. Must be a string/)
 })
 
+test('a requirement is raised to a newer version', () => {
+  const raised = [
+    ['^1.2', '2.3.4', {}, '^2.3'], ['^1.2', '2.3.4', cargo, '^2.3'], ['~1.2 || ^2.0.0', '3.1.0', {}, '~1.2 || ^2.0.0 || ^3.1.0'],
+    ['^3', '2.0.0', {}, null], ['^3', '2.0.0', cargo, null], ['>= 1.2 , < 2.0.0', '2.3.0', cargo, '>= 1.2 , < 3.0.0'],
+    ['\u00a0^1.2\ufeff', '2.3.4', {}, '\u00a0^2.3\ufeff'],
+  ]
+  for (const [range, version, options, right] of raised) {
+    assert.equal(semver.upgrade(range, version, options), right, range)
+    assert.equal(semver.upgrade(range, new semver.SemVer(version, options), options), right, range)
+    assert.equal(semver.upgrade(range, new semver.SemVer(version, options)), right, range)
+  }
+})
+
+test('a requirement that cannot be raised, and invalid strings', () => {
+  const call = (options) => semver.upgrade('1.x', '2.0.0-rc.1', options)
+  assert.throws(call, (error) => {
+    assert.ok(error instanceof semver.UpgradeError && error instanceof TypeError && !(error instanceof semver.SemverError))
+    assert.throws(() => { error.range = '' }, TypeError)
+    assert.deepEqual({ ...error }, { range: '1.x', version: '2.0.0-rc.1' })
+    return String(error) === "UpgradeError: the requirement can't be raised to this version: 1.x, 2.0.0-rc.1"
+  })
+  assert.equal(semver.satisfies('2.0.0-rc.1', call({ preReleases: 'included' }), { preReleases: 'included' }), true)
+  assert.throws(() => semver.upgrade('^1.2', '2.0.0-rc.1', { preReleases: 'excluded' }), { name: 'UpgradeError' })
+  // The error of the version comes first.
+  for (const range of ['^1', '^^1', '1 || 2']) {
+    assert.throws(() => semver.upgrade(range, '1.2', cargo), { name: 'SemverError', kind: 'version', argument: 1, input: '1.2', offset: 3 })
+  }
+  const invalid = [['1 || 2', cargo, 2], ['^^1', {}, 1], ['1.\ud800', {}, 2], ['>=9007199254740992', {}, 2]]
+  for (const [range, options, offset] of invalid) {
+    assert.throws(() => semver.upgrade(range, '3.0.0', options), { name: 'SemverError', kind: 'range', argument: 0, input: range, offset })
+  }
+  for (const wrong of [5, null, new semver.Range('1')]) assert.throws(() => semver.upgrade(wrong, '2.0.0'), /Invalid range\. Must be a string/)
+  for (const wrong of [5, null, {}]) assert.throws(() => semver.upgrade('1', wrong), /Invalid version\. Must be a string/)
+  assert.throws(() => semver.upgrade('1', '2.0.0', { dialect: 'yarn' }), /unknown dialect/)
+})
+
 test('filter keeps the versions that satisfy a range, in order', () => {
   const versions = ['2.0.0', '1.4.0', 'x', '', '1.2.0', '1.1.0']
   assert.deepEqual(semver.filter(versions, '^1.2'), ['1.4.0', '1.2.0'])
@@ -547,7 +583,7 @@ test('the example of the README', () => {
   const readme = readFileSync(new URL('node_modules/semver-parser-proved/README.md', import.meta.url), 'utf8')
   const [, example] = /```js\n([^]*?)```/.exec(readme)
   const lines = [...example.matchAll(/^((?:new )?\w+\(.*\)[.\w]*)\s+\/\/ (.*?)(?: \(.*\))?$/gm)]
-  assert.equal(lines.length, 11)
+  assert.equal(lines.length, 15)
   for (const [, call, right] of lines) {
     const { default: all } = semver
     const found = Function(...Object.keys(all), `return ${call}`)(...Object.values(all))

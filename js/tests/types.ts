@@ -62,9 +62,16 @@ const satisfiedByAny: boolean = semver.satisfies(new semver.SemVer('1.2.3', C), 
 export { sum, ofBound, ofAlone, kept64, readAgain, lowestOfNpm, either, reason, lowest, place, satisfiedByAny }
 
 const replaced: string = semver.replaceVersion('^1.2', written[0].version, new semver.SemVer('2.0.0'))
+const upgraded: string | null = semver.upgrade('^1.2', new semver.SemVer('2.0.0'), { dialect: 'npm' })
+const notRaised = (error: semver.UpgradeError): [string, string] => [error.range, error.version]
 const componentOfCargo: bigint | 'x' | 'X' | '*' = semver.terms('1.2.3', C)[0].version.major
 const termOfEither = (dialect: semver.Dialect): number | bigint | 'x' | 'X' | '*' => semver.terms('1', { dialect })[0].version.major
-export { componentOfCargo, termOfEither }
+export { replaced, upgraded, notRaised, componentOfCargo, termOfEither }
+
+// @ts-expect-error: there may be nothing to raise
+const alwaysRaised: string = semver.upgrade('^1.2', '2.0.0')
+// @ts-expect-error: a requirement is a string
+semver.upgrade(new semver.Range('^1.2'), '2.0.0')
 
 // @ts-expect-error: the terms are those of a string
 semver.terms(new semver.Range('1'))

@@ -38,6 +38,7 @@ pub(crate) mod status {
     pub const INVALID_VERSION: i32 = -1;
     pub const INVALID_RANGE: i32 = -2;
     pub const OUT_OF_MEMORY: i32 = -3;
+    pub const CANNOT_UPGRADE: i32 = -4;
 }
 
 /// Returns an address where `len` bytes of strings can be written, or null if out of memory. What

@@ -4,6 +4,7 @@ use crate::proved::tool_ranges::npm::rewrite_included;
 use crate::shared::{self, rewrite, Combination, Dialect, Extreme, PreReleases, RangeError, Reason};
 use crate::errors::{refused, show_if_any, suggest};
 use crate::shared::{requirement, Expected, Rules, SatisfiesError, VersionRange as Range};
+use crate::shared::{upgraded, UpgradeError};
 use crate::{bytes, state, status};
 use alloc::alloc::{alloc, Layout};
 use alloc::boxed::Box;
@@ -47,6 +48,33 @@ pub unsafe extern "C" fn range_satisfied(
         Ok(answer) => answer.into(),
         Err(SatisfiesError::InvalidVersion) => status::INVALID_VERSION,
         Err(SatisfiesError::InvalidRange(_)) => status::INVALID_RANGE,
+    }
+}
+
+/// Outputs a requirement that is raised, so that it contains a newer version. Returns 0, or 1 if it
+/// has a version at or above that, or a status.
+///
+/// # Safety
+/// The addresses have as many bytes as their lengths say.
+#[no_mangle]
+pub unsafe extern "C" fn range_upgraded(
+    range: *const u8,
+    range_len: usize,
+    at: *const u8,
+    len: usize,
+    dialect: i32,
+    rule: i32,
+) -> i32 {
+    let (Some(rules), Some(range)) = (rules(dialect, rule), unsafe { string(range, range_len) })
+    else {
+        return status::INVALID_RANGE;
+    };
+    match upgraded(range, unsafe { bytes(at, len) }, rules) {
+        Ok(string) => show_if_any(string),
+        Err(UpgradeError::InvalidVersion) => status::INVALID_VERSION,
+        Err(UpgradeError::InvalidRange(_)) => status::INVALID_RANGE,
+        Err(UpgradeError::CannotUpgrade) => status::CANNOT_UPGRADE,
+        Err(UpgradeError::OutOfMemory) => status::OUT_OF_MEMORY,
     }
 }
 
