@@ -26,17 +26,6 @@ impl VersionSet {
     /// numeric identifiers of the borrowed version are read as the set reads them.
     ///
     /// `Err` means out of memory.
-    ///
-    /// ```
-    /// use semver_parser::{sets, Dialect, VersionRef};
-    ///
-    /// let set = sets::parse("^1.2.0", Dialect::Npm)?;
-    /// let version = VersionRef::parse("1.9.9", Dialect::Npm)?;
-    /// assert_eq!(set.has_at_or_above(&version), Ok(true));
-    /// let version = VersionRef::parse("2.0.0", Dialect::Npm)?;
-    /// assert_eq!(set.has_at_or_above(&version), Ok(false));
-    /// # Ok::<(), semver_parser::Error>(())
-    /// ```
     pub fn has_at_or_above(
         &self,
         alloc: Global,
