@@ -228,6 +228,12 @@ fn each_error_converts() {
     let memory = Error::from(RangeError::OutOfMemory);
     assert_eq!((memory.kind(), memory.to_string()), (ErrorKind::OutOfMemory, "out of memory".into()));
     assert_eq!(Error::from(parser::Error::OutOfMemory), memory);
+}
+
+#[cfg(feature = "std")]
+#[test]
+fn an_error_can_be_boxed() {
+    let memory = Error::from(RangeError::OutOfMemory);
     let boxed: Box<dyn std::error::Error + Send + Sync> = memory.into();
     assert_eq!(boxed.to_string(), "out of memory");
 }
