@@ -14,7 +14,7 @@ import re
 import sys
 
 TOP = os.path.dirname(os.path.dirname(os.path.abspath(__file__)))
-HEAD = ("ns a text", "here", "`semver-parser`", "`semver`", "ratio to `semver-parser`", "ratio to `semver`", "`semver` reads")
+HEAD = ("ns a string", "here", "`semver-parser`", "`semver`", "ratio to `semver-parser`", "ratio to `semver`", "`semver` reads")
 CRATES = (("semver-parser", "#33668c"), ("semver", "#cc7733"))
 TICKS = (0.1, 0.2, 0.5, 1, 2, 3)
 FIRST, LAST = 0.08, 3.8

@@ -19,19 +19,17 @@ pub mod ranges {}
 /// [written terms]: crate::docs::ranges#terms
 /// [rules]: crate::docs::ranges#pre-releases
 /// [crate's comparators]: crate::docs::original_crate#the-comparators
-/// [differences in reading]: crate::docs::grammar#differences
 #[doc = include_str!("../docs/MEANING.md")]
 pub mod meaning {}
 
-/// [crate's grammar]: crate::docs::original_crate#range-texts
+/// [crate's grammar]: crate::docs::original_crate#range-strings
 /// [identifiers]: crate::docs::original_crate#identifiers
-/// [differences of sets]: crate::docs::meaning#differences
 #[doc = include_str!("../docs/GRAMMAR.md")]
 pub mod grammar {}
 
 /// [terms]: crate::docs::meaning#terms
 /// [The theorem]: crate#what-is-proved
-/// [npm's grammar]: crate::docs::grammar#range-texts-of-npm
+/// [npm's grammar]: crate::docs::grammar#range-strings-of-npm
 /// [Cargo's grammar]: crate::docs::grammar#requirements-of-cargo
 #[doc = include_str!("../docs/CRATE.md")]
 pub mod original_crate {}

@@ -73,7 +73,7 @@ const COUNTS: [usize; 4] = [10, 1_000, 10_000, 100_000];
 
 /// Prints a table of the forms, and one of the calls on terms, separated by an empty line.
 pub fn print_tables() -> Result<(), String> {
-    print_head("instructions for a text of");
+    print_head("instructions for a string of");
     for form in &FORMS {
         print_row(form.name, form.name)?;
     }

@@ -141,7 +141,7 @@ fn stretches(lines: &str) -> Vec<String> {
 }
 
 fn print_head() {
-    print!("| ns a text | here | `semver-parser` | `semver` ");
+    print!("| ns a string | here | `semver-parser` | `semver` ");
     println!("| ratio to `semver-parser` | ratio to `semver` | `semver` reads |");
     println!("|---|---|---|---|---|---|---|");
 }
