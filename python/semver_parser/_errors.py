@@ -61,6 +61,12 @@ def _shown(string: String) -> str:
     return shown
 
 
+def _escaped(string: String) -> str:
+    """Returns a string in which all characters but the printable ones of ASCII are escaped."""
+    text = string if isinstance(string, str) else string.decode("utf-8", "backslashreplace")
+    return "".join(it if " " <= it <= "~" else ascii(it)[1:-1] for it in text)
+
+
 class SemverError(ValueError):
     """An invalid string: the base class of `VersionError` and `RangeError`.
 
@@ -197,6 +203,26 @@ class SemverError(ValueError):
         index = "" if self.index is None else f", index {self.index}"
         where = "" if explained is None else f" (offset {explained.offset}: {explained.sentence})"
         return f"{_text_of(status)}{index}: {_shown(self.string)}{where}"
+
+    def __format__(self, specification: str) -> str:
+        """Returns `str(self)`. With `#`, the string is in a line of its own, and carets are below its
+        span. Characters other than printable ones of ASCII are escaped there.
+
+        >>> print(f"{RangeError('1 || 2', 'cargo'):#}")
+        invalid range: Cargo doesn't accept ||; npm does
+            1 || 2
+              ^^
+        """
+        if specification != "#":
+            return format(str(self), specification)
+        explained = self._explained()
+        start, end = explained.span
+        before, marked = _escaped(self.string[:start]), _escaped(self.string[start:end])
+        return (
+            f"{_text_of(explained.status)}: {explained.sentence}\n"
+            f"    {before}{marked}{_escaped(self.string[end:])}\n"
+            f"    {' ' * len(before)}{'^' * max(1, len(marked))}"
+        )
 
 
 class VersionError(SemverError):

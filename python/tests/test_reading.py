@@ -481,6 +481,33 @@ class Errors(unittest.TestCase):
             with self.subTest(text=text):
                 self.assertEqual(RangeError(text, dialect).span, span)
 
+    def test_carets(self) -> None:
+        """With `#`, the string is in a line of its own, with carets below its span, as in Rust."""
+        for error, wanted in (
+            (
+                RangeError("1 || 2", "cargo"),
+                "invalid range: Cargo doesn't accept ||; npm does\n    1 || 2\n      ^^",
+            ),
+            (RangeError(">=", "npm"), "invalid range: a number is expected\n    >=\n      ^"),
+            (
+                RangeError("\n\té|", "npm"),
+                "invalid range: unexpected character\n    \\n\\t\\xe9|\n        ^^^^",
+            ),
+            (
+                RangeError(b"1.2 \xff", "npm"),
+                "invalid range: the string isn't UTF-8\n    1.2 \\xff\n        ^^^^",
+            ),
+            (
+                VersionError("1.2.03", "cargo"),
+                "invalid version: numbers and identifiers of digits may not have a leading zero\n"
+                "    1.2.03\n        ^^",
+            ),
+        ):
+            with self.subTest(error=repr(error)):
+                self.assertEqual(f"{error:#}", wanted)
+                self.assertEqual(f"{error}", str(error))
+                self.assertEqual(f"{error:>120}", str(error).rjust(120))
+
     def test_suggestions(self) -> None:
         """A suggestion repairs slips, and is a `str` whether the string is `str` or `bytes`."""
         for string, dialect, wanted in (
