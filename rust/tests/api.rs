@@ -50,7 +50,7 @@ fn functions_have_the_signatures_of_the_original() {
     let _: fn(&str) -> Result<RangeSet, String> = <RangeSet as FromStr>::from_str;
     let _: for<'a> fn(&'a str) -> Result<Version, parser::Error<'a>> = version::parse;
     let _: fn(version::Identifier, &str) -> version::Identifier = version::Identifier::concat;
-    let _: fn(&'static str) -> Lexer<'static> = Lexer::new;
+    let _: for<'a> fn(&'a str) -> Lexer<'a> = Lexer::new;
     let _: fn(&'static str) -> Result<Parser<'static>, parser::Error<'static>> = Parser::new;
 }
 

@@ -218,7 +218,7 @@ impl<'input> Lexer<'input> {
     /// ```
     #[must_use]
     #[inline(always)]
-    pub fn new(input: &'input str) -> Lexer<'input>
+    pub fn new(input: &str) -> Lexer<'_>
         ensures state { IsStateOf input.now result }
     {
         Lexer {

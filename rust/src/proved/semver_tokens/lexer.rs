@@ -180,7 +180,7 @@ impl<'input> Lexer<'input> {
     /// ```
     #[must_use]
     #[inline(always)]
-    pub fn new(input: &'input str) -> Lexer<'input> {
+    pub fn new(input: &str) -> Lexer<'_> {
         Lexer {
             input,
             position: 0,
