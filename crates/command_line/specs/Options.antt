@@ -1,6 +1,8 @@
 -- What the options for the dialect and for pre-releases mean.
 use Rattle.std.specs.Prelude.{◌≡◌, ◌⊎◌, ◌++◌, ⊤, Bool, true, false, if◌then◌else◌, codes}
 use Rattle.std.specs.Prelude.{Option, Some, None, Result, Ok, Err, MatchResult, string_bytes}
+use Rattle.std.specs.declared.io.kind.ErrorKind.{ErrorKind}
+use Rattle.std.specs.declared.io.kind.ErrorKind.TheVariants as kind
 use Rattle.semver_parser.specs.Texts.{Text}
 use Rattle.version_sets.specs.declared.PreReleases.{PreReleases}
 use Rattle.version_sets.specs.declared.PreReleases.TheVariants.{Excluded, Default, Included}
@@ -11,7 +13,8 @@ use Rattle.tool_ranges.specs.declared.meaning.Meaning.{Meaning}
 use Rattle.command_line.specs.declared.error.ArgumentError.{ArgumentError}
 use Rattle.command_line.specs.declared.error.ArgumentError.TheVariants.{NoDialect}
 use Rattle.command_line.specs.declared.error.ArgumentError.TheVariants.{GivenTwice, Contradiction}
-use Rattle.command_line.specs.declared.error.ArgumentError.TheVariants.{UnknownDialect, Unreadable}
+use Rattle.command_line.specs.declared.error.ArgumentError.TheVariants.{UnknownDialect, OutOfMemory}
+use Rattle.command_line.specs.declared.error.ArgumentError.TheVariants.{NotUtf8}
 
 -- the options that were taken: the dialect and the option that requested it, the rule for
 -- pre-releases, and whether the next argument is the name of the dialect
@@ -22,6 +25,11 @@ pub record OptionsValue : Type 0 where
 
 abbrev pub no_options : OptionsValue
 no_options = record { dialect = None; rule = None; wants_name = false }
+
+-- the error of arguments that can't be read. All but one kind mean that one of them isn't UTF-8
+abbrev pub unreadable : ErrorKind → ArgumentError
+unreadable kind.OutOfMemory = OutOfMemory
+unreadable _ = NotUtf8
 
 -- the option that requests a dialect by its name
 abbrev pub dialect_option_of : Dialect → Text
@@ -99,11 +107,11 @@ TellsContradiction option earlier (Contradiction told other) =
     (told.now ≡ option) × (other.now ≡ earlier)
 TellsContradiction option earlier _ = ⊥
 
--- the error is that no dialect has the name, or it is `Unreadable`, which is returned if memory
+-- the error is that no dialect has the name, or it is `OutOfMemory`, which is returned if memory
 -- runs out
 abbrev pub TellsUnknown : Text → ArgumentError → Type 0
 TellsUnknown name (UnknownDialect told) = string_bytes told.text ≡ name
-TellsUnknown name Unreadable = ⊤
+TellsUnknown name OutOfMemory = ⊤
 TellsUnknown name _ = ⊥
 
 -- the result is an error for which `Is` is true

@@ -3,6 +3,7 @@
 use invalid_strings::escaped::Escaped;
 use std::alloc::AllocError;
 use std::fmt::{self, Display, Formatter};
+use std::io::{self, ErrorKind};
 use thiserror::Error;
 
 /// An argument, which is printed in quotes, with [`Escaped`] characters.
@@ -33,17 +34,23 @@ impl Display for Quoted {
 /// An error in the arguments of a program. Options are printed as they are written.
 #[derive(Debug, Error, Drop)]
 pub enum ArgumentError {
-    /// The arguments can't be read, or memory ran out.
-    #[error("cannot read arguments")]
-    Unreadable,
+    /// An argument isn't a string.
+    #[error("an argument is not UTF-8")]
+    NotUtf8,
+    /// An allocation failed.
+    #[error("out of memory")]
+    OutOfMemory,
     /// This option is unknown.
     #[error("unknown option: {0}")]
     UnknownOption(Quoted),
+    /// This option has a value after `=`, and doesn't accept one.
+    #[error("the option does not accept a value: {0}")]
+    NeedlessValue(Quoted),
     /// Nothing follows `--dialect`, or `--as`.
     #[error("--dialect needs a name")]
     NoDialect,
     /// The string after `--dialect` isn't the name of a dialect.
-    #[error("unknown dialect: {0}")]
+    #[error("unknown dialect: {0}, which is none of cargo, npm, crate-cargo and crate-npm")]
     UnknownDialect(Quoted),
     /// Nothing follows `--prefix`.
     #[error("--prefix needs a value")]
@@ -66,9 +73,9 @@ pub enum ArgumentError {
     /// `--reverse` is given without `--sort`.
     #[error("--reverse needs --sort")]
     NoOrder,
-    /// There is no range.
-    #[error("no range")]
-    NoRange,
+    /// There is no range. These are the arguments that are needed.
+    #[error("no range: the arguments are {0}")]
+    NoRange(&'static str),
     /// There are more than two ranges.
     #[error("more than two ranges")]
     MoreThanTwoRanges,
@@ -76,11 +83,28 @@ pub enum ArgumentError {
 
 impl From<AllocError> for ArgumentError {
     ghost use Rattle.std.specs.Prelude.{◌≡◌};
-    ghost use Rattle.command_line.specs.declared.error.ArgumentError.TheVariants.{Unreadable};
+    ghost use Rattle.command_line.specs.declared.error.ArgumentError.TheVariants.{OutOfMemory};
 
-    ghost from_gives = { λ _ e. e ≡ Unreadable };
+    ghost from_gives = { λ _ e. e ≡ OutOfMemory };
 
     fn from(_error: AllocError) -> ArgumentError {
-        ArgumentError::Unreadable
+        ArgumentError::OutOfMemory
+    }
+}
+
+// Determined by: equation.
+impl From<io::Error> for ArgumentError {
+    ghost use Rattle.std.specs.Prelude.{◌≡◌};
+    ghost use Rattle.std.specs.IoError.{error_kind};
+    ghost use Rattle.command_line.specs.Options.{unreadable};
+
+    ghost from_gives = { λ error e. e ≡ unreadable (error_kind error) };
+
+    /// Returns the error of arguments that can't be read.
+    fn from(error: io::Error) -> ArgumentError {
+        match error.kind() {
+            ErrorKind::OutOfMemory => ArgumentError::OutOfMemory,
+            _ => ArgumentError::NotUtf8,
+        }
     }
 }

@@ -57,16 +57,16 @@ impl MeaningOptions {
         }
     }
 
-    // Determined by: free, UnknownDialect or Unreadable: ../../tests/runs/release-filter.
+    // Determined by: free, UnknownDialect or OutOfMemory: ../../tests/runs/release-filter.
     /// Takes an argument. Returns whether it is one of these options, or the name after `--dialect`
     /// or `--as`. Other arguments are left to the program.
     ///
     /// # Errors
     ///
     /// `UnknownDialect` for a name that no dialect has; only this error can be replaced by
-    /// `Unreadable`. `Contradiction` if an earlier option has another value, and `GivenTwice` if it
-    /// has the same value and is about pre-releases; both name the long forms. After an error the
-    /// options are those before it, and no name is expected.
+    /// `OutOfMemory`. `Contradiction` if an earlier option has another value, and `GivenTwice` if
+    /// it has the same value and is about pre-releases; both name the long forms. After an error
+    /// the options are those before it, and no name is expected.
     pub fn take(&mut self, alloc: Global, argument: &str) -> Result<bool, ArgumentError>
         // A name after `--dialect` requests that dialect, if none was requested before.
         ensures dialect { (dialect : Dialect) → Names self.old argument.now (name_of dialect)

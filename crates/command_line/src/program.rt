@@ -42,7 +42,7 @@ impl Program {
     {
         let name = self.name;
         let _ = match error {
-            ArgumentError::Unreadable => eprintln!(rt; "{name}: {error}"),
+            ArgumentError::NotUtf8 | ArgumentError::OutOfMemory => eprintln!(rt; "{name}: {error}"),
             _ => eprintln!(rt; "{name}: {error}; see {name} --help"),
         };
         ExitCode::from(2)

@@ -125,9 +125,7 @@ impl Options {
 /// Returns the request of the arguments. An argument that begins with a hyphen is an option, up to
 /// the first `--`. This doesn't apply to the values of `--dialect`, `--as` and `--fail-on`.
 pub fn requested(rt: &(impl Env + AllocGlobal)) -> Result<Request, ArgumentError> {
-    let Ok(mut arguments) = env::args(rt) else {
-        return Err(ArgumentError::Unreadable);
-    };
+    let mut arguments = env::args(rt)?;
     let _program = arguments.next();
     let mut range = None;
     let mut new = None;
@@ -146,7 +144,7 @@ pub fn requested(rt: &(impl Env + AllocGlobal)) -> Result<Request, ArgumentError
             "--version" if options.has_more => return Ok(Request::Version),
             text if options.has_more && text.starts_with('-') => {
                 if !options.take(text)? {
-                    return Err(ArgumentError::UnknownOption(Quoted { text: argument }));
+                    return Err(unknown(rt, argument, meaning, options));
                 }
             }
             _ if new.is_some() => return Err(ArgumentError::MoreThanTwoRanges),
@@ -155,6 +153,27 @@ pub fn requested(rt: &(impl Env + AllocGlobal)) -> Result<Request, ArgumentError
         }
     }
     request_of(range, new, meaning, options)
+}
+
+/// Returns the error for an option that isn't known. What is before `=` in it may be known.
+fn unknown(
+    rt: &impl AllocGlobal,
+    option: String,
+    mut meaning: MeaningOptions,
+    mut options: Options,
+) -> ArgumentError {
+    let is_known = match option.as_str().split_once('=') {
+        Some((name, _)) => {
+            !matches!(meaning.take(rt.alloc(), name), Ok(false))
+                || !matches!(options.take(name), Ok(false))
+        }
+        None => false,
+    };
+    if is_known {
+        ArgumentError::NeedlessValue(Quoted { text: option })
+    } else {
+        ArgumentError::UnknownOption(Quoted { text: option })
+    }
 }
 
 /// Returns the request of arguments that are taken one by one.
@@ -170,7 +189,7 @@ fn request_of(
     let has_dialect = meaning.has_dialect();
     let meaning = meaning.finish()?;
     let Some(range) = range else {
-        return Err(ArgumentError::NoRange);
+        return Err(ArgumentError::NoRange("OLD NEW, or one RANGE"));
     };
     if options.fails_on.is_some() && new.is_none() {
         return Err(ArgumentError::NoComparison);

@@ -210,7 +210,7 @@ impl Options {
 fn push(texts: &mut Vec<String>, text: String) -> Result<(), ArgumentError> {
     match texts.push(text) {
         Ok(()) => Ok(()),
-        Err(_) => Err(ArgumentError::Unreadable),
+        Err(_) => Err(ArgumentError::OutOfMemory),
     }
 }
 
@@ -227,9 +227,7 @@ fn given_once(option: &'static str, is_given: &mut bool) -> Result<(), ArgumentE
 /// the first `--`. This doesn't apply to a single `-`, and to the values of `--prefix`, `--only`,
 /// `--dialect` and `--as`.
 pub fn requested(rt: &(impl Env + AllocGlobal)) -> Result<Request, ArgumentError> {
-    let Ok(mut arguments) = env::args(rt) else {
-        return Err(ArgumentError::Unreadable);
-    };
+    let mut arguments = env::args(rt)?;
     let _program = arguments.next();
     let mut range = None;
     let mut files = Vec::new(rt.alloc());
@@ -248,7 +246,7 @@ pub fn requested(rt: &(impl Env + AllocGlobal)) -> Result<Request, ArgumentError
             "--version" if options.has_more => return Ok(Request::Version),
             text if options.has_more && text.starts_with('-') && text != "-" => {
                 if !options.take(rt, text)? {
-                    return Err(ArgumentError::UnknownOption(Quoted { text: argument }));
+                    return Err(unknown(rt, argument, meaning, options));
                 }
             }
             _ if range.is_some() => push(&mut files, argument)?,
@@ -256,6 +254,27 @@ pub fn requested(rt: &(impl Env + AllocGlobal)) -> Result<Request, ArgumentError
         }
     }
     request_of(range, files, meaning, options)
+}
+
+/// Returns the error for an option that isn't known. What is before `=` in it may be known.
+fn unknown(
+    rt: &impl AllocGlobal,
+    option: String,
+    mut meaning: MeaningOptions,
+    mut options: Options,
+) -> ArgumentError {
+    let is_known = match option.as_str().split_once('=') {
+        Some((name, _)) => {
+            !matches!(meaning.take(rt.alloc(), name), Ok(false))
+                || !matches!(options.take(rt, name), Ok(false))
+        }
+        None => false,
+    };
+    if is_known {
+        ArgumentError::NeedlessValue(Quoted { text: option })
+    } else {
+        ArgumentError::UnknownOption(Quoted { text: option })
+    }
 }
 
 /// Returns the request of arguments that are taken one by one.
@@ -285,6 +304,6 @@ fn request_of(
             files,
             options,
         })),
-        None => Err(ArgumentError::NoRange),
+        None => Err(ArgumentError::NoRange("RANGE [FILE]...")),
     }
 }

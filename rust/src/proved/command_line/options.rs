@@ -1,6 +1,7 @@
 // Made by tools/erase.py from crates/command_line/src/options.rt; not edited by hand.
 //! The options for the dialect, `--dialect`, `--as` and `--npm`, and for pre-releases,
 //! `--include-prerelease`, `--releases-only` and their short forms.
+#![cfg(feature = "std")]
 
 use crate::rattle_std::prelude::*;
 use crate::proved::command_line::error::{ArgumentError, Quoted};
@@ -34,9 +35,9 @@ impl MeaningOptions {
     /// # Errors
     ///
     /// `UnknownDialect` for a name that no dialect has; only this error can be replaced by
-    /// `Unreadable`. `Contradiction` if an earlier option has another value, and `GivenTwice` if it
-    /// has the same value and is about pre-releases; both name the long forms. After an error the
-    /// options are those before it, and no name is expected.
+    /// `OutOfMemory`. `Contradiction` if an earlier option has another value, and `GivenTwice` if
+    /// it has the same value and is about pre-releases; both name the long forms. After an error
+    /// the options are those before it, and no name is expected.
     pub fn take(&mut self, argument: &str) -> Result<bool, ArgumentError> {
         if self.wants_name {
             self.wants_name = false;

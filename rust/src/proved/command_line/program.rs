@@ -37,7 +37,7 @@ impl Program {
     pub fn misused(self, rt: &impl Eprint, error: &ArgumentError) -> ExitCode {
         let name = self.name;
         let _ = match error {
-            ArgumentError::Unreadable => crate::rattle_std::fallible_eprintln!(rt; "{name}: {error}"),
+            ArgumentError::NotUtf8 | ArgumentError::OutOfMemory => crate::rattle_std::fallible_eprintln!(rt; "{name}: {error}"),
             _ => crate::rattle_std::fallible_eprintln!(rt; "{name}: {error}; see {name} --help"),
         };
         ExitCode::from(2)
