@@ -74,7 +74,8 @@ const VERSION: &str = "compare-ranges 1.0.0";
 const BY_CARGO: &str = "this is by Cargo's rules, and npm's rules give another result; \
 choose with --dialect cargo or --npm";
 
-/// What standard error says after an error if no option named a dialect, and npm can read the range.
+/// What standard error says after an error if no option named a dialect, and npm can read the
+/// range.
 const IN_NPM: &str = "npm reads this range; for npm's rules, use --npm";
 
 /// The error of a run.

@@ -1,6 +1,6 @@
--- The offset of the number that is too large. It is in the first term that doesn't fit: the first of
--- its numbers that is above the limit of the dialect, or if there is none, the number that is raised
--- and can't be.
+-- The offset of the number that is too large. It is in the first term that doesn't fit: the first
+-- of its numbers that is above the limit of the dialect, or if there is none, the number that is
+-- raised and can't be.
 use Rattle.std.specs.Prelude.{◌≡◌, ℕ, suc, ◌+◌, Bool, ◌&&◌, ◌==◌, if◌then◌else◌, Option, Some}
 use Rattle.std.specs.Prelude.{None, unwrap_or, option_map, option_to_list, List, ◌∷◌, length}
 use Rattle.std.specs.Prelude.{take}

@@ -63,8 +63,8 @@ fn may_end(byte: u8) -> bool {
     byte.is_ascii_alphanumeric() || matches!(byte, b'*' | b'|')
 }
 
-/// Returns the end of the longest prefix of a string with which some range begins. It takes
-/// O(n log n) time for n bytes, and allocates one buffer of n + 8 bytes. `AllocError` if that fails.
+/// Returns the end of the longest prefix of a string with which some range begins. It takes O(n log
+/// n) time for n bytes, and allocates one buffer of n + 8 bytes. `AllocError` if that fails.
 pub(crate) fn prefix_end(alloc: Global, dialect: Dialect, text: &str) -> Result<usize, AllocError>
     ensures { IfOk result (λ offset. IsLongestPrefix (BeginsAs dialect) text.now offset) }
 {

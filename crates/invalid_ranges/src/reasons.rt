@@ -12,7 +12,8 @@ ghost use Rattle.invalid_ranges.specs.RangeReasons.{has_leading_zero, is_begun, 
 ghost use Rattle.invalid_ranges.specs.RangeReasons.{is_operator, is_separator, is_spaces};
 ghost use Rattle.invalid_ranges.specs.RangeReasons.{is_wildcard, is_word, reason_at_end, reason_by};
 ghost use Rattle.invalid_ranges.specs.RangeReasons.{reason_of, reason_of_any, reason_of_cargo};
-ghost use Rattle.invalid_ranges.specs.RangeReasons.{reason_of_comma, reason_of_crate, reason_of_npm};
+ghost use Rattle.invalid_ranges.specs.RangeReasons.{reason_of_comma, reason_of_crate};
+ghost use Rattle.invalid_ranges.specs.RangeReasons.{reason_of_npm};
 
 use crate::offset::is_range;
 use invalid_strings::buffers::join;

@@ -43,7 +43,8 @@ row_of reason.NpmComma =
     (pos 17, codes "npm-comma", codes "npm separates comparators by spaces; Cargo takes commas")
 row_of reason.CrateComma =
     (pos 18, codes "crate-comma", codes "the crate doesn't accept commas; Cargo does")
-row_of reason.CrateV = (pos 19, codes "crate-v", codes "the crate doesn't accept a leading v; npm does")
+row_of reason.CrateV =
+    (pos 19, codes "crate-v", codes "the crate doesn't accept a leading v; npm does")
 row_of reason.NpmTooLarge =
     (pos 20, codes "npm-too-large", codes "npm's numbers are at most 2^53 - 1")
 row_of reason.TooManyComparators =

@@ -36,7 +36,8 @@ first_form operator.Hyphen = at_least
 -- the version after a hyphen, if there is one, is that of the other term
 abbrev pub IsUpperOf : Dialect → Text → Option WrittenVersion → List Simple → Type 0
 IsUpperOf d t None ss = ss ≡ []
-IsUpperOf d t (Some v) ss = (p : PartialTree) × IsSpelled t p v × (ss ≡ read_in d (right_side p) ∷ [])
+IsUpperOf d t (Some v) ss =
+    (p : PartialTree) × IsSpelled t p v × (ss ≡ read_in d (right_side p) ∷ [])
 
 -- a term as it is written is this term of the tree, or both sides of a hyphen range
 pub record IsTermOf (d : Dialect) (t : Text) (x : WrittenTerm) (ss : List Simple) : Type 0 where

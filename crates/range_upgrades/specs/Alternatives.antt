@@ -1,6 +1,7 @@
 -- The alternatives of a range, which `||` separates.
 use Prim.Native.Char.{code}
-use Rattle.std.specs.Prelude.{◌≡◌, ℕ, ◌+◌, ◌<◌, ◌==◌, if◌then◌else◌, Option, Some, None, List, [], ◌∷◌}
+use Rattle.std.specs.Prelude.{◌≡◌, ℕ, ◌+◌, ◌<◌, ◌==◌, if◌then◌else◌, Option, Some, None, List}
+use Rattle.std.specs.Prelude.{[], ◌∷◌}
 use Rattle.std.specs.Prelude.{length, slice_index}
 use Rattle.semver_texts.specs.Texts.{Text}
 use Rattle.range_terms.specs.WrittenTerms.{WrittenTerm}

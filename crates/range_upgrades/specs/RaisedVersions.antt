@@ -1,6 +1,7 @@
 -- What replaces the version of a term that is raised to a newer version.
 use Prim.Native.Char.{code}
-use Rattle.std.specs.Prelude.{ℕ, ◌+◌, ◌^◌, ◌<◌, ◌==◌, Bool, true, false, ◌||◌, ◌&&◌, not, nat_lt, codes}
+use Rattle.std.specs.Prelude.{ℕ, ◌+◌, ◌^◌, ◌<◌, ◌==◌, Bool, true, false, ◌||◌, ◌&&◌, not}
+use Rattle.std.specs.Prelude.{nat_lt, codes}
 use Rattle.std.specs.Prelude.{if◌then◌else◌, Option, Some, is_some, [], ◌∷◌, option_map}
 use Rattle.semver_texts.specs.Texts.{Text}
 use Rattle.semver_versions.specs.VersionRefs.{VersionRefValue}

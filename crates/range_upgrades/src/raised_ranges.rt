@@ -1,6 +1,7 @@
 //! The text of a range whose last alternative is raised to a newer version.
 
-ghost use Rattle.std.specs.Prelude.{◌≡◌, ◌≢◌, ◌++◌, None, IfErr, IfOk, IfSome, true, false, string_bytes};
+ghost use Rattle.std.specs.Prelude.{◌≡◌, ◌≢◌, ◌++◌, None, IfErr, IfOk, IfSome, true, false};
+ghost use Rattle.std.specs.Prelude.{string_bytes};
 ghost use Rattle.semver_texts.specs.Texts.{Text};
 ghost use Rattle.semver_versions.specs.VersionRefs.{version_of};
 ghost use Rattle.semver_ranges.specs.RangeTree.{SetTree};
@@ -211,8 +212,8 @@ pub(crate) fn extended(
     Ok(Some(format!(in alloc; "{before}{between}{raised}{after}")?))
 }
 
-/// Returns the part of a string between two offsets, or `None` if one of them divides a character or
-/// they aren't in order.
+/// Returns the part of a string between two offsets, or `None` if one of them divides a character
+/// or they aren't in order.
 fn part(text: &str, start: usize, end: usize) -> Option<&str>
     ensures some { IfSome result (λ part. IsPart text.now start end part.now) }
     ensures none { result ≡ None → (part : Text) → ¬ (IsPart text.now start end part) }

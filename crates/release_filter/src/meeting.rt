@@ -2,7 +2,8 @@
 
 ghost use Rattle.std.specs.Prelude.{◌≡◌, ◌&&◌};
 ghost use Rattle.std.specs.List.{list_all, list_any};
-ghost use Rattle.semver_ranges.specs.SatisfiedComparators.{meets_comparator, meets_range, meets_set};
+ghost use Rattle.semver_ranges.specs.SatisfiedComparators.{meets_comparator, meets_range};
+ghost use Rattle.semver_ranges.specs.SatisfiedComparators.{meets_set};
 ghost use Rattle.semver_ranges.specs.RangeViews.{comparator_of, range_of, set_of};
 ghost use Rattle.semver_texts.specs.VersionViews.{version_value};
 ghost use Rattle.version_sets.specs.PreReleaseRules.{is_release};

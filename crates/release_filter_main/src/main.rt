@@ -81,7 +81,8 @@ const VERSION: &str = "release-filter 1.0.0";
 const BY_CARGO: &str = "the range was read by Cargo's rules, and has other versions by npm's; \
 choose with --dialect cargo or --npm";
 
-/// What standard error says after an error if no option named a dialect, and npm can read the range.
+/// What standard error says after an error if no option named a dialect, and npm can read the
+/// range.
 const IN_NPM: &str = "npm reads this range; for npm's rules, use --npm";
 
 fn main(rt: HostRuntime) -> ExitCode {
@@ -120,8 +121,8 @@ fn filtered(rt: &HostRuntime, filtering: &Filtering) -> Result<bool, Error> {
     Ok(has_lines)
 }
 
-/// Returns whether the range was read by Cargo's rules since no option named a dialect, and has other
-/// versions by npm's.
+/// Returns whether the range was read by Cargo's rules since no option named a dialect, and has
+/// other versions by npm's.
 fn is_other_in_npm(alloc: Global, filtering: &Filtering) -> bool {
     if filtering.has_dialect {
         return false;

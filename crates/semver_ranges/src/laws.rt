@@ -9,7 +9,8 @@ ghost use Rattle.semver_texts.specs.Precedence.{precedence};
 ghost use Rattle.semver_ranges.specs.CrateMeaning.{meets_tree};
 ghost use Rattle.semver_ranges.specs.RewritingTable.{PlainSet, fits, rewritten};
 ghost use Rattle.semver_ranges.specs.ExactBounds.{exact_bound, rewritten_exactly};
-ghost use Rattle.semver_ranges.specs.SatisfiedComparators.{is_pre_release_of, meets_set, meets_tree_or_bounds};
+ghost use Rattle.semver_ranges.specs.SatisfiedComparators.{is_pre_release_of, meets_set};
+ghost use Rattle.semver_ranges.specs.SatisfiedComparators.{meets_tree_or_bounds};
 ghost use Rattle.semver_ranges.specs.StatedPreReleases.{meets_set_as_stated, meets_tree_as_stated};
 ghost use Rattle.semver_ranges.specs.PrintedRanges.{IsPrintableSet, set_text};
 

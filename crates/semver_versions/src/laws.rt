@@ -44,8 +44,8 @@ pub fn numbers_of_refs_fit(version: &VersionRef<'_>)
     let _ = (version.major, version.minor, version.patch);
 }
 
-/// The order of borrowed versions is total, and two of them are equal in it if and only if they have
-/// the same numbers, pre-release and build metadata.
+/// The order of borrowed versions is total, and two of them are equal in it if and only if they
+/// have the same numbers, pre-release and build metadata.
 pub fn order_is_total()
     ensures total { IsTotalOrder order }
     ensures same { (a b : VersionRefValue) → (order a b ≡ Equal) ↔ HaveSameParts a b }

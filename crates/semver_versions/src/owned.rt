@@ -250,8 +250,8 @@ impl fmt::Display for Version {
 
     ghost output = { λ version. Some (ref_text version) };
 
-    /// Writes what `Display` of [`VersionRef`] writes. It does not allocate, and its only error is the
-    /// writer's.
+    /// Writes what `Display` of [`VersionRef`] writes. It does not allocate, and its only error is
+    /// the writer's.
     fn fmt<W: fmt::Write>(&self, f: &mut fmt::Formatter<W>) -> fmt::Result {
         let version = self.as_version_ref();
         write!(f, "{version}")

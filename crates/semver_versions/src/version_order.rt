@@ -66,8 +66,8 @@ impl<'t> VersionRef<'t> {
 }
 
 // Determined by: equation.
-/// Compares two versions by precedence, where numeric identifiers of both are read as `digits` says.
-/// It does not allocate.
+/// Compares two versions by precedence, where numeric identifiers of both are read as `digits`
+/// says. It does not allocate.
 #[must_use]
 pub fn compare_by(digits: Digits, version: &Version, other: &Version) -> Ordering
     ensures { result ≡ precedence (plain_by digits (version_value version.now).plain)
@@ -88,7 +88,8 @@ impl<'t> fmt::Display for VersionRef<'t> {
     ghost output = { λ version. Some (ref_text version) };
 
     /// Writes `major.minor.patch`, then `-` and the pre-release if there is one, and then `+` and
-    /// the build metadata if there is any. It does not allocate, and its only error is the writer's.
+    /// the build metadata if there is any. It does not allocate, and its only error is the
+    /// writer's.
     fn fmt<W: fmt::Write>(&self, f: &mut fmt::Formatter<W>) -> fmt::Result {
         let (major, minor, patch) = (self.major, self.minor, self.patch);
         write!(f, "{major}.{minor}.{patch}")?;

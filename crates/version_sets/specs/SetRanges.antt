@@ -90,7 +90,8 @@ of_pre_releases = record { next = next_pre_release; end = pre_release_end }
 -- the comparators of an interval: `=` if it has only one version, otherwise its bounds
 abbrev pub interval : Kind → PlainVersion → Option PlainVersion → List PlainComparator
 interval kind from to =
-    if is_same_end to (kind.next from) then comparator Eq from ∷ [] else bound_comparators kind.end from to
+    if is_same_end to (kind.next from) then comparator Eq from ∷ []
+    else bound_comparators kind.end from to
 
 -- comparators as a range in npm mode
 abbrev pub npm_range : List PlainComparator → PlainRange

@@ -121,7 +121,8 @@ impl<L: SpanEnd> Bounds<L> {
     /// Returns the boundaries of the versions. `Err` means out of memory.
     pub(crate) fn boundaries(self, alloc: Global) -> Result<Vec<L::Boundary>, AllocError>
         ensures boundaries { IfOk result (λ boundaries.
-            AreBoundaries (IsOfKind L.Boundary.are_releases) (map L.Boundary.place boundaries.items)) }
+            AreBoundaries (IsOfKind L.Boundary.are_releases)
+            (map L.Boundary.place boundaries.items)) }
         ensures meaning { IfOk result (λ boundaries. (v : PlainVersion)
             → is_inside precedence (map L.Boundary.place boundaries.items) v
             ≡ is_within L.place self v) }
@@ -198,8 +199,10 @@ fn push_boundaries<L: SpanEnd>(
     boundaries: &mut Vec<L::Boundary>,
 ) -> Result<(), AllocError>
     ensures kind { IfOk result (λ _.
-        AllByRecursion (IsOfKind L.Boundary.are_releases) (map L.Boundary.place boundaries.old.items)
-        → AllByRecursion (IsOfKind L.Boundary.are_releases) (map L.Boundary.place boundaries.new.items)) }
+        AllByRecursion (IsOfKind L.Boundary.are_releases)
+        (map L.Boundary.place boundaries.old.items)
+        → AllByRecursion (IsOfKind L.Boundary.are_releases)
+        (map L.Boundary.place boundaries.new.items)) }
     ensures boundaries { IfOk result (λ _. map L.Boundary.place boundaries.new.items
         ≡ map L.Boundary.place boundaries.old.items
         ++ span_boundaries precedence (span_value L.place span.now)) }

@@ -106,7 +106,8 @@ impl First<'_, ReadVersion> {
 }
 
 impl Release {
-    /// Returns the lowest numbers at or above these of which none is above `most`, if there are any.
+    /// Returns the lowest numbers at or above these of which none is above `most`, if there are
+    /// any.
     fn within(&self, most: u64) -> Option<Release>
         ensures { AreFirstNumbers most (release_value self.now) result }
     {

@@ -1,5 +1,5 @@
--- A means of proof, which no public clause cites: the comparators that are printed for the ranges of
--- a text.
+-- A means of proof, which no public clause cites: the comparators that are printed for the ranges
+-- of a text.
 use Rattle.std.specs.Prelude.{◌≡◌, List, map}
 use Rattle.semver_texts.specs.Texts.{Text}
 use Rattle.semver_ranges.specs.declared.partial.LowerBounds.{LowerBounds}

@@ -52,8 +52,8 @@ fn may_end(byte: u8) -> bool {
     byte.is_ascii_alphanumeric() || matches!(byte, b'*' | b'|')
 }
 
-/// Returns the end of the longest prefix of a string with which some range begins. It takes
-/// O(n log n) time for n bytes, and allocates one buffer of n + 8 bytes. `AllocError` if that fails.
+/// Returns the end of the longest prefix of a string with which some range begins. It takes O(n log
+/// n) time for n bytes, and allocates one buffer of n + 8 bytes. `AllocError` if that fails.
 pub(crate) fn prefix_end(dialect: Dialect, text: &str) -> Result<usize, AllocError> {
     longest_prefix(&RangeTexts { dialect }, text)
 }

@@ -150,8 +150,8 @@ pub(crate) fn extended(
     Ok(Some(crate::rattle_std::fallible_format!("{before}{between}{raised}{after}")?))
 }
 
-/// Returns the part of a string between two offsets, or `None` if one of them divides a character or
-/// they aren't in order.
+/// Returns the part of a string between two offsets, or `None` if one of them divides a character
+/// or they aren't in order.
 fn part(text: &str, start: usize, end: usize) -> Option<&str> {
     if start <= end && text.is_char_boundary(start) && text.is_char_boundary(end) {
         return Some(&text[start..end]);

@@ -71,8 +71,8 @@ fn in_full<'t>(written: &PartialVersion<'t>) -> PartialVersion<'t> {
     }
 }
 
-/// Returns what replaces the version after `<`, which is the next one above the newer version. It is
-/// `None` if a number would be above 2^64 - 1.
+/// Returns what replaces the version after `<`, which is the next one above the newer version. It
+/// is `None` if a number would be above 2^64 - 1.
 fn next_bound<'v>(
     written: &PartialVersion<'_>,
     version: &VersionRef<'_>,

@@ -65,9 +65,9 @@ impl From<AllocError> for UpgradeError {
 /// - The version of a term without an operator or with `=`, `~`, `^` or `<=`, and the right version
 ///   of a hyphen range, becomes the newer one, with as many components, with its wildcards and its
 ///   `v`. The pre-release is written after three numbers, and build metadata is left out.
-/// - If the result wouldn't contain the newer version then, and that is a pre-release, three numbers
-///   are written where they mean the same: after `^`, after `~` instead of two, and in Cargo's
-///   dialect without an operator.
+/// - If the result wouldn't contain the newer version then, and that is a pre-release, three
+///   numbers are written where they mean the same: after `^`, after `~` instead of two, and in
+///   Cargo's dialect without an operator.
 /// - The version of `<` becomes the next one above the newer version. Its last number that isn't 0
 ///   says which number is raised by one, and what follows that is 0. A pre-release `0` is kept.
 /// - `>=` and `>` are kept.

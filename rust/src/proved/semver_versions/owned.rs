@@ -184,8 +184,8 @@ impl<'t> VersionRef<'t> {
 }
 
 impl fmt::Display for Version {
-    /// Writes what `Display` of [`VersionRef`] writes. It does not allocate, and its only error is the
-    /// writer's.
+    /// Writes what `Display` of [`VersionRef`] writes. It does not allocate, and its only error is
+    /// the writer's.
     fn fmt(&self, f: &mut fmt::Formatter<'_>) -> fmt::Result {
         let version = self.as_version_ref();
         write!(f, "{version}")

@@ -54,8 +54,8 @@ impl<'t> VersionRef<'t> {
     }
 }
 
-/// Compares two versions by precedence, where numeric identifiers of both are read as `digits` says.
-/// It does not allocate.
+/// Compares two versions by precedence, where numeric identifiers of both are read as `digits`
+/// says. It does not allocate.
 #[must_use]
 pub fn compare_by(digits: Digits, version: &Version, other: &Version) -> Ordering {
     compare(
@@ -68,7 +68,8 @@ pub fn compare_by(digits: Digits, version: &Version, other: &Version) -> Orderin
 
 impl<'t> fmt::Display for VersionRef<'t> {
     /// Writes `major.minor.patch`, then `-` and the pre-release if there is one, and then `+` and
-    /// the build metadata if there is any. It does not allocate, and its only error is the writer's.
+    /// the build metadata if there is any. It does not allocate, and its only error is the
+    /// writer's.
     fn fmt(&self, f: &mut fmt::Formatter<'_>) -> fmt::Result {
         let (major, minor, patch) = (self.major, self.minor, self.patch);
         write!(f, "{major}.{minor}.{patch}")?;

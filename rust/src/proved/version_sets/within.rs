@@ -71,7 +71,8 @@ impl First<'_, ReadVersion> {
 }
 
 impl Release {
-    /// Returns the lowest numbers at or above these of which none is above `most`, if there are any.
+    /// Returns the lowest numbers at or above these of which none is above `most`, if there are
+    /// any.
     fn within(&self, most: u64) -> Option<Release> {
         let (major, minor, patch) = (self.major, self.minor, self.patch);
         if major > most {
