@@ -1,11 +1,8 @@
 //! Functions that read a range, combine two, or check versions against one.
 
-ghost use Rattle.std.specs.Prelude.{◌≡◌, alloc_error, IfOk, List, option_map};
+ghost use Rattle.std.specs.Prelude.{◌≡◌, alloc_error, IfOk, option_map};
 ghost use Rattle.semver_parser.specs.VersionViews.{version_value};
 ghost use Rattle.result_laws.specs.OneResult.{AreOne, itself};
-ghost use Rattle.std.specs.Borrow.{Bor};
-ghost use Rattle.std.specs.Iterator.{Drains, IsFinite};
-ghost use Rattle.semver_texts.specs.Texts.{Text};
 ghost use Rattle.result_laws.specs.SameSets.{AreAlikeRanges};
 
 use semver_parser::laws::precedence_is_total;
@@ -91,26 +88,6 @@ pub fn one_extreme_index(
     (
         range.extreme_index(which, versions),
         range.extreme_index(which, versions),
-    )
-}
-
-/// `VersionRange::extreme_string` has only one permitted result. It is called with two iterators
-/// that return the same strings, since it consumes its argument.
-pub fn one_extreme_string<'v, I: Iterator<Item = &'v str> + Drop>(
-    range: &VersionRange,
-    which: Extreme,
-    versions: I,
-    same_versions: I,
-) -> (Option<&'v str>, Option<&'v str>)
-    requires can { I.can_next versions × I.can_next same_versions }
-    requires end { IsFinite (I.remaining versions) × IsFinite (I.remaining same_versions) }
-    requires same { (xs ys : List (Bor Text)) → Drains I.next_gives versions xs
-        → Drains I.next_gives same_versions ys → xs ≡ ys }
-    ensures one { result.0 ≡ result.1 }
-{
-    (
-        range.extreme_string(which, versions),
-        range.extreme_string(which, same_versions),
     )
 }
 

@@ -36,7 +36,15 @@ const VERSIONS: [&[u8]; 7] = [
 ];
 
 /// The same versions as one string.
-const LIST: &str = "0.1.0 1.2.3-a.1 1.2.3 1.9.0 2.0.0-0 2.0.0 1.2";
+const LIST: [&[u8]; 7] = [
+    b"0.1.0",
+    b"1.2.3-a.1",
+    b"1.2.3",
+    b"1.9.0",
+    b"2.0.0-0",
+    b"2.0.0",
+    b"1.2",
+];
 
 /// A range with which others are combined.
 const OTHER: &str = ">=1.2.3-a <1.9.0";
@@ -155,8 +163,8 @@ pub fn add_members(alloc: Global, bytes: &[u8], sum: &mut Checksum) -> io::Resul
                 continue;
             };
             for which in [Extreme::Highest, Extreme::Lowest] {
-                let found = range.extreme_string(which, LIST.split(' ')).unwrap_or("");
-                sum.add_bytes(found.as_bytes());
+                let found = range.extreme_index(which, &LIST).map(|at| LIST[at]);
+                sum.add_bytes(found.unwrap_or(b""));
             }
             for version in VERSIONS {
                 add_member(alloc, &range, version, sum)?;

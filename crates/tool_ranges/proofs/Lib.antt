@@ -36,5 +36,4 @@ mod IncludedSets
 mod RewrittenSets
 -- the highest and the lowest of many versions
 mod HighestMembers
-mod HighestStrings
 pub mod OneHighest

@@ -1,14 +1,12 @@
 -- At most one index is that of the highest version.
-use Rattle.std.proofs.Common.{◌≡◌, ◌≢◌, ◌⊎◌, ◌<◌, ◌∙◌, ℕ, List, Option, Some, None, arith, refl, rules, ap, subst, sym, Less, Greater, ⊎_elim}
+use Rattle.std.proofs.Common.{◌≡◌, ◌≢◌, ◌⊎◌, ◌<◌, ℕ, List, Option, Some, None, arith, refl, rules, ap, Less, Greater, ⊎_elim}
 use Rattle.std.specs.Borrow.{Bor}
-use Rattle.std.specs.Prelude.{slice_get}
 use Rattle.std.specs.Cmp.{IsTotalOrder}
 use Rattle.std.specs.declared.cmp.Ordering.{Ordering}
 use Rattle.semver_texts.specs.declared.grammar.Grammar.{Grammar}
-use Rattle.semver_texts.specs.Texts.{Text}
 use Rattle.semver_texts.specs.Versions.{PlainVersion}
 use Rattle.tool_ranges.specs.declared.highest.Extreme.{Extreme}
-use Rattle.tool_ranges.specs.Highest.{FindsExtreme, FindsExtremeText, IsHighest, IsMember, order_for}
+use Rattle.tool_ranges.specs.Highest.{FindsExtreme, IsHighest, IsMember, order_for}
 use Rattle.version_sets.specs.VersionSets.{SetValue}
 use Rattle.tool_ranges.proofs.HighestMembers.{total_for}
 
@@ -33,20 +31,3 @@ one_found which g set texts None (Some j) p q = absurd (p j q.version q.is_one)
 one_found which g set texts (Some i) None p q = absurd (q i p.version p.is_one)
 one_found which g set texts (Some i) (Some j) p q =
     ap Some (one_highest (order_for which) (total_for which) (IsMember g set texts) i j p q)
-
--- at most one string is that of the highest version
-one_text : (which : Extreme) (g : Grammar) (set : SetValue) (texts : List (Bor Text)) (a b : Option (Bor Text))
-    → FindsExtremeText which g set texts a → FindsExtremeText which g set texts b → a ≡ b
-one_text which g set texts None None p q = refl
-one_text which g set texts None (Some t) p (j, at, q) = absurd (p j q.version q.is_one)
-one_text which g set texts (Some s) None (i, at, p) q = absurd (q i p.version p.is_one)
-one_text which g set texts (Some s) (Some t) (i, at_s, p) (j, at_t, q) =
-    sym at_s ∙ ap (slice_get texts) (one_highest (order_for which) (total_for which) (IsMember g set texts) i j p q) ∙ at_t
-
--- the same for two iterators that return the same strings
-pub one_among : (which : Extreme) (g : Grammar) (set : SetValue) (Gives AlsoGives : List (Bor Text) → Type 0)
-    → ((xs ys : List (Bor Text)) → Gives xs → AlsoGives ys → xs ≡ ys) → (a b : Option (Bor Text))
-    → (texts : List (Bor Text)) × Gives texts × FindsExtremeText which g set texts a
-    → (texts : List (Bor Text)) × AlsoGives texts × FindsExtremeText which g set texts b → a ≡ b
-one_among which g set Gives AlsoGives same a b (xs, given, first) (ys, also, second) =
-    one_text which g set ys a b (subst (λ texts. FindsExtremeText which g set texts a) (same xs ys given also) first) second

@@ -47,12 +47,3 @@ abbrev pub FindsExtreme : Extreme → Grammar → SetValue → List (Bor Text) �
 FindsExtreme which g set texts found =
     MatchOption found ((k : ℕ) (v : PlainVersion) → ¬ (IsMember g set texts k v))
     (IsHighest (order_for which) (IsMember g set texts))
-
--- the result is the text of the highest or the lowest version in the set, or `None` if no text is
--- a version in the set
-abbrev pub FindsExtremeText : Extreme → Grammar → SetValue → List (Bor Text) → Option (Bor Text)
-    → Type 0
-FindsExtremeText which g set texts found =
-    MatchOption found ((k : ℕ) (v : PlainVersion) → ¬ (IsMember g set texts k v))
-    (λ text. (index : ℕ) × (slice_get texts index ≡ Some text)
-    × IsHighest (order_for which) (IsMember g set texts) index)

@@ -1,13 +1,10 @@
 //! Finds the highest or the lowest of many version strings that a range contains.
 
-ghost use Rattle.std.specs.Prelude.{◌≡◌, ◌↔◌, List, MatchOption, true};
-ghost use Rattle.std.specs.Borrow.{Bor};
-ghost use Rattle.std.specs.Iterator.{Drains, IsFinite};
+ghost use Rattle.std.specs.Prelude.{◌≡◌, ◌↔◌, MatchOption, true};
 ghost use Rattle.std.specs.declared.cmp.Ordering.TheVariants.{Less};
-ghost use Rattle.semver_texts.specs.Texts.{Text};
 ghost use Rattle.semver_versions.specs.VersionRefs.{version_of};
 ghost use Rattle.semver_texts.specs.ToolVersions.{SpellsIn};
-ghost use Rattle.tool_ranges.specs.Highest.{FindsExtreme, FindsExtremeText, IsMemberText};
+ghost use Rattle.tool_ranges.specs.Highest.{FindsExtreme, IsMemberText};
 ghost use Rattle.tool_ranges.specs.Highest.{order_for};
 ghost use Rattle.tool_ranges.specs.VersionRanges.{versions_grammar};
 ghost use Rattle.version_sets.specs.VersionSets.{contains};
@@ -52,36 +49,6 @@ impl VersionRange {
             Some(_) => Some(found),
             None => None,
         }
-    }
-
-    // Determined by: law result_laws::version_ranges::one_extreme_string.
-    /// Returns the highest or the lowest of the given versions that the range contains, or `None`
-    /// if it contains none of them. Versions are compared by precedence (SemVer 2.0.0, section 11),
-    /// and the first of equal versions is returned. Strings that are invalid versions in the
-    /// range's dialect are skipped. It does not allocate.
-    pub fn extreme_string<'v, I: Iterator<Item = &'v str> + Drop>(
-        &self,
-        which: Extreme,
-        versions: I,
-    ) -> Option<&'v str>
-        requires can { I.can_next versions }
-        requires ends { IsFinite (I.remaining versions) }
-        ensures { (texts : List (Bor Text)) × Drains I.next_gives versions texts
-            × FindsExtremeText which (versions_grammar self.now) self.now.versions texts result }
-    {
-        laws::one_version_in();
-        let mut found: Option<&'v str> = None;
-        let mut best: Option<VersionRef<'v>> = None;
-        for version in versions {
-            let Some(borrowed) = member(self, version.as_bytes()) else {
-                continue;
-            };
-            if is_above(&borrowed, &best, which) {
-                best = Some(borrowed);
-                found = Some(version);
-            }
-        }
-        found
     }
 }
 

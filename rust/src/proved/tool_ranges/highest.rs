@@ -37,29 +37,6 @@ impl VersionRange {
             None => None,
         }
     }
-
-    /// Returns the highest or the lowest of the given versions that the range contains, or `None`
-    /// if it contains none of them. Versions are compared by precedence (SemVer 2.0.0, section 11),
-    /// and the first of equal versions is returned. Strings that are invalid versions in the
-    /// range's dialect are skipped. It does not allocate.
-    pub(crate) fn extreme_string<'v, I: Iterator<Item = &'v str> >(
-        &self,
-        which: Extreme,
-        versions: I,
-    ) -> Option<&'v str> {
-        let mut found: Option<&'v str> = None;
-        let mut best: Option<VersionRef<'v>> = None;
-        for version in versions {
-            let Some(borrowed) = member(self, version.as_bytes()) else {
-                continue;
-            };
-            if is_above(&borrowed, &best, which) {
-                best = Some(borrowed);
-                found = Some(version);
-            }
-        }
-        found
-    }
 }
 
 /// Returns a string as a borrowed version, if it is one that a range contains.
