@@ -117,7 +117,7 @@ pub use proved::range_terms::terms::Terms;
 pub use proved::semver_versions::owned::Version;
 pub use proved::semver_versions::version::VersionRef;
 pub use proved::tool_ranges::dialect::Dialect;
-pub use proved::tool_ranges::meaning::Meaning as Rules;
+pub use proved::tool_ranges::meaning::Rules;
 pub use proved::version_sets::PreReleases;
 pub use terms::terms;
 pub use upgrade::upgrade;

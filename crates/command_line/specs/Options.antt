@@ -5,11 +5,11 @@ use Rattle.std.specs.declared.io.kind.ErrorKind.{ErrorKind}
 use Rattle.std.specs.declared.io.kind.ErrorKind.TheVariants as kind
 use Rattle.semver_parser.specs.Texts.{Text}
 use Rattle.version_sets.specs.declared.PreReleases.{PreReleases}
-use Rattle.version_sets.specs.declared.PreReleases.TheVariants.{Excluded, Default, Included}
+use Rattle.version_sets.specs.declared.PreReleases.TheVariants.{Excluded, ByDialect, Included}
 use Rattle.tool_ranges.specs.DialectTable.{name_of}
 use Rattle.tool_ranges.specs.declared.dialect.Dialect.{Dialect}
 use Rattle.tool_ranges.specs.declared.dialect.Dialect.TheVariants.{Cargo, Npm}
-use Rattle.tool_ranges.specs.declared.meaning.Meaning.{Meaning}
+use Rattle.tool_ranges.specs.declared.meaning.Rules.{Rules}
 use Rattle.command_line.specs.declared.error.ArgumentError.{ArgumentError}
 use Rattle.command_line.specs.declared.error.ArgumentError.TheVariants.{NoDialect}
 use Rattle.command_line.specs.declared.error.ArgumentError.TheVariants.{GivenTwice, Contradiction}
@@ -42,13 +42,13 @@ WantsName argument = (argument ≡ codes "--dialect") ⊎ (argument ≡ codes "-
 -- the option for a rule
 abbrev pub option_of : PreReleases → Text
 option_of Excluded = codes "--releases-only"
-option_of Default = codes "--pre-stated"
+option_of ByDialect = codes "--pre-stated"
 option_of Included = codes "--include-prerelease"
 
 -- the short form of the option for a rule; that of the default rule is the option itself
 abbrev pub short_option_of : PreReleases → Text
 short_option_of Excluded = codes "--releases"
-short_option_of Default = codes "--pre-stated"
+short_option_of ByDialect = codes "--pre-stated"
 short_option_of Included = codes "--pre"
 
 -- the argument is the option for a rule, in either form
@@ -62,10 +62,10 @@ dialect_or_cargo (Some r) = r.0
 
 -- the rule, which is the default without an option
 abbrev pub rule_or_default : Option PreReleases → PreReleases
-rule_or_default None = Default
+rule_or_default None = ByDialect
 rule_or_default (Some rule) = rule
 
-abbrev pub meant : OptionsValue → Result Meaning ArgumentError
+abbrev pub meant : OptionsValue → Result Rules ArgumentError
 meant o = if o.wants_name then Err NoDialect else Ok (record {
   dialect = dialect_or_cargo o.dialect;
   pre_releases = rule_or_default o.rule;

@@ -3,7 +3,7 @@
 use command_line::{ArgumentError, MeaningOptions, Quoted};
 use std::env;
 use std::rt::Env;
-use tool_ranges::meaning::Meaning;
+use tool_ranges::meaning::Rules;
 
 /// The request of the arguments.
 #[derive(Drop)]
@@ -24,7 +24,7 @@ pub struct Question {
     /// The new range, if there are two.
     pub new: Option<String>,
     /// The dialect, and which pre-releases count.
-    pub meaning: Meaning,
+    pub meaning: Rules,
     /// Whether an option requested the dialect.
     pub has_dialect: bool,
     /// What is printed, and for which change the status is 1.

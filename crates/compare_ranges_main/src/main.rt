@@ -13,7 +13,7 @@ use std::alloc::AllocError;
 use std::io::{self, ErrorKind};
 use std::process::ExitCode;
 use tool_ranges::dialect::Dialect;
-use tool_ranges::meaning::Meaning;
+use tool_ranges::meaning::Rules;
 use tool_ranges::version_range::VersionRange;
 use version_sets::OperationError;
 
@@ -142,7 +142,7 @@ fn read_in_npm(
     question: &Question,
     range: &str,
 ) -> Result<VersionRange, RangeError> {
-    let meaning = Meaning {
+    let meaning = Rules {
         dialect: Dialect::Npm,
         pre_releases: question.meaning.pre_releases,
     };
@@ -255,7 +255,7 @@ fn push_tool(
     dialect: Dialect,
 ) -> Result<Option<RangeError>, AllocError> {
     let range = question.range.as_str();
-    let meaning = Meaning {
+    let meaning = Rules {
         dialect,
         pre_releases: question.meaning.pre_releases,
     };

@@ -11,7 +11,7 @@ use invalid_strings::longest::{Language, longest_prefix};
 use semver_ranges::RangeError;
 use std::alloc::{AllocError, Global};
 use tool_ranges::dialect::Dialect;
-use tool_ranges::meaning::{self, Meaning};
+use tool_ranges::meaning::{self, Rules};
 use version_sets::PreReleases;
 
 /// The strings that complete a prefix. Which one does depends on the end of the prefix:
@@ -89,9 +89,9 @@ pub(crate) fn check(dialect: Dialect, text: &str) -> Result<(), RangeError>
     ensures refusals { RefusesAs dialect text.now result }
     ensures no_memory { result ≢ Err RangeError.OutOfMemory }
 {
-    let meaning = Meaning {
+    let meaning = Rules {
         dialect,
-        pre_releases: PreReleases::Default,
+        pre_releases: PreReleases::ByDialect,
     };
     meaning::check(meaning, text)
 }

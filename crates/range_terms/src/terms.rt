@@ -26,7 +26,7 @@ use semver_texts::dotted::{strip_mark, text_of_parts};
 use semver_texts::grammar::Grammar;
 use std::marker::Model;
 use tool_ranges::dialect::Dialect;
-use tool_ranges::meaning::{Meaning, check};
+use tool_ranges::meaning::{Rules, check};
 use version_sets::PreReleases;
 
 /// An iterator over the terms of a range, as they are written. It borrows the string and allocates
@@ -105,9 +105,9 @@ impl<'text> Terms<'text> {
         ensures rewritable { IfOk result
             (λ terms. AllByRecursion (IsRewritable dialect range.now) terms) }
     {
-        let meaning = Meaning {
+        let meaning = Rules {
             dialect,
-            pre_releases: PreReleases::Default,
+            pre_releases: PreReleases::ByDialect,
         };
         check(meaning, range)?;
         Ok(of_range(range, dialect))

@@ -3,7 +3,7 @@ use Rattle.std.proofs.Common.{Bool, ℕ, [], ◌∷◌, true, false, not, refl, 
 use Rattle.std.specs.Prelude.{IfSome, is_some, Option, Some, None, List, slice_range}
 use Rattle.semver_texts.specs.Texts.{Text, is_empty}
 use Rattle.semver_versions.specs.VersionRefs.{VersionRefValue, version_of}
-use Rattle.tool_ranges.specs.declared.meaning.Meaning.{Meaning}
+use Rattle.tool_ranges.specs.declared.meaning.Rules.{Rules}
 use Rattle.range_terms.specs.WrittenTerms.{WrittenTerm}
 use Rattle.range_upgrades.specs.Alternatives.{HasBars, last_of}
 use Rattle.range_upgrades.specs.RaisedRanges.{IsExtended, IsInPlace, IsOneMore, IsRaised, IsRaisedRange, IsReplaced, IsUpgraded}
@@ -39,7 +39,7 @@ raised_one d form t v last at (x ∷ xs) a b (inr p) (inr q) =
     (raised_one d form t v last (last_version x).span.end xs p.1 q.1 p.5 q.5)
     ∙ sym q.6
 
-module _ (m : Meaning) (form : Form) (t : Text) (v : VersionRefValue) (terms : List WrittenTerm) where
+module _ (m : Rules) (form : Form) (t : Text) (v : VersionRefValue) (terms : List WrittenTerm) where
   -- ---- no result
 
   pub no_last : last_of terms ≡ None → (s : Text) → ¬ (IsRaisedRange m form t v terms s)
@@ -112,7 +112,7 @@ pub pre_of : (b : Bool) → not b ≡ true → b ≡ false
 pre_of true e = cc
 pre_of false e = refl
 
-module _ (m : Meaning) (t : Text) (v : VersionRefValue) (terms : List WrittenTerm)
+module _ (m : Rules) (t : Text) (v : VersionRefValue) (terms : List WrittenTerm)
     (none : (s : Text) → ¬ (IsRaisedRange m AsWritten t v terms s)) where
   pub not_pre : not (is_empty (version_of v).plain.pre) ≡ false → (s : Text) → ¬ (IsUpgraded m t v terms s)
   not_pre release s (inl is) = none s is
@@ -127,7 +127,7 @@ module _ (m : Meaning) (t : Text) (v : VersionRefValue) (terms : List WrittenTer
 
 -- ---- one result
 
-module _ (m : Meaning) (t : Text) (v : VersionRefValue) (terms : List WrittenTerm) where
+module _ (m : Rules) (t : Text) (v : VersionRefValue) (terms : List WrittenTerm) where
   in_place_one : (form : Form) (a b : Text) → IsInPlace m.dialect form t v terms a → IsInPlace m.dialect form t v terms b → a ≡ b
   in_place_one form a b p q =
       let only = λ (s : Text) (is : IsRaised m.dialect form t v q.last terms s).

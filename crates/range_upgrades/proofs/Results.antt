@@ -19,7 +19,7 @@ use Rattle.semver_ranges.specs.declared.range_set.RangeError.TheVariants as rang
 use Rattle.version_sets.specs.VersionSets.{Fits}
 use Rattle.tool_ranges.specs.Dialects.{HasSetAs, IsTextAs, IsTooLargeAs, RefusesAs, SpellsAs, grammar_of}
 use Rattle.tool_ranges.specs.Satisfying.{Satisfies}
-use Rattle.tool_ranges.specs.declared.meaning.Meaning.{Meaning}
+use Rattle.tool_ranges.specs.declared.meaning.Rules.{Rules}
 use Rattle.range_terms.specs.WrittenTerms.{terms_in}
 use Rattle.range_upgrades.specs.Alternatives.{HasBars}
 use Rattle.range_upgrades.specs.OneResult.{AreOne, seen}
@@ -38,11 +38,11 @@ not_below : (v : PlainVersion) → precedence v v ≢ Less
 not_below v e = let tied : precedence v v ≡ Equal = tied_itself precedence_total v in let never : Equal ≡ Less = sym tied ∙ e in cc
 
 -- the string is a range whose numbers fit
-pub record IsValid (m : Meaning) (range : Text) : Type 0 where
+pub record IsValid (m : Rules) (range : Text) : Type 0 where
   pub is_range : HasSetAs m.dialect range
   pub fits : ¬ (IsTooLargeAs m.dialect range)
 
-module _ {S : Type 0} (bytes : S → Text) (m : Meaning) (range version : Text) where
+module _ {S : Type 0} (bytes : S → Text) (m : Rules) (range version : Text) where
   -- what is known of a raised range
   pub record IsRaisedTo (o : VersionRefValue) (new : Text) : Type 0 where
     pub satisfied : IsSatisfied m new (version_of o)
@@ -210,13 +210,13 @@ module _ {S : Type 0} (bytes : S → Text) (m : Meaning) (range version : Text) 
 -- ---- two results
 
 -- a version that is contained in a range was read
-some_ref : (m : Meaning) (version range : Text) → Satisfies m version range (Ok true)
+some_ref : (m : Rules) (version range : Text) → Satisfies m version range (Ok true)
     → (o : VersionRefValue) × IsVersionRefIn (grammar_of m.dialect) version o
 some_ref m version range (inl is) = let e = is.1 in cc
 some_ref m version range (inr is) =
     (version_ref_after (digits_in (grammar_of m.dialect)) (before_numbers version) is.0, (is.0, is.1, refl))
 
-module _ {S : Type 0} (bytes : S → Text) (m : Meaning) (range version : Text) where
+module _ {S : Type 0} (bytes : S → Text) (m : Rules) (range version : Text) where
   abbrev Known : Result (Option S) UpgradeError → Type 0
   Known r = Clauses bytes m range version r
 
@@ -287,13 +287,13 @@ module _ {S : Type 0} (bytes : S → Text) (m : Meaning) (range version : Text) 
   one_result (Err OutOfMemory) s p q = inr (inl refl)
 
 -- what is known if reading the range succeeds, or runs out of memory
-pub valid_range : {A : Type 0} (m : Meaning) (range : Text) (read : A) → RefusesAs {A = A} m.dialect range (Ok read) → IsValid m range
+pub valid_range : {A : Type 0} (m : Rules) (range : Text) (read : A) → RefusesAs {A = A} m.dialect range (Ok read) → IsValid m range
 valid_range m range read refused = record {
   is_range = refused.accepted;
   fits = λ large. let e = refused.too_large.1 large in cc;
 }
 
-pub memory_range : {A : Type 0} (m : Meaning) (range : Text) (error : RangeError) → error ≡ range_error.OutOfMemory
+pub memory_range : {A : Type 0} (m : Rules) (range : Text) (error : RangeError) → error ≡ range_error.OutOfMemory
     → RefusesAs {A = A} m.dialect range (Err error) → IsValid m range
 memory_range m range error e refused = record {
   is_range = refused.out_of_memory (ap Err e);
@@ -301,7 +301,7 @@ memory_range m range error e refused = record {
 }
 
 -- the other errors
-pub unread : {S A : Type 0} (bytes : S → Text) (m : Meaning) (range version : Text) (o : VersionRefValue) (error : RangeError)
+pub unread : {S A : Type 0} (bytes : S → Text) (m : Rules) (range version : Text) (o : VersionRefValue) (error : RangeError)
     → RefusesAs {A = A} m.dialect range (Err error) → error ≢ range_error.OutOfMemory → IsResultOf bytes m range version o (Err (InvalidRange error))
 unread bytes m range version o range_error.NotARange refused enough = refused.not_a_range.0 refl
 unread bytes m range version o range_error.NumberTooLarge refused enough = refused.too_large.0 refl

@@ -12,14 +12,14 @@ use Rattle.semver_ranges.specs.declared.range_set.RangeError.TheVariants.{NotARa
 use Rattle.semver_ranges.specs.RangeTree.{SetTree}
 use Rattle.tool_ranges.specs.Dialects.{HasSetAs, RefusesAs, SpellsAs, fits_as, grammar_of}
 use Rattle.tool_ranges.specs.declared.dialect.Dialect.{Dialect}
-use Rattle.tool_ranges.specs.declared.meaning.Meaning.{Meaning}
+use Rattle.tool_ranges.specs.declared.meaning.Rules.{Rules}
 use Rattle.range_upgrades.specs.Upgrades.{HasVersionFrom, IsReadIn, IsSatisfied, IsSetOf, LosesNone}
 
 -- a borrowed version reads identifiers of digits as its dialect does
 pub digits_of : (d : Dialect) (o : VersionRefValue) → IsReadIn d o → o.digits ≡ digits_in (grammar_of d)
 digits_of d o (text, read) = ap (λ (o : VersionRefValue). o.digits) read.2
 
-module _ (m : Meaning) (t : Text) (set : SetValue) (is : IsSetOf m t set) where
+module _ (m : Rules) (t : Text) (set : SetValue) (is : IsSetOf m t set) where
   -- a version is in the set if and only if it satisfies the range
   pub in_set : (w : VersionValue) → Fits w.plain → IsSatisfied m t w → IsIn w.plain set
   in_set w fits (range, met) =
@@ -50,7 +50,7 @@ module _ (m : Meaning) (t : Text) (set : SetValue) (is : IsSetOf m t set) where
       → IsSatisfied m t (version_of o)
   satisfied o read fits found = from_set (version_of o) (fits, ap (contains set) (sym (read_alike o read)) ∙ found)
 
-pub none_lost : (m : Meaning) (old new : Text) (a b : SetValue) → IsSetOf m old a → IsSetOf m new b → ((v : PlainVersion) → IsIn v a → IsIn v b)
+pub none_lost : (m : Rules) (old new : Text) (a b : SetValue) → IsSetOf m old a → IsSetOf m new b → ((v : PlainVersion) → IsIn v a → IsIn v b)
     → LosesNone m old new
 none_lost m old new a b of_old of_new keeps = λ w fits met.
     from_set m new b of_new w (keeps w.plain (in_set m old a of_old w fits met))
@@ -72,7 +72,7 @@ pub true_not_false : true ≡ false → ⊥
 true_not_false = true≢false
 
 -- if no version is lost, then the new set contains each version of the old one
-pub keeps_none : (m : Meaning) (old new : Text) (a b : SetValue) → IsSetOf m old a → IsSetOf m new b → LosesNone m old new
+pub keeps_none : (m : Rules) (old new : Text) (a b : SetValue) → IsSetOf m old a → IsSetOf m new b → LosesNone m old new
     → (v : PlainVersion) → IsIn v a → IsIn v b
 keeps_none m old new a b of_old of_new keeps v found =
     in_set m new b of_new (without_build v) found.0 (keeps (without_build v) found.0 (from_set m old a of_old (without_build v) found))

@@ -8,7 +8,7 @@ use Rattle.semver_versions.specs.VersionRefs.{VersionRefValue, version_of}
 use Rattle.version_sets.specs.declared.rules.PreReleases.TheVariants.{Included}
 use Rattle.tool_ranges.specs.Dialects.{HasSetAs}
 use Rattle.tool_ranges.specs.declared.dialect.Dialect.{Dialect}
-use Rattle.tool_ranges.specs.declared.meaning.Meaning.{Meaning}
+use Rattle.tool_ranges.specs.declared.meaning.Rules.{Rules}
 use Rattle.range_terms.specs.declared.term.Operator.{Operator}
 use Rattle.range_terms.specs.declared.term.Operator.TheVariants.{Greater, GreaterOrEqual}
 use Rattle.range_terms.specs.WrittenTerms.{WrittenTerm, WrittenVersion}
@@ -119,7 +119,7 @@ module _ (d : Dialect) (form : Form) (t : Text) (v : VersionRefValue) (terms : L
     pub extends : IsExtended t last raised s
 
 -- a version is lost if the last alternative is raised in place, although the range has `||`
-pub record NeedsOneMore (m : Meaning) (form : Form) (t : Text) (v : VersionRefValue)
+pub record NeedsOneMore (m : Rules) (form : Form) (t : Text) (v : VersionRefValue)
     (terms : List WrittenTerm) : Type 0 where
   pub bars : HasBars t
   pub replaced : Text
@@ -129,7 +129,7 @@ pub record NeedsOneMore (m : Meaning) (form : Form) (t : Text) (v : VersionRefVa
 
 -- the string is the range of these terms, raised to a newer version, which it contains: the last
 -- alternative is raised in place, or, if that would lose a version, added
-abbrev pub IsRaisedRange : Meaning → Form → Text → VersionRefValue → List WrittenTerm → Text
+abbrev pub IsRaisedRange : Rules → Form → Text → VersionRefValue → List WrittenTerm → Text
     → Type 0
 IsRaisedRange m form t v terms s =
     (IsInPlace m.dialect form t v terms s × IsSatisfied m s (version_of v)
@@ -140,7 +140,7 @@ IsRaisedRange m form t v terms s =
 -- the string is the range of these terms, raised to a newer version: each raised version has as
 -- many components as before; but if no range contains the newer version then, and it is a
 -- pre-release, then three numbers are written where they mean the same
-abbrev pub IsUpgraded : Meaning → Text → VersionRefValue → List WrittenTerm → Text → Type 0
+abbrev pub IsUpgraded : Rules → Text → VersionRefValue → List WrittenTerm → Text → Type 0
 IsUpgraded m t v terms s =
     IsRaisedRange m AsWritten t v terms s
     ⊎ ((is_empty (version_of v).plain.pre ≡ false)

@@ -12,30 +12,30 @@ use Rattle.version_sets.specs.VersionSets.{Fits, SetValue}
 use Rattle.tool_ranges.specs.Dialects.{HasSetAs, SpellsAs, grammar_of}
 use Rattle.tool_ranges.specs.Meanings.{MeansAs, meant_as}
 use Rattle.tool_ranges.specs.declared.dialect.Dialect.{Dialect}
-use Rattle.tool_ranges.specs.declared.meaning.Meaning.{Meaning}
+use Rattle.tool_ranges.specs.declared.meaning.Rules.{Rules}
 
 -- the string is a range, and the version satisfies it
-abbrev pub IsSatisfied : Meaning → Text → VersionValue → Type 0
+abbrev pub IsSatisfied : Rules → Text → VersionValue → Type 0
 IsSatisfied m range w = HasSetAs m.dialect range
     × ((tree : SetTree) → SpellsAs m.dialect tree range → true ≡ meant_as m tree w)
 
 -- some version that satisfies the range isn't below this one by precedence
-abbrev pub HasVersionFrom : Meaning → Text → PlainVersion → Type 0
+abbrev pub HasVersionFrom : Rules → Text → PlainVersion → Type 0
 HasVersionFrom m range v = (w : VersionValue) × Fits w.plain × (precedence w.plain v ≢ Less)
     × IsSatisfied m range w
 
 -- some version that satisfies the range isn't below the version of a string
-abbrev pub HasVersionFromText : Meaning → Text → Text → Type 0
+abbrev pub HasVersionFromText : Rules → Text → Text → Type 0
 HasVersionFromText m range version =
     (v : VersionValue) × SpellsIn (grammar_of m.dialect) v version × HasVersionFrom m range v.plain
 
 -- every version that satisfies the first range satisfies the second one, too
-abbrev pub LosesNone : Meaning → Text → Text → Type 0
+abbrev pub LosesNone : Rules → Text → Text → Type 0
 LosesNone m old new =
     (w : VersionValue) → Fits w.plain → IsSatisfied m old w → IsSatisfied m new w
 
 -- the string is a range, and the set contains the versions that satisfy it
-pub record IsSetOf (m : Meaning) (range : Text) (set : SetValue) : Type 0 where
+pub record IsSetOf (m : Rules) (range : Text) (set : SetValue) : Type 0 where
   pub is_range : HasSetAs m.dialect range
   pub meaning : MeansAs m range set
   pub digits : set.digits ≡ digits_in (grammar_of m.dialect)

@@ -5,14 +5,14 @@ ghost use Rattle.std.specs.Prelude.{string_bytes};
 
 use crate::upgrade::{UpgradeError, upgrade};
 use std::alloc::Global;
-use tool_ranges::meaning::Meaning;
+use tool_ranges::meaning::Rules;
 
 /// `upgrade` has only one permitted result, unless an allocation fails.
 pub fn one_upgrade(
     alloc: Global,
     range: &str,
     version: &[u8],
-    meaning: Meaning,
+    meaning: Rules,
 ) -> (
     Result<Option<String>, UpgradeError>,
     Result<Option<String>, UpgradeError>,

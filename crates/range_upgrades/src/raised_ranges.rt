@@ -22,7 +22,7 @@ use semver_versions::version::VersionRef;
 use std::alloc::{AllocError, Global};
 use tool_ranges::dialect::Dialect;
 use tool_ranges::laws;
-use tool_ranges::meaning::{Meaning, read};
+use tool_ranges::meaning::{Rules, read};
 use version_sets::PreReleases;
 
 /// Returns the text of the last alternative, in which each version that has to be raised is
@@ -118,7 +118,7 @@ fn is_below(
     ensures above { IfOk result (λ is. is ≡ false
         → ¬ (IsBelow dialect term.now (version_of version.now).plain)) }
 {
-    let meaning = Meaning {
+    let meaning = Rules {
         dialect,
         pre_releases: PreReleases::Included,
     };

@@ -25,7 +25,7 @@ use semver_versions::version::{VersionRef, read_ref_in};
 use std::alloc::{AllocError, Global};
 use thiserror::Error;
 use tool_ranges::laws;
-use tool_ranges::meaning::{Meaning, read};
+use tool_ranges::meaning::{Rules, read};
 use version_sets::VersionSet;
 
 /// Why a requirement can't be raised.
@@ -104,7 +104,7 @@ pub fn upgrade(
     alloc: Global,
     range: &str,
     version: &[u8],
-    meaning: Meaning,
+    meaning: Rules,
 ) -> Result<Option<String>, UpgradeError>
     // The version's error comes first, and then the range's.
     ensures invalid_version { (result ≡ Err UpgradeError.InvalidVersion)
@@ -172,7 +172,7 @@ fn raised_in_some_form(
     range: &str,
     old: &VersionSet,
     version: &VersionRef<'_>,
-    meaning: Meaning,
+    meaning: Rules,
 ) -> Result<Option<String>, AllocError>
     requires old { IsSetOf meaning range.now old.now }
     requires version { IsReadIn meaning.dialect version.now }
@@ -207,7 +207,7 @@ fn raised_range(
     range: &str,
     old: &VersionSet,
     version: &VersionRef<'_>,
-    meaning: Meaning,
+    meaning: Rules,
     form: Form,
 ) -> Result<Option<String>, AllocError>
     requires old { IsSetOf meaning range.now old.now }
@@ -267,7 +267,7 @@ fn set_with(
     alloc: Global,
     range: &str,
     version: &VersionRef<'_>,
-    meaning: Meaning,
+    meaning: Rules,
 ) -> Result<Option<VersionSet>, AllocError>
     requires version { IsReadIn meaning.dialect version.now }
     ensures set { IfOk result (λ found. IfSome found (IsSetOf meaning range.now)) }

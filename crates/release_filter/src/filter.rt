@@ -15,17 +15,17 @@ use semver_ranges::{Compat, RangeError};
 use semver_versions::version::Version;
 use std::alloc::Global;
 use tool_ranges::dialect::Dialect;
-use tool_ranges::meaning::{self, Meaning};
+use tool_ranges::meaning::{self, Rules};
 use version_sets::{PreReleases, VersionSet};
 
 /// The releases of a range in Cargo mode.
-const CARGO: Meaning = Meaning {
+const CARGO: Rules = Rules {
     dialect: Dialect::CrateCargo,
     pre_releases: PreReleases::Excluded,
 };
 
 /// The releases of a range in npm mode.
-const NPM: Meaning = Meaning {
+const NPM: Rules = Rules {
     dialect: Dialect::CrateNpm,
     pre_releases: PreReleases::Excluded,
 };

@@ -5,7 +5,7 @@ use release_filter::{LineEnd, LineOptions, Selection};
 use std::alloc::Global;
 use std::env;
 use std::rt::Env;
-use tool_ranges::meaning::Meaning;
+use tool_ranges::meaning::Rules;
 use version_sets::PreReleases;
 
 /// The request of the arguments.
@@ -25,7 +25,7 @@ pub struct Filtering {
     /// The range.
     pub range: String,
     /// The dialect, and which pre-releases count.
-    pub meaning: Meaning,
+    pub meaning: Rules,
     /// Whether an option requested the dialect.
     pub has_dialect: bool,
     /// The files to read, or standard input if there are none.

@@ -18,7 +18,7 @@ use std::alloc::Global;
 use std::io::ErrorKind;
 use std::process::ExitCode;
 use tool_ranges::dialect::Dialect;
-use tool_ranges::meaning::{self, Meaning};
+use tool_ranges::meaning::{self, Rules};
 use tool_ranges::version_range::VersionRange;
 use version_sets::{Combination, OperationError, VersionSet};
 
@@ -138,7 +138,7 @@ fn is_other_in_npm(alloc: Global, filtering: &Filtering) -> bool {
 
 /// Returns the versions in the range in npm's dialect.
 fn read_in_npm(alloc: Global, filtering: &Filtering) -> Result<VersionSet, RangeError> {
-    let meaning = Meaning {
+    let meaning = Rules {
         dialect: Dialect::Npm,
         pre_releases: filtering.meaning.pre_releases,
     };

@@ -65,7 +65,7 @@ fn written(
     let all = match way {
         Way::OneKind => match range.meaning().pre_releases {
             PreReleases::Included => intervals(alloc, pre_releases)?,
-            PreReleases::Default | PreReleases::Excluded => intervals(alloc, releases)?,
+            PreReleases::ByDialect | PreReleases::Excluded => intervals(alloc, releases)?,
         },
         Way::Joined => joined(alloc, releases, pre_releases)?,
         Way::Paired => paired(alloc, releases, pre_releases)?,

@@ -11,7 +11,7 @@ use semver_parser::version::{Version, VersionRef};
 use semver_parser::{RangeError, laws};
 use semver_texts::grammar::Digits;
 use std::alloc::{AllocError, Global};
-use tool_ranges::meaning::{self, Meaning};
+use tool_ranges::meaning::{self, Rules};
 use version_sets::laws::{one_set, sets_are_normal};
 use version_sets::{Combination, Comparison, OperationError, Release, VersionSet};
 
@@ -45,7 +45,7 @@ fn results_are_alike<E>(first: &Result<VersionSet, E>, second: &Result<VersionSe
 }
 
 /// `meaning::read` has only one permitted result.
-pub fn one_read(alloc: Global, meaning: Meaning, range: &str) -> Read
+pub fn one_read(alloc: Global, meaning: Rules, range: &str) -> Read
     ensures one { AreOne RangeError.OutOfMemory itself result.0 result.1 }
 {
     let first = meaning::read(alloc, meaning, range);
@@ -58,7 +58,7 @@ pub fn one_read(alloc: Global, meaning: Meaning, range: &str) -> Read
 pub fn one_satisfies(
     version: &VersionRef<'_>,
     range: &str,
-    meaning: Meaning,
+    meaning: Rules,
 ) -> (Result<bool, RangeError>, Result<bool, RangeError>)
     ensures one { result.0 ≡ result.1 }
 {
@@ -74,7 +74,7 @@ pub fn satisfies_as_the_set(
     alloc: Global,
     version: &VersionRef<'_>,
     range: &str,
-    meaning: Meaning,
+    meaning: Rules,
 ) -> (Result<bool, RangeError>, Result<bool, RangeError>)
     ensures same { AreOne RangeError.OutOfMemory itself result.0 result.1 }
 {

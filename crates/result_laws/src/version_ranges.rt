@@ -11,7 +11,7 @@ use semver_ranges::RangeError;
 use std::alloc::{AllocError, Global};
 use tool_ranges::highest::Extreme;
 use tool_ranges::laws::ranges_read_digits;
-use tool_ranges::meaning::Meaning;
+use tool_ranges::meaning::Rules;
 use tool_ranges::satisfying::SatisfiesError;
 use tool_ranges::version_range::VersionRange;
 use version_sets::laws::{one_set, sets_are_normal};
@@ -39,7 +39,7 @@ fn results_are_alike<E>(first: &Result<VersionRange, E>, second: &Result<Version
 pub fn one_range(
     alloc: Global,
     range: &str,
-    meaning: Meaning,
+    meaning: Rules,
 ) -> (
     Result<VersionRange, RangeError>,
     Result<VersionRange, RangeError>,

@@ -6,7 +6,7 @@ use std::alloc::Global;
 use std::io;
 use std::io::Write;
 use tool_ranges::dialect::Dialect;
-use tool_ranges::meaning::Meaning;
+use tool_ranges::meaning::Rules;
 use tool_ranges::version_range::VersionRange;
 use version_sets::PreReleases;
 
@@ -45,9 +45,9 @@ fn add_filtered(
     options: LineOptions,
     sum: &mut Checksum,
 ) -> io::Result<()> {
-    let meaning = Meaning {
+    let meaning = Rules {
         dialect: Dialect::Npm,
-        pre_releases: PreReleases::Default,
+        pre_releases: PreReleases::ByDialect,
     };
     let Ok(range) = VersionRange::parse(alloc, "^1.2.3-a", meaning) else {
         return Ok(());

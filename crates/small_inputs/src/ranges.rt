@@ -11,7 +11,7 @@ use std::alloc::{AllocError, Global};
 use std::io;
 use std::io::Write;
 use tool_ranges::dialect::{self, Dialect};
-use tool_ranges::meaning::{Meaning, check};
+use tool_ranges::meaning::{Rules, check};
 use tool_ranges::npm;
 use version_sets::PreReleases;
 
@@ -63,9 +63,9 @@ pub fn add_checked(bytes: &[u8], sum: &mut Checksum) -> io::Result<()> {
         return Ok(());
     };
     for dialect in DIALECTS {
-        let pre_releases = PreReleases::Default;
+        let pre_releases = PreReleases::ByDialect;
         match check(
-            Meaning {
+            Rules {
                 dialect,
                 pre_releases,
             },

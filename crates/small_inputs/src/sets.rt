@@ -7,13 +7,13 @@ use std::alloc::Global;
 use std::io;
 use std::io::Write;
 use tool_ranges::highest::Extreme;
-use tool_ranges::meaning::{self, Meaning};
+use tool_ranges::meaning::{self, Rules};
 use tool_ranges::satisfying::{SatisfiesError, satisfies};
 use tool_ranges::version_range::VersionRange;
 use version_sets::{Combination, OperationError, PreReleases, Release, VersionSet};
 
 const RULES: [PreReleases; 3] = [
-    PreReleases::Default,
+    PreReleases::ByDialect,
     PreReleases::Included,
     PreReleases::Excluded,
 ];
@@ -56,7 +56,7 @@ pub fn add_satisfied(bytes: &[u8], sum: &mut Checksum) -> io::Result<()> {
     };
     for dialect in DIALECTS {
         for pre_releases in RULES {
-            let meaning = Meaning {
+            let meaning = Rules {
                 dialect,
                 pre_releases,
             };
@@ -80,7 +80,7 @@ fn add_answer(answer: Result<bool, SatisfiesError>, sum: &mut Checksum) -> io::R
 pub fn add_contained(alloc: Global, bytes: &[u8], sum: &mut Checksum) -> io::Result<()> {
     for dialect in DIALECTS {
         for pre_releases in RULES {
-            let meaning = Meaning {
+            let meaning = Rules {
                 dialect,
                 pre_releases,
             };
@@ -100,7 +100,7 @@ pub fn add_sets(alloc: Global, bytes: &[u8], sum: &mut Checksum) -> io::Result<(
     };
     for dialect in DIALECTS {
         for pre_releases in RULES {
-            let meaning = Meaning {
+            let meaning = Rules {
                 dialect,
                 pre_releases,
             };
@@ -155,7 +155,7 @@ pub fn add_members(alloc: Global, bytes: &[u8], sum: &mut Checksum) -> io::Resul
     };
     for dialect in DIALECTS {
         for pre_releases in RULES {
-            let meaning = Meaning {
+            let meaning = Rules {
                 dialect,
                 pre_releases,
             };
@@ -207,7 +207,7 @@ pub fn add_operations(alloc: Global, bytes: &[u8], sum: &mut Checksum) -> io::Re
     };
     for dialect in DIALECTS {
         for pre_releases in RULES {
-            let meaning = Meaning {
+            let meaning = Rules {
                 dialect,
                 pre_releases,
             };

@@ -3,7 +3,7 @@ use Rattle.std.proofs.Common.{◌≡◌, Bool, true, false, not, ◌&&◌, ◌||
 use Rattle.semver_texts.specs.Texts.{is_empty}
 use Rattle.semver_texts.specs.Versions.{PlainVersion}
 use Rattle.version_sets.specs.declared.rules.PreReleases.{PreReleases}
-use Rattle.version_sets.specs.declared.rules.PreReleases.TheVariants.{Default, Included, Excluded}
+use Rattle.version_sets.specs.declared.rules.PreReleases.TheVariants.{ByDialect, Included, Excluded}
 use Rattle.tool_ranges.specs.declared.dialect.Dialect.{Dialect}
 use Rattle.tool_ranges.specs.declared.dialect.Dialect.TheVariants.{Cargo, Npm, CrateCargo, CrateNpm}
 use Rattle.tool_ranges.specs.declared.matching.Progress.{Progress}
@@ -47,7 +47,7 @@ and_itself false = refl
 
 pub every_is_met : (d : Dialect) (rule : PreReleases) (v : PlainVersion) (p : Progress) → (p.matched_all && takes_releases d rule) ≡ true
     → is_met d rule v p ≡ is_empty v.pre
-every_is_met Npm Default v p e = by p.matched_all e where
+every_is_met Npm ByDialect v p e = by p.matched_all e where
   by : (b : Bool) → (b && true) ≡ true → (if b then is_empty v.pre else p.met) ≡ is_empty v.pre
   by true e = refl
   by false e = cc
@@ -80,7 +80,7 @@ met_of rule v p = p.met
 
 pub met_is_met : (d : Dialect) (rule : PreReleases) (v : PlainVersion) (p : Progress) → (p.matched_all && takes_releases d rule) ≡ false
     → is_met d rule v p ≡ met_of rule v p
-met_is_met Npm Default v p e = by p.matched_all e where
+met_is_met Npm ByDialect v p e = by p.matched_all e where
   by : (b : Bool) → (b && true) ≡ false → (if b then is_empty v.pre else p.met) ≡ p.met
   by true e = cc
   by false e = refl
@@ -89,12 +89,12 @@ met_is_met Npm Excluded v p e = by p.matched_all e where
   by true e = cc
   by false e = refl
 met_is_met Npm Included v p e = refl
-met_is_met Cargo Default v p e = refl
+met_is_met Cargo ByDialect v p e = refl
 met_is_met Cargo Included v p e = refl
 met_is_met Cargo Excluded v p e = refl
-met_is_met CrateCargo Default v p e = refl
+met_is_met CrateCargo ByDialect v p e = refl
 met_is_met CrateCargo Included v p e = refl
 met_is_met CrateCargo Excluded v p e = refl
-met_is_met CrateNpm Default v p e = refl
+met_is_met CrateNpm ByDialect v p e = refl
 met_is_met CrateNpm Included v p e = refl
 met_is_met CrateNpm Excluded v p e = refl

@@ -14,7 +14,7 @@ use Rattle.semver_ranges.specs.CrateMeaning.{agrees, agrees_past_zeros, meets_fo
 use Rattle.semver_ranges.specs.Partials.{filled, leading_place}
 use Rattle.semver_ranges.proofs.Rows.{Shape}
 use Rattle.version_sets.specs.Steps.Cuts.{first_numbers}
-use Rattle.version_sets.specs.declared.rules.PreReleases.TheVariants.{Default, Included}
+use Rattle.version_sets.specs.declared.rules.PreReleases.TheVariants.{ByDialect, Included}
 use Rattle.tool_ranges.specs.CargoMeaning.{against}
 use Rattle.tool_ranges.specs.CargoMeaning.{meets_by_count}
 use Rattle.tool_ranges.specs.Steps.Table.{is_within, is_counted_within}
@@ -160,7 +160,7 @@ module _ (v : PlainVersion) where
   -- ---- Cargo's dialect by default, for releases
   module _ (release : v.pre ≡ []) where
     abbrev ReleaseCell : Form → List ℕ → List IdentifierValue → Type 0
-    ReleaseCell form s p = meets_by_count Default form s (filled s p) v ≡ is_within Cargo form s (filled s p) v
+    ReleaseCell form s p = meets_by_count ByDialect form s (filled s p) v ≡ is_within Cargo form s (filled s p) v
 
     is_release : is_empty v.pre ≡ true
     is_release = ap is_empty release
@@ -198,7 +198,7 @@ module _ (v : PlainVersion) where
   -- ---- Cargo's dialect by default, for pre-releases
   module _ (pre_release : is_empty v.pre ≡ false) where
     abbrev CountedCell : Form → List ℕ → List IdentifierValue → Type 0
-    CountedCell form s p = meets_by_count Default form s (filled s p) v ≡ is_counted_within Cargo form s (filled s p) v
+    CountedCell form s p = meets_by_count ByDialect form s (filled s p) v ≡ is_counted_within Cargo form s (filled s p) v
 
     none_of : (b f : Bool) → (b && is_empty v.pre) ≡ (f && not f)
     none_of b f = ap (λ c. b && c) pre_release ∙ and-false b ∙ sym (both_no f)

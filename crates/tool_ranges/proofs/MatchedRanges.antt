@@ -27,7 +27,7 @@ use Rattle.semver_ranges.proofs.Tables.{begun_stated, nothing_is}
 use Rattle.semver_ranges.proofs.Tests.{list_any-mapped}
 use Rattle.version_sets.specs.PreReleaseRules.{numbers_fit}
 use Rattle.version_sets.specs.declared.rules.PreReleases.{PreReleases}
-use Rattle.version_sets.specs.declared.rules.PreReleases.TheVariants.{Default, Included, Excluded}
+use Rattle.version_sets.specs.declared.rules.PreReleases.TheVariants.{ByDialect, Included, Excluded}
 use Rattle.tool_ranges.specs.declared.dialect.Dialect.{Dialect}
 use Rattle.tool_ranges.specs.declared.dialect.Dialect.TheVariants.{Cargo, Npm, CrateCargo, CrateNpm}
 use Rattle.tool_ranges.specs.declared.matching.Progress.{Progress}
@@ -95,20 +95,20 @@ module _ (v : PlainVersion) where
 
   -- ---- npm, by default
   none_met : (p : PartialTree) → states_nothing p ≡ true
-      → (npm.meets_one Default (left_side p) v ≡ true) × (npm.meets_one Default (right_side p) v ≡ true)
+      → (npm.meets_one ByDialect (left_side p) v ≡ true) × (npm.meets_one ByDialect (right_side p) v ≡ true)
       × (npm.meets_left Included p v ≡ true) × (npm.meets_one Included (right_side p) v ≡ true)
   none_met p y = let e = nothing_is (stated p) y in rw e (refl, refl, refl, refl)
 
-  pub default_simples : (r : RangeTree) → list_all (λ s. npm.meets_one Default s v) (yielded Stated r) ≡ npm.meets_range Default r v
+  pub default_simples : (r : RangeTree) → list_all (λ s. npm.meets_one ByDialect s v) (yielded Stated r) ≡ npm.meets_range ByDialect r v
   default_simples empty = refl
   default_simples (simples first others) = refl
   default_simples (hyphen l r) = by_test (states_nothing r)
       (λ y. rw (y, (none_met r y).1) refl)
       (λ n. by_test (states_nothing l)
       (λ y. rw (n, y, (none_met l y).0) (and-true _))
-      (λ m. rw (n, m) (ap (λ b. npm.meets_one Default (left_side l) v && b) (and-true _))))
+      (λ m. rw (n, m) (ap (λ b. npm.meets_one ByDialect (left_side l) v && b) (and-true _))))
 
-  default_range : (r : RangeTree) → range_met Npm false v (yielded Stated r) ≡ (npm.meets_range Default r v && counts_in r v)
+  default_range : (r : RangeTree) → range_met Npm false v (yielded Stated r) ≡ (npm.meets_range ByDialect r v && counts_in r v)
   default_range r = λ i. default_simples r i && counts_so r i
 
   every_range : (r : RangeTree) → range_every (yielded Stated r) ≡ npm.is_every_release r
@@ -118,7 +118,7 @@ module _ (v : PlainVersion) where
       → (if list_any range_every (map (yielded Stated) tree) then is_empty v.pre
       else list_any (range_met Npm false v) (map (yielded Stated) tree)) ≡ npm.meets_by_default tree v
   npm_default tree = λ i. if list_any-mapped range_every npm.is_every_release (yielded Stated) every_range tree i then is_empty v.pre
-      else list_any-mapped (range_met Npm false v) (λ r. npm.meets_range Default r v && counts_in r v) (yielded Stated) default_range tree i
+      else list_any-mapped (range_met Npm false v) (λ r. npm.meets_range ByDialect r v && counts_in r v) (yielded Stated) default_range tree i
 
   -- ---- npm, with every pre-release within the bounds
   from_lowest : {s : List ℕ} → Shape s → (length s == 3) ≡ true
@@ -220,18 +220,18 @@ module _ (v : PlainVersion) where
 module _ (v : PlainVersion) (fit : numbers_fit v ≡ true) where
   pub means : (d : Dialect) (rule : PreReleases) (tree : SetTree) (progress : Progress) → Says d (takes_all rule) v progress tree
       → is_met d rule v progress ≡ meant_by d rule tree (without_build v)
-  means Cargo Default tree progress says = says.0 ∙ cargo_default v tree
+  means Cargo ByDialect tree progress says = says.0 ∙ cargo_default v tree
   means Cargo Included tree progress says = says.0 ∙ cargo_included v tree
   means Cargo Excluded tree progress says = ap (λ b. is_empty v.pre && b) (says.0 ∙ cargo_default v tree)
-  means Npm Default tree progress says = (λ i. if says.1 i then is_empty v.pre else says.0 i) ∙ npm_default v tree
+  means Npm ByDialect tree progress says = (λ i. if says.1 i then is_empty v.pre else says.0 i) ∙ npm_default v tree
   means Npm Included tree progress says = says.0 ∙ npm_included v tree
   means Npm Excluded tree progress says =
       ap (λ b. is_empty v.pre && b) ((λ i. if says.1 i then is_empty v.pre else says.0 i) ∙ npm_default v tree)
-  means CrateCargo Default tree progress says = says.0 ∙ own_default v CrateCargo mode.Cargo (λ all s. refl) tree ∙ rw fit refl
+  means CrateCargo ByDialect tree progress says = says.0 ∙ own_default v CrateCargo mode.Cargo (λ all s. refl) tree ∙ rw fit refl
   means CrateCargo Included tree progress says = says.0 ∙ own_included v CrateCargo mode.Cargo (λ all s. refl) tree ∙ rw fit refl
   means CrateCargo Excluded tree progress says =
       ap (λ b. is_empty v.pre && b) says.0 ∙ own_release v CrateCargo mode.Cargo (λ all s. refl) tree ∙ rw fit refl
-  means CrateNpm Default tree progress says = says.0 ∙ own_default v CrateNpm mode.Npm (λ all s. refl) tree ∙ rw fit refl
+  means CrateNpm ByDialect tree progress says = says.0 ∙ own_default v CrateNpm mode.Npm (λ all s. refl) tree ∙ rw fit refl
   means CrateNpm Included tree progress says = says.0 ∙ own_included v CrateNpm mode.Npm (λ all s. refl) tree ∙ rw fit refl
   means CrateNpm Excluded tree progress says =
       ap (λ b. is_empty v.pre && b) says.0 ∙ own_release v CrateNpm mode.Npm (λ all s. refl) tree ∙ rw fit refl

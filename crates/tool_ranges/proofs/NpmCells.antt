@@ -14,7 +14,7 @@ use Rattle.semver_ranges.specs.Partials.{filled, leading_place}
 use Rattle.semver_ranges.proofs.Rows.{Shape, step}
 use Rattle.version_sets.specs.Sides.{at, below}
 use Rattle.version_sets.specs.Steps.Cuts.{first_numbers}
-use Rattle.version_sets.specs.declared.rules.PreReleases.TheVariants.{Default, Included}
+use Rattle.version_sets.specs.declared.rules.PreReleases.TheVariants.{ByDialect, Included}
 use Rattle.tool_ranges.specs.CargoMeaning.{against}
 use Rattle.tool_ranges.specs.NpmMeaning.{is_zero, is_from, meets_by_count}
 use Rattle.tool_ranges.specs.Steps.Table.{is_within, is_counted_within, is_past_release}
@@ -95,7 +95,7 @@ module _ (v : PlainVersion) where
   zero_first : (z : PlainVersion) → is_zero z ≡ true → is_ge (first_numbers 3 v z) ≡ true
   zero_first z y = search rules
 
-  zero_from : {s : List ℕ} {k : ℕ} → Spot s k → (p : List IdentifierValue) → is_from Default (filled s p) v ≡ true
+  zero_from : {s : List ℕ} {k : ℕ} → Spot s k → (p : List IdentifierValue) → is_from ByDialect (filled s p) v ≡ true
       → is_ge (first_numbers k v (filled s p)) ≡ true
   zero_from {s = s} spot p h = by_test (is_zero (filled s p))
       (λ y. numbers_first v spot p (zero_first (filled s p) y))
@@ -103,9 +103,9 @@ module _ (v : PlainVersion) where
 
   -- ---- by default, for pre-releases
   abbrev CountedCell : Form → List ℕ → List IdentifierValue → Type 0
-  CountedCell form s p = meets_by_count Default form s (filled s p) v ≡ is_counted_within Npm form s (filled s p) v
+  CountedCell form s p = meets_by_count ByDialect form s (filled s p) v ≡ is_counted_within Npm form s (filled s p) v
 
-  from_is : (z : PlainVersion) → ((is_zero z && true) || is_ge (precedence v z)) ≡ is_from Default z v
+  from_is : (z : PlainVersion) → ((is_zero z && true) || is_ge (precedence v z)) ≡ is_from ByDialect z v
   from_is z = ap (λ b. b || is_ge (precedence v z)) (and-true (is_zero z))
 
   counted_none : (form : Form) → CountedCell form [] []
@@ -113,19 +113,19 @@ module _ (v : PlainVersion) where
   counted_none greater = ap not (sym (none_from v))
   counted_none _ = refl
 
-  counted_block : {s : List ℕ} {k : ℕ} → Spot s k → (p : List IdentifierValue) → (is_from Default (filled s p) v && agrees k s v)
+  counted_block : {s : List ℕ} {k : ℕ} → Spot s k → (p : List IdentifierValue) → (is_from ByDialect (filled s p) v && agrees k s v)
       ≡ (((is_zero (filled s p) && true) || is_ge (precedence v (filled s p))) && not (is_gt (first_numbers k v (filled s p))))
   counted_block {s = s} {k = k} spot p = agrees_within v spot p _ (zero_from spot p)
       ∙ ap (λ b. b && not (is_gt (first_numbers k v (filled s p)))) (sym (from_is (filled s p)))
 
   counted_caret : {s : List ℕ} → Spot s (leading_place s) → (p : List IdentifierValue)
-      → (is_from Default (filled s p) v && agrees_past_zeros s (numbers v))
+      → (is_from ByDialect (filled s p) v && agrees_past_zeros s (numbers v))
       ≡ (((is_zero (filled s p) && true) || is_ge (precedence v (filled s p)))
       && not (is_gt (first_numbers (leading_place s) v (filled s p))))
   counted_caret {s = s} spot p = past_zeros_within v spot p _ (zero_from spot p)
       ∙ ap (λ b. b && not (is_gt (first_numbers (leading_place s) v (filled s p)))) (sym (from_is (filled s p)))
 
-  counted_from : (z : PlainVersion) → is_from Default z v ≡ (((is_zero z && true) || is_ge (precedence v z)) && true)
+  counted_from : (z : PlainVersion) → is_from ByDialect z v ≡ (((is_zero z && true) || is_ge (precedence v z)) && true)
   counted_from z = sym (and-true _ ∙ from_is z)
 
   counted_one : (form : Form) (x : ℕ) → CountedCell form (x ∷ []) []
@@ -183,37 +183,37 @@ module _ (v : PlainVersion) where
   -- ---- by default, for releases
   module _ (release : v.pre ≡ []) where
     abbrev ReleaseCell : Form → List ℕ → List IdentifierValue → Type 0
-    ReleaseCell form s p = meets_by_count Default form s (filled s p) v ≡ is_within Npm form s (filled s p) v
+    ReleaseCell form s p = meets_by_count ByDialect form s (filled s p) v ≡ is_within Npm form s (filled s p) v
 
     past_zero : (z : PlainVersion) → is_zero z ≡ true → is_ge (precedence v z) ≡ true
     past_zero z y = search rules
 
-    release_from : (z : PlainVersion) → is_from Default z v ≡ is_ge (precedence v z)
+    release_from : (z : PlainVersion) → is_from ByDialect z v ≡ is_ge (precedence v z)
     release_from z = by_test (is_zero z) (λ y. rw (y, past_zero z y) refl) (λ n. rw n refl)
 
     numbers_from : (z : PlainVersion) → z.pre ≡ [] → is_ge (precedence v z) ≡ is_ge (first_numbers 3 v z)
     numbers_from z none = search rules
 
-    from_numbers : (s : List ℕ) → is_from Default (filled s []) v ≡ is_ge (first_numbers 3 v (filled s []))
+    from_numbers : (s : List ℕ) → is_from ByDialect (filled s []) v ≡ is_ge (first_numbers 3 v (filled s []))
     from_numbers s = release_from _ ∙ numbers_from (filled s []) refl
 
-    release_block : {s : List ℕ} {k : ℕ} → Spot s k → (is_from Default (filled s []) v && agrees k s v)
+    release_block : {s : List ℕ} {k : ℕ} → Spot s k → (is_from ByDialect (filled s []) v && agrees k s v)
         ≡ (is_ge (first_numbers 3 v (filled s [])) && not (is_gt (first_numbers k v (filled s []))))
     release_block {s = s} {k = k} spot = ap (λ b. b && agrees k s v) (from_numbers s)
         ∙ agrees_within v spot [] _ (numbers_first v spot [])
 
-    release_caret : {s : List ℕ} → Spot s (leading_place s) → (is_from Default (filled s []) v && agrees_past_zeros s (numbers v))
+    release_caret : {s : List ℕ} → Spot s (leading_place s) → (is_from ByDialect (filled s []) v && agrees_past_zeros s (numbers v))
         ≡ (is_ge (first_numbers 3 v (filled s [])) && not (is_gt (first_numbers (leading_place s) v (filled s []))))
     release_caret {s = s} spot = ap (λ b. b && agrees_past_zeros s (numbers v)) (from_numbers s)
         ∙ past_zeros_within v spot [] _ (numbers_first v spot [])
 
-    exact_block : {s : List ℕ} {k : ℕ} → Spot s k → (p : List IdentifierValue) → (is_from Default (filled s p) v && agrees k s v)
+    exact_block : {s : List ℕ} {k : ℕ} → Spot s k → (p : List IdentifierValue) → (is_from ByDialect (filled s p) v && agrees k s v)
         ≡ (is_ge (precedence v (filled s p)) && not (is_gt (first_numbers k v (filled s p))))
     exact_block {s = s} {k = k} spot p = ap (λ b. b && agrees k s v) (release_from (filled s p))
         ∙ agrees_within v spot p _ (from_first v spot p)
 
     exact_caret : {s : List ℕ} → Spot s (leading_place s) → (p : List IdentifierValue)
-        → (is_from Default (filled s p) v && agrees_past_zeros s (numbers v))
+        → (is_from ByDialect (filled s p) v && agrees_past_zeros s (numbers v))
         ≡ (is_ge (precedence v (filled s p)) && not (is_gt (first_numbers (leading_place s) v (filled s p))))
     exact_caret {s = s} spot p = ap (λ b. b && agrees_past_zeros s (numbers v)) (release_from (filled s p))
         ∙ past_zeros_within v spot p _ (from_first v spot p)

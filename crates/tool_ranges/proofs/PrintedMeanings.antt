@@ -27,7 +27,7 @@ use Rattle.semver_ranges.specs.Steps.RangeEvents.{yielded}
 use Rattle.semver_ranges.proofs.Rows.{Shape}
 use Rattle.semver_ranges.proofs.SetMeanings.{stated_shape}
 use Rattle.semver_ranges.proofs.Tests.{list_all-weaker, list_any-weaker, list_any-same}
-use Rattle.version_sets.specs.declared.rules.PreReleases.TheVariants.{Default, Included}
+use Rattle.version_sets.specs.declared.rules.PreReleases.TheVariants.{ByDialect, Included}
 use Rattle.tool_ranges.specs.AnySize.{comparator_any, range_any, set_any}
 use Rattle.tool_ranges.specs.CargoMeaning as cargo
 use Rattle.tool_ranges.specs.NpmMeaning as npm
@@ -109,14 +109,14 @@ module _ (v : PlainVersion) (release : v.pre ≡ []) where
 
   pub cargo_meets : (tree : SetTree) (set : PlainSet)
       → set ≡ record { ranges = printed_ranges Stated Cargo mode.Cargo tree; compat = mode.Cargo }
-      → meets_set v set ≡ cargo.meets_requirement Default tree v
+      → meets_set v set ≡ cargo.meets_requirement ByDialect tree v
   cargo_meets tree set is = sym (release_set v set is_release) ∙ ap (λ s. meets_set v (set_any s)) is
       ∙ ranges_meet Stated Cargo false v cargo_term mode.Cargo (ranges_of Stated Cargo tree)
       ∙ ranges_counted Cargo (ranges_of Stated Cargo tree) ∙ cargo_default v tree
 
   -- a release satisfies a term that matches everything
   met : (form : Form) {s : List ℕ} → Shape s → (p : List IdentifierValue) → asks_nothing_by form (is_empty s) (is_zero (filled s p)) ≡ true
-      → meets_by_count Default form s (filled s p) v ≡ true
+      → meets_by_count ByDialect form s (filled s p) v ≡ true
   met less s p e = cc
   met greater s p e = cc
   met at_least Shape.none p e = refl
@@ -143,7 +143,7 @@ module _ (v : PlainVersion) (release : v.pre ≡ []) where
 
   pub npm_meets : (tree : SetTree) (set : PlainSet)
       → set ≡ record { ranges = printed_ranges Stated Npm mode.Npm tree; compat = mode.Npm }
-      → meets_set v set ≡ npm.meets_npm Default tree v
+      → meets_set v set ≡ npm.meets_npm ByDialect tree v
   npm_meets tree set is = sym (release_set v set is_release) ∙ ap (λ s. meets_set v (set_any s)) is
       ∙ ranges_meet Stated Npm false v npm_term mode.Npm (map (yielded Stated) tree)
       ∙ ranges_counted Npm (map (yielded Stated) tree) ∙ every_range (map (yielded Stated) tree) ∙ npm_default v tree

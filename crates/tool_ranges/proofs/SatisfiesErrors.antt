@@ -10,12 +10,12 @@ use Rattle.semver_texts.specs.declared.grammar.Grammar.{Grammar}
 use Rattle.tool_ranges.specs.Dialects.{HasSetAs, IsTooLargeAs, RefusesAs, fits_as}
 use Rattle.tool_ranges.specs.Satisfying.{AnswersOf, Satisfies}
 use Rattle.tool_ranges.specs.declared.dialect.Dialect.{Dialect}
-use Rattle.tool_ranges.specs.declared.meaning.Meaning.{Meaning}
+use Rattle.tool_ranges.specs.declared.meaning.Rules.{Rules}
 use Rattle.tool_ranges.specs.declared.satisfying.SatisfiesError.{SatisfiesError}
 use Rattle.tool_ranges.specs.declared.satisfying.SatisfiesError.TheVariants.{InvalidRange, InvalidVersion}
 use Rattle.tool_ranges.proofs.ReadingLaws.{one_tree}
 
-pub refused_range : (m : Meaning) (v : VersionValue) (t : Text) (e : RangeError) → RefusesAs {A = Bool} m.dialect t (Err e)
+pub refused_range : (m : Rules) (v : VersionValue) (t : Text) (e : RangeError) → RefusesAs {A = Bool} m.dialect t (Err e)
     → (e ≡ OutOfMemory → ⊥) → AnswersOf m v t (Err (InvalidRange e))
 refused_range m v t NotARange by kept = by.not_a_range.0 refl
 refused_range m v t NumberTooLarge by kept = by.too_large.0 refl
@@ -25,7 +25,7 @@ not_both : (d : Dialect) (t : Text) → HasSetAs d t → IsTooLargeAs d t → �
 not_both d t (tree, spells, fit) (other, spelled, large) =
     true≢false (sym fit ∙ ap (fits_as d) (one_tree d tree other t spells spelled) ∙ large)
 
-module _ (m : Meaning) (v : VersionValue) (t : Text) where
+module _ (m : Rules) (v : VersionValue) (t : Text) where
   one_of : (r s : Result Bool SatisfiesError) → AnswersOf m v t r → AnswersOf m v t s → r ≡ s
   one_of (Ok a) (Ok b) (set, p) (_, q) = ap Ok (p set.0 set.1 ∙ sym (q set.0 set.1))
   one_of (Ok a) (Err InvalidVersion) p q = absurd q
@@ -45,7 +45,7 @@ module _ (m : Meaning) (v : VersionValue) (t : Text) where
   one_of (Err (InvalidRange NumberTooLarge)) (Err (InvalidRange OutOfMemory)) p q = absurd q
   one_of (Err (InvalidRange OutOfMemory)) s p q = absurd p
 
-pub one_answer : ((g : Grammar) (v w : VersionValue) (t : Text) → SpellsIn g v t → SpellsIn g w t → v ≡ w) → (m : Meaning)
+pub one_answer : ((g : Grammar) (v w : VersionValue) (t : Text) → SpellsIn g v t → SpellsIn g w t → v ≡ w) → (m : Rules)
     (version range : Text) (r s : Result Bool SatisfiesError) → Satisfies m version range r → Satisfies m version range s → r ≡ s
 one_answer same m version range r s (inl p) (inl q) = p.1 ∙ sym q.1
 one_answer same m version range r s (inl p) (inr (v, is, _)) = absurd (p.0 (v, is))

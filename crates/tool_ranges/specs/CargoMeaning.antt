@@ -22,7 +22,7 @@ use Rattle.semver_ranges.specs.Terms.{of_simple}
 use Rattle.semver_ranges.specs.CrateMeaning.{agrees_past_zeros, meets_form}
 use Rattle.semver_ranges.specs.StatedPreReleases.{states_pre_release_at}
 use Rattle.version_sets.specs.declared.rules.PreReleases.{PreReleases}
-use Rattle.version_sets.specs.declared.rules.PreReleases.TheVariants.{Default, Included, Excluded}
+use Rattle.version_sets.specs.declared.rules.PreReleases.TheVariants.{ByDialect, Included, Excluded}
 use Rattle.tool_ranges.specs.AnySize.{zero_filled_any}
 use Rattle.tool_ranges.specs.CargoGrammar.{comparators_of}
 
@@ -90,11 +90,11 @@ counts tree v =
 -- whether a version satisfies a requirement by default: it satisfies each comparator, and it counts
 abbrev pub meets_by_default : SetTree → PlainVersion → Bool
 meets_by_default tree v =
-    list_all (λ s. meets_one Default s v) (comparators_of tree) && counts tree v
+    list_all (λ s. meets_one ByDialect s v) (comparators_of tree) && counts tree v
 
 -- whether a version satisfies a requirement under a rule. With `Excluded`, it is a release that
 -- satisfies the requirement by default
 abbrev pub meets_requirement : PreReleases → SetTree → PlainVersion → Bool
-meets_requirement Default tree v = meets_by_default tree v
+meets_requirement ByDialect tree v = meets_by_default tree v
 meets_requirement Included tree v = list_all (λ s. meets_one Included s v) (comparators_of tree)
 meets_requirement Excluded tree v = is_empty v.pre && meets_by_default tree v

@@ -14,7 +14,7 @@ use Rattle.semver_ranges.specs.RangeTree.{SetTree, Spells}
 use Rattle.semver_ranges.specs.RangeTexts.{Refuses}
 use Rattle.semver_ranges.specs.RewritingTable.{PlainSet, fits_by, set_by}
 use Rattle.semver_ranges.specs.ExactBounds.{rewritten_exactly}
-use Rattle.version_sets.specs.declared.rules.PreReleases.TheVariants.{Default}
+use Rattle.version_sets.specs.declared.rules.PreReleases.TheVariants.{ByDialect}
 use Rattle.tool_ranges.specs.declared.dialect.Dialect.{Dialect}
 use Rattle.tool_ranges.specs.declared.dialect.Dialect.TheVariants.{Cargo, Npm, CrateCargo}
 use Rattle.tool_ranges.specs.declared.dialect.Dialect.TheVariants.{CrateNpm}
@@ -40,8 +40,8 @@ fits_as dialect tree = fits_by (λ s. term_fits dialect (read_in dialect s)) tre
 
 -- whether a release satisfies a tree
 abbrev pub means_release : Dialect → SetTree → PlainVersion → Bool
-means_release Cargo tree v = meets_requirement Default tree v
-means_release Npm tree v = meets_npm Default tree v
+means_release Cargo tree v = meets_requirement ByDialect tree v
+means_release Npm tree v = meets_npm ByDialect tree v
 means_release CrateCargo tree v = meets_tree compat.Cargo tree v
 means_release CrateNpm tree v = meets_tree compat.Npm tree v
 

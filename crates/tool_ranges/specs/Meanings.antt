@@ -10,7 +10,7 @@ use Rattle.semver_ranges.specs.RangeTree.{SetTree}
 use Rattle.tool_ranges.specs.declared.dialect.Dialect.{Dialect}
 use Rattle.tool_ranges.specs.declared.dialect.Dialect.TheVariants.{Cargo, Npm, CrateCargo}
 use Rattle.tool_ranges.specs.declared.dialect.Dialect.TheVariants.{CrateNpm}
-use Rattle.tool_ranges.specs.declared.meaning.Meaning.{Meaning}
+use Rattle.tool_ranges.specs.declared.meaning.Rules.{Rules}
 use Rattle.tool_ranges.specs.CargoMeaning.{meets_requirement}
 use Rattle.tool_ranges.specs.NpmMeaning.{meets_npm}
 use Rattle.tool_ranges.specs.Dialects.{SpellsAs}
@@ -23,7 +23,7 @@ meant_by CrateCargo rule tree v = meant_with rule compat.Cargo tree v
 meant_by CrateNpm rule tree v = meant_with rule compat.Npm tree v
 
 -- whether a version satisfies a tree under a meaning, which has a dialect and a rule
-abbrev pub meant_as : Meaning → SetTree → VersionValue → Bool
+abbrev pub meant_as : Rules → SetTree → VersionValue → Bool
 meant_as meaning tree v = meant_by meaning.dialect meaning.pre_releases tree v
 
 -- for each tree of the text, and each version whose numbers fit 64 bits, the set contains the
@@ -33,5 +33,5 @@ MeansBy dialect rule t set = (tree : SetTree) (v : VersionValue)
     → SpellsAs dialect tree t → Fits v.plain → contains set v.plain ≡ meant_by dialect rule tree v
 
 -- as `MeansBy`, with the dialect and the rule of a meaning
-abbrev pub MeansAs : Meaning → Text → SetValue → Type 0
+abbrev pub MeansAs : Rules → Text → SetValue → Type 0
 MeansAs meaning t set = MeansBy meaning.dialect meaning.pre_releases t set

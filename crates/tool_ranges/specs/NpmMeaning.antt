@@ -18,7 +18,7 @@ use Rattle.semver_ranges.specs.CrateMeaning.{agrees, agrees_past_zeros}
 use Rattle.semver_ranges.specs.RewritingTable.{up}
 use Rattle.semver_ranges.specs.StatedPreReleases.{counts_in}
 use Rattle.version_sets.specs.declared.rules.PreReleases.{PreReleases}
-use Rattle.version_sets.specs.declared.rules.PreReleases.TheVariants.{Default, Included, Excluded}
+use Rattle.version_sets.specs.declared.rules.PreReleases.TheVariants.{ByDialect, Included, Excluded}
 use Rattle.tool_ranges.specs.AnySize.{zero_filled_any}
 use Rattle.tool_ranges.specs.CargoMeaning.{against}
 
@@ -137,11 +137,11 @@ is_every_release range = list_all matches_everything (terms range)
 abbrev pub meets_by_default : SetTree → PlainVersion → Bool
 meets_by_default tree v =
     if list_any is_every_release tree then is_empty v.pre
-    else list_any (λ range. meets_range Default range v && counts_in range v) tree
+    else list_any (λ range. meets_range ByDialect range v && counts_in range v) tree
 
 -- whether a version satisfies a text under a rule. With `Excluded`, it is a release that satisfies
 -- the text by default
 abbrev pub meets_npm : PreReleases → SetTree → PlainVersion → Bool
-meets_npm Default tree v = meets_by_default tree v
+meets_npm ByDialect tree v = meets_by_default tree v
 meets_npm Included tree v = list_any (λ range. meets_range Included range v) tree
 meets_npm Excluded tree v = is_empty v.pre && meets_by_default tree v

@@ -10,14 +10,14 @@ use Rattle.semver_ranges.specs.RangeTree.{SetTree}
 use Rattle.tool_ranges.specs.Dialects.{HasSetAs, IsTextAs, IsTooLargeAs, SpellsAs}
 use Rattle.tool_ranges.specs.Dialects.{grammar_of}
 use Rattle.tool_ranges.specs.Meanings.{meant_as}
-use Rattle.tool_ranges.specs.declared.meaning.Meaning.{Meaning}
+use Rattle.tool_ranges.specs.declared.meaning.Rules.{Rules}
 use Rattle.tool_ranges.specs.declared.satisfying.SatisfiesError.{SatisfiesError}
 use Rattle.tool_ranges.specs.declared.satisfying.SatisfiesError.TheVariants.{InvalidRange}
 use Rattle.tool_ranges.specs.declared.satisfying.SatisfiesError.TheVariants.{InvalidVersion}
 
 -- the result for a version and a range text: whether the version satisfies the range, or the error
 -- of the range text
-abbrev pub AnswersOf : Meaning → VersionValue → Text → Result Bool SatisfiesError → Type 0
+abbrev pub AnswersOf : Rules → VersionValue → Text → Result Bool SatisfiesError → Type 0
 AnswersOf m v range (Ok met) = HasSetAs m.dialect range
     × ((tree : SetTree) → SpellsAs m.dialect tree range → met ≡ meant_as m tree v)
 AnswersOf m v range (Err InvalidVersion) = ⊥
@@ -27,7 +27,7 @@ AnswersOf m v range (Err (InvalidRange OutOfMemory)) = ⊥
 
 -- the result for a version text and a range text: `InvalidVersion` if the first is invalid,
 -- otherwise the result for its version
-abbrev pub Satisfies : Meaning → Text → Text → Result Bool SatisfiesError → Type 0
+abbrev pub Satisfies : Rules → Text → Text → Result Bool SatisfiesError → Type 0
 Satisfies m version range r =
     ((¬ (IsVersionTextIn (grammar_of m.dialect) version)) × (r ≡ Err InvalidVersion))
     ⊎ ((v : VersionValue) × SpellsIn (grammar_of m.dialect) v version × AnswersOf m v range r)

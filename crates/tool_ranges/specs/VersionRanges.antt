@@ -9,7 +9,7 @@ use Rattle.version_sets.specs.PreReleaseTable.{number_of as rule_number}
 use Rattle.version_sets.specs.VersionSets.{SetValue, contains, same_set}
 use Rattle.tool_ranges.specs.DialectTable.{number_of}
 use Rattle.tool_ranges.specs.Dialects.{grammar_of}
-use Rattle.tool_ranges.specs.declared.meaning.Meaning.{Meaning}
+use Rattle.tool_ranges.specs.declared.meaning.Rules.{Rules}
 use Rattle.tool_ranges.specs.declared.satisfying.SatisfiesError.{SatisfiesError}
 use Rattle.tool_ranges.specs.declared.satisfying.SatisfiesError.TheVariants.{InvalidRange}
 use Rattle.tool_ranges.specs.declared.satisfying.SatisfiesError.TheVariants.{InvalidVersion}
@@ -17,7 +17,7 @@ use Rattle.tool_ranges.specs.declared.satisfying.SatisfiesError.TheVariants.{Inv
 -- the versions that a range contains, and its meaning
 pub record RangeValue : Type 0 where
   pub versions : SetValue
-  pub meaning : Meaning
+  pub meaning : Rules
 
 -- the grammar of versions in the dialect of a range
 abbrev pub versions_grammar : RangeValue → Grammar
@@ -32,7 +32,7 @@ ContainsText range text (Err InvalidVersion) = ¬ (IsVersionTextIn (versions_gra
 ContainsText range text (Err (InvalidRange error)) = ⊥
 
 -- whether two meanings have the same dialect and the same rule, compared by their numbers
-abbrev pub same_meaning : Meaning → Meaning → Bool
+abbrev pub same_meaning : Rules → Rules → Bool
 same_meaning a b =
     int_eq (number_of a.dialect) (number_of b.dialect)
     && int_eq (rule_number a.pre_releases) (rule_number b.pre_releases)

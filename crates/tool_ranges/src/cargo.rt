@@ -8,7 +8,7 @@ ghost use Rattle.semver_ranges.specs.declared.range.Compat.TheVariants.{Cargo};
 ghost use Rattle.semver_ranges.specs.SatisfiedComparators.{meets_set};
 ghost use Rattle.semver_ranges.specs.PrintedRanges.{IsPrintableSet, set_text};
 ghost use Rattle.semver_ranges.specs.RewritingTable.{fits, rewritten};
-ghost use Rattle.version_sets.specs.declared.rules.PreReleases.TheVariants.{Default};
+ghost use Rattle.version_sets.specs.declared.rules.PreReleases.TheVariants.{ByDialect};
 ghost use Rattle.tool_ranges.specs.CargoGrammar.{SpellsRequirement};
 ghost use Rattle.tool_ranges.specs.CargoMeaning.{meets_requirement};
 ghost use Rattle.tool_ranges.specs.Dialects.{IsRewrittenAs, RefusesAs};
@@ -56,7 +56,7 @@ pub fn rewrite(alloc: Global, requirement: &str) -> Result<RangeSet, RangeError>
     // A release satisfies the result if and only if it satisfies the requirement.
     ensures releases { IfOk result (λ set. (tree : SetTree) (v : PlainVersion)
         → SpellsRequirement tree requirement.now → v.pre ≡ [] →
-        meets_set v (set_of set) ≡ meets_requirement Default tree v) }
+        meets_set v (set_of set) ≡ meets_requirement ByDialect tree v) }
     // The result is printable: printed, it is a range that `RangeSet::parse` rewrites to the same
     // set.
     ensures printable { IfOk result (λ set. IsPrintableSet (set_of set)) }

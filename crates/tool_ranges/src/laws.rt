@@ -9,7 +9,7 @@ ghost use Rattle.tool_ranges.specs.Dialects.{SpellsAs};
 ghost use Rattle.tool_ranges.specs.VersionRanges.{versions_grammar};
 
 use crate::dialect::Dialect;
-use crate::meaning::Meaning;
+use crate::meaning::Rules;
 use crate::satisfying::{SatisfiesError, satisfies};
 use crate::version_range::VersionRange;
 use semver_versions::laws::one_version_in;
@@ -39,7 +39,7 @@ pub fn one_dialect_of_number(number: i32) -> (Option<Dialect>, Option<Dialect>)
 pub fn one_satisfies(
     version: &[u8],
     range: &str,
-    meaning: Meaning,
+    meaning: Rules,
 ) -> (Result<bool, SatisfiesError>, Result<bool, SatisfiesError>)
     ensures one { result.0 ≡ result.1 }
 {

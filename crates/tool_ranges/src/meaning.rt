@@ -38,10 +38,10 @@ use version_sets::{PreReleases, VersionSet};
 /// # Ok::<(), semver_parser::Error>(())
 /// ```
 #[derive(Clone, Copy, PartialEq, Eq, Hash, Debug)]
-pub struct Meaning {
+pub struct Rules {
     /// The dialect in which the string is read.
     pub dialect: Dialect,
-    /// Which pre-releases count. With `Default` these are the ones that Cargo and npm match by
+    /// Which pre-releases count. With `ByDialect` these are the ones that Cargo and npm match by
     /// default; with `Included`, every one within the bounds, as with node-semver's
     /// `includePrerelease`; with `Excluded`, none.
     pub pre_releases: PreReleases,
@@ -60,7 +60,7 @@ pub struct Meaning {
 /// - `NumberTooLarge` if it is a range, but one of its numbers, or a bound that is raised by one,
 ///   is above 2^64 - 1, or above 2^53 - 1 in npm's dialect.
 /// - `OutOfMemory` if an allocation fails. The first two errors are returned without allocating.
-pub fn read(alloc: Global, meaning: Meaning, range: &str) -> Result<VersionSet, RangeError>
+pub fn read(alloc: Global, meaning: Rules, range: &str) -> Result<VersionSet, RangeError>
     // `NotARange` and `NumberTooLarge` are returned for exactly the strings for which they are
     // defined.
     ensures refusals { RefusesAs meaning.dialect range.now result }
@@ -88,11 +88,7 @@ pub fn read(alloc: Global, meaning: Meaning, range: &str) -> Result<VersionSet, 
 /// dialect, and `NumberTooLarge` if it is a range, but one of its numbers, or a bound that is
 /// raised by one, is above the dialect's limit.
 #[inline(always)]
-pub fn satisfies(
-    version: &VersionRef<'_>,
-    range: &str,
-    meaning: Meaning,
-) -> Result<bool, RangeError>
+pub fn satisfies(version: &VersionRef<'_>, range: &str, meaning: Rules) -> Result<bool, RangeError>
     // `NotARange` and `NumberTooLarge` are returned for exactly the strings for which they are
     // defined.
     ensures refusals { RefusesAs meaning.dialect range.now result }
@@ -120,7 +116,7 @@ pub fn satisfies(
 /// Checks that a string is a range, with the errors of [`satisfies`]: `^1.2` is one, and `1 ||`
 /// isn't in Cargo's dialect. It does not allocate.
 #[inline(never)]
-pub fn check(meaning: Meaning, range: &str) -> Result<(), RangeError>
+pub fn check(meaning: Rules, range: &str) -> Result<(), RangeError>
     // `NotARange` and `NumberTooLarge` are returned for exactly the strings for which they are
     // defined.
     ensures refusals { RefusesAs meaning.dialect range.now result }

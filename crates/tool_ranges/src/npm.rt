@@ -10,7 +10,7 @@ ghost use Rattle.semver_ranges.specs.RangeViews.{set_of};
 ghost use Rattle.semver_ranges.specs.SatisfiedComparators.{meets_set};
 ghost use Rattle.semver_ranges.specs.PrintedRanges.{IsPrintableSet, set_text};
 ghost use Rattle.semver_ranges.specs.RewritingTable.{fits, rewritten};
-ghost use Rattle.version_sets.specs.declared.rules.PreReleases.TheVariants.{Default, Included};
+ghost use Rattle.version_sets.specs.declared.rules.PreReleases.TheVariants.{ByDialect, Included};
 ghost use Rattle.tool_ranges.specs.AnySize.{set_any};
 ghost use Rattle.tool_ranges.specs.Rewritten.{rewritten_included};
 ghost use Rattle.tool_ranges.specs.NpmGrammar.{may_stand, SpellsNpmRange};
@@ -57,7 +57,7 @@ pub fn rewrite(alloc: Global, range: &str) -> Result<RangeSet, RangeError>
     // A release satisfies the result if and only if it satisfies the range.
     ensures releases { IfOk result (λ set. (tree : SetTree) (v : PlainVersion)
         → SpellsNpmRange tree range.now → v.pre ≡ [] →
-        meets_set v (set_of set) ≡ meets_npm Default tree v) }
+        meets_set v (set_of set) ≡ meets_npm ByDialect tree v) }
     // The result is printable: printed, it is a range that `RangeSet::parse` rewrites to the same
     // set.
     ensures printable { IfOk result (λ set. IsPrintableSet (set_of set)) }

@@ -2,7 +2,7 @@
 
 ghost use Rattle.tool_ranges.specs.Satisfying.{Satisfies};
 
-use crate::meaning::{self, Meaning};
+use crate::meaning::{self, Rules};
 use semver_ranges::RangeError;
 use semver_versions::version::read_ref_in;
 use thiserror::Error;
@@ -27,7 +27,7 @@ pub enum SatisfiesError {
 /// `InvalidVersion` if the version is invalid in the dialect; otherwise `InvalidRange` if the range
 /// is invalid, or one of its numbers is too large.
 #[inline(always)]
-pub fn satisfies(version: &[u8], range: &str, meaning: Meaning) -> Result<bool, SatisfiesError>
+pub fn satisfies(version: &[u8], range: &str, meaning: Rules) -> Result<bool, SatisfiesError>
     ensures answer { Satisfies meaning version.now range.now result }
 {
     let Some(borrowed) = read_ref_in(version, meaning.dialect.grammar()) else {

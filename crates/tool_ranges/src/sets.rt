@@ -177,7 +177,7 @@ impl Building<'_> {
         let set = ranges.into_set(alloc, &self.here, digits)?;
         match rule {
             PreReleases::Excluded => Ok(set.only_releases(alloc)),
-            PreReleases::Default | PreReleases::Included => Ok(set),
+            PreReleases::ByDialect | PreReleases::Included => Ok(set),
         }
     }
 }

@@ -14,7 +14,7 @@ ghost use Rattle.version_sets.specs.Printable.{IsPrintable};
 ghost use Rattle.version_sets.specs.VersionSets.{HasNone, IsIn, IsLowest, IsPreRelease, IsWithin};
 ghost use Rattle.version_sets.specs.VersionSets.{contains, contains_kept};
 
-use crate::meaning::{self, Meaning};
+use crate::meaning::{self, Rules};
 use crate::satisfying::SatisfiesError;
 use crate::table::limit;
 use semver_ranges::RangeError;
@@ -41,7 +41,7 @@ use version_sets::{OperationError, VersionSet};
 #[derive(Debug, Drop)]
 pub struct VersionRange {
     pub(crate) versions: VersionSet,
-    pub(crate) meaning: Meaning,
+    pub(crate) meaning: Rules,
 }
 
 impl Model for VersionRange {
@@ -69,7 +69,7 @@ impl VersionRange {
     ///   one, is above 2^64 - 1, or above 2^53 - 1 in npm's dialect.
     /// - `OutOfMemory` if an allocation failed. The first two errors are returned without
     ///   allocating.
-    pub fn parse(alloc: Global, range: &str, meaning: Meaning) -> Result<VersionRange, RangeError>
+    pub fn parse(alloc: Global, range: &str, meaning: Rules) -> Result<VersionRange, RangeError>
         // `NotARange` and `NumberTooLarge` are returned for exactly the strings for which they are
         // defined.
         ensures refusals { RefusesAs meaning.dialect range.now result }
@@ -116,7 +116,7 @@ impl VersionRange {
     /// Only `DifferentDigits`, if the set reads numeric identifiers differently than the dialect.
     pub fn from_versions(
         versions: VersionSet,
-        meaning: Meaning,
+        meaning: Rules,
     ) -> Result<VersionRange, OperationError>
         ensures refused { (result ≡ Err OperationError.DifferentDigits)
             ↔ (versions.digits ≢ digits_in (grammar_of meaning.dialect)) }
@@ -135,7 +135,7 @@ impl VersionRange {
     /// Returns the meaning of the range: its dialect, and which pre-releases count.
     #[must_use]
     #[inline(always)]
-    pub fn meaning(&self) -> Meaning
+    pub fn meaning(&self) -> Rules
         ensures { result ≡ self.now.meaning }
     {
         self.meaning

@@ -10,19 +10,19 @@ use Rattle.semver_ranges.specs.RangeTree.{SetTree}
 use Rattle.semver_ranges.specs.CrateMeaning.{meets_tree}
 use Rattle.semver_ranges.specs.StatedPreReleases.{meets_tree_as_stated}
 use Rattle.version_sets.specs.declared.rules.PreReleases.{PreReleases}
-use Rattle.version_sets.specs.declared.rules.PreReleases.TheVariants.{Excluded, Default, Included}
+use Rattle.version_sets.specs.declared.rules.PreReleases.TheVariants.{Excluded, ByDialect, Included}
 
 -- whether a version has no pre-release
 abbrev pub is_release : VersionValue → Bool
 is_release v = is_empty v.plain.pre
 
 -- whether a version satisfies a text under a rule. With `Excluded`, it is a release that satisfies
--- some range. With `Default`, it satisfies some range in which it counts: a pre-release counts only
+-- some range. With `ByDialect`, it satisfies some range in which it counts: a pre-release counts only
 -- if a term of the range states its three numbers and a pre-release. With `Included`, it satisfies
 -- some range
 abbrev pub meets_text_with : PreReleases → Compat → SetTree → VersionValue → Bool
 meets_text_with Excluded mode tree v = is_release v && meets_tree mode tree v.plain
-meets_text_with Default mode tree v = meets_tree_as_stated mode tree v.plain
+meets_text_with ByDialect mode tree v = meets_tree_as_stated mode tree v.plain
 meets_text_with Included mode tree v = meets_tree mode tree v.plain
 
 -- whether the numbers of a version fit 64 bits, as those of each `Version` and each version text do

@@ -22,7 +22,7 @@ pub enum PreReleases {
     /// The default rule of npm and of Cargo's `semver`: a pre-release that satisfies a range by
     /// precedence, if a term of the same range names its three numbers and a pre-release. 1.2.3-rc
     /// satisfies `^1.2.3-beta`, but neither `>=1.2.0` nor `^1.2.0 || =1.2.3-beta`.
-    Default,
+    ByDialect,
     /// Every pre-release that satisfies a range by precedence: 1.3.0-rc satisfies `^1.2.0`.
     Included,
 }
@@ -35,7 +35,7 @@ impl PreReleases {
         ensures { result ≡ number_of self }
     {
         match self {
-            PreReleases::Default => 0,
+            PreReleases::ByDialect => 0,
             PreReleases::Included => 1,
             PreReleases::Excluded => 2,
         }
@@ -49,7 +49,7 @@ impl PreReleases {
             (λ it. number ≡ number_of it) }
     {
         match number {
-            0 => Some(PreReleases::Default),
+            0 => Some(PreReleases::ByDialect),
             1 => Some(PreReleases::Included),
             2 => Some(PreReleases::Excluded),
             _ => None,
@@ -69,7 +69,7 @@ impl PreReleases {
         ensures { result.now ≡ name_of self }
     {
         match self {
-            PreReleases::Default => "by-dialect",
+            PreReleases::ByDialect => "by-dialect",
             PreReleases::Included => "included",
             PreReleases::Excluded => "excluded",
         }

@@ -56,7 +56,7 @@ pub fn satisfies<'a>(bytes: &'a [u8], range: &'a [u8], options: Options) -> Answ
 pub fn check_range(range: &[u8], number: i32) -> Answer<'_, ()> {
     let dialect = dialect(number)?;
     let range = text(range, 0)?;
-    let rules = Rules { dialect, pre_releases: PreReleases::Default };
+    let rules = Rules { dialect, pre_releases: PreReleases::ByDialect };
     meaning::check(rules, range).map_err(refused(range, dialect, 0))
 }
 

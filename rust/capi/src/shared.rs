@@ -15,7 +15,7 @@ pub use crate::proved::semver_ranges::RangeError;
 pub use crate::proved::semver_versions::version::{read_ref_in, VersionRef};
 pub use crate::proved::tool_ranges::dialect::{rewrite, Dialect};
 pub use crate::proved::tool_ranges::highest::Extreme;
-pub use crate::proved::tool_ranges::meaning::Meaning as Rules;
+pub use crate::proved::tool_ranges::meaning::Rules;
 pub use crate::proved::tool_ranges::satisfying::{satisfies, SatisfiesError};
 pub use crate::proved::tool_ranges::version_range::VersionRange;
 pub use crate::proved::version_sets::{Combination, PreReleases};

@@ -1,7 +1,7 @@
 //! Versions in a range, given as strings.
 
 use crate::proved::tool_ranges::dialect::Dialect;
-use crate::proved::tool_ranges::meaning::Meaning;
+use crate::proved::tool_ranges::meaning::Rules;
 use crate::proved::tool_ranges::satisfying::SatisfiesError;
 use crate::proved::tool_ranges::version_range::VersionRange;
 use crate::proved::version_sets::PreReleases;
@@ -28,9 +28,9 @@ const TEXTS: [(&str, PreReleases, &[u8], Contained); 24] = [
     ("^1.2", PreReleases::Excluded, b"", INVALID),
     ("*", PreReleases::Excluded, b"18446744073709551615.0.0", Ok(true)),
     ("*", PreReleases::Excluded, b"18446744073709551616.0.0", INVALID),
-    ("^1.2.3-b", PreReleases::Default, b"1.2.3-rc+b5", Ok(true)),
-    ("^1.2.3-b", PreReleases::Default, b"1.2.3-a", Ok(false)),
-    ("^1.2.3-b", PreReleases::Default, b"1.3.0-rc", Ok(false)),
+    ("^1.2.3-b", PreReleases::ByDialect, b"1.2.3-rc+b5", Ok(true)),
+    ("^1.2.3-b", PreReleases::ByDialect, b"1.2.3-a", Ok(false)),
+    ("^1.2.3-b", PreReleases::ByDialect, b"1.3.0-rc", Ok(false)),
     ("^1.2.3-b", PreReleases::Included, b"1.3.0-rc.4", Ok(true)),
     ("^1.2.3-b", PreReleases::Included, b"2.0.0-0", Ok(false)),
     ("<0.1 || >=2", PreReleases::Included, b"0.0.9-x", Ok(true)),
@@ -44,7 +44,7 @@ const TEXTS: [(&str, PreReleases, &[u8], Contained); 24] = [
 pub fn contain() {
     for (range, pre_releases, text, wanted) in TEXTS {
         let dialect = Dialect::CrateCargo;
-        let read = VersionRange::try_parse(range, Meaning { dialect, pre_releases }).unwrap();
+        let read = VersionRange::try_parse(range, Rules { dialect, pre_releases }).unwrap();
         assert_eq!(read.try_contains_bytes(text), wanted, "{range}: {}", text.escape_ascii());
     }
 }

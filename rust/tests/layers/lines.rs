@@ -2,7 +2,7 @@
 
 use crate::proved::release_filter::{LineEnd, LineOptions, Lines, LinesError, Selection};
 use crate::proved::tool_ranges::dialect::Dialect;
-use crate::proved::tool_ranges::meaning::Meaning;
+use crate::proved::tool_ranges::meaning::Rules;
 use crate::proved::tool_ranges::version_range::VersionRange;
 use crate::proved::version_sets::PreReleases;
 
@@ -385,6 +385,6 @@ fn lines_of(range: &str, wanted: Selection, is_strict: bool) -> Lines {
 
 /// Returns the releases in a range of the crate in Cargo mode.
 fn releases(range: &str) -> VersionRange {
-    let meaning = Meaning { dialect: Dialect::CrateCargo, pre_releases: PreReleases::Excluded };
+    let meaning = Rules { dialect: Dialect::CrateCargo, pre_releases: PreReleases::Excluded };
     VersionRange::try_parse(range, meaning).unwrap()
 }

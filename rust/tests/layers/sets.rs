@@ -2,7 +2,7 @@
 
 use crate::proved::semver_parser::version;
 use crate::proved::tool_ranges::dialect::Dialect;
-use crate::proved::tool_ranges::meaning::{self, Meaning};
+use crate::proved::tool_ranges::meaning::{self, Rules};
 use crate::proved::version_sets::{PreReleases, VersionSet};
 
 /// The highest numbers, as a string.
@@ -10,17 +10,17 @@ const LAST: &str = "18446744073709551615.18446744073709551615.184467440737095516
 
 /// A range in Cargo mode, a rule, a version, and whether it is in the set.
 const TEXTS: [(&str, PreReleases, &str, bool); 24] = [
-    ("^1.2.3-beta.4", PreReleases::Default, "1.9.0", true),
+    ("^1.2.3-beta.4", PreReleases::ByDialect, "1.9.0", true),
     ("^1.2.3-beta.4", PreReleases::Excluded, "1.2.3-rc", false),
-    ("^1.2.3-beta.4", PreReleases::Default, "1.2.3-rc", true),
-    ("^1.2.3-beta.4", PreReleases::Default, "1.3.0-rc", false),
+    ("^1.2.3-beta.4", PreReleases::ByDialect, "1.2.3-rc", true),
+    ("^1.2.3-beta.4", PreReleases::ByDialect, "1.3.0-rc", false),
     ("^1.2.3-beta.4", PreReleases::Included, "1.3.0-rc", true),
     ("^1.2.3-beta.4", PreReleases::Included, "2.0.0-alpha", false),
-    (">=1.2.3 <1.2.4-rc", PreReleases::Default, "1.2.4-a", true),
-    ("=2.0.1-a || >=2.0.0", PreReleases::Default, "2.0.1-a", true),
-    ("=2.0.1-a || >=2.0.0", PreReleases::Default, "2.0.1-b", false),
-    ("1.2.3-a - 2", PreReleases::Default, "1.2.3-b", true),
-    ("1.2.3-a - 2", PreReleases::Default, "2.0.0-b", false),
+    (">=1.2.3 <1.2.4-rc", PreReleases::ByDialect, "1.2.4-a", true),
+    ("=2.0.1-a || >=2.0.0", PreReleases::ByDialect, "2.0.1-a", true),
+    ("=2.0.1-a || >=2.0.0", PreReleases::ByDialect, "2.0.1-b", false),
+    ("1.2.3-a - 2", PreReleases::ByDialect, "1.2.3-b", true),
+    ("1.2.3-a - 2", PreReleases::ByDialect, "2.0.0-b", false),
     (">1.2.3-a", PreReleases::Included, "1.2.3-a", false),
     (">1.2.3-a", PreReleases::Included, "1.2.3-a.0", true),
     (">1.2.3", PreReleases::Included, "1.2.4-0", true),
@@ -34,7 +34,7 @@ const TEXTS: [(&str, PreReleases, &str, bool); 24] = [
     (">2.0.0 <1.0.0", PreReleases::Included, "1.5.0", false),
     (
         "=18446744073709551615.18446744073709551615.18446744073709551615",
-        PreReleases::Default,
+        PreReleases::ByDialect,
         LAST,
         true,
     ),
@@ -60,7 +60,7 @@ const COMPARED: [(&str, &str, PreReleases, [&str; 3]); 6] = [
     ("^1.2", "~1.2", PreReleases::Excluded, ["1.3.0", "", "1.2.0"]),
     ("=1.0.0", "=2.0.0", PreReleases::Excluded, ["1.0.0", "2.0.0", ""]),
     (">1.2.3-a", ">=1.2.3-a", PreReleases::Included, ["", "1.2.3-a", "1.2.3-a.0"]),
-    (">=1.2.3-rc", ">=1.2.3", PreReleases::Default, ["1.2.3-rc", "", "1.2.3"]),
+    (">=1.2.3-rc", ">=1.2.3", PreReleases::ByDialect, ["1.2.3-rc", "", "1.2.3"]),
     ("<0.0.0", "<0.0.0-0", PreReleases::Included, ["0.0.0-0", "", ""]),
 ];
 
@@ -90,5 +90,5 @@ pub fn compare() {
 /// Returns the set of a range.
 fn set_of(range: &str, pre_releases: PreReleases) -> VersionSet {
     let dialect = Dialect::CrateCargo;
-    meaning::read(Meaning { dialect, pre_releases }, range).unwrap()
+    meaning::read(Rules { dialect, pre_releases }, range).unwrap()
 }

@@ -13,12 +13,12 @@ mod rattle_std;
 
 use proved::range_upgrades::upgrade::{upgrade, UpgradeError};
 use proved::tool_ranges::dialect::Dialect;
-use proved::tool_ranges::meaning::Meaning;
+use proved::tool_ranges::meaning::Rules;
 use proved::version_sets::PreReleases;
 use std::io::{self, Read, Write};
 
 fn result(range: &str, version: &str, dialect: Dialect) -> String {
-    let meaning = Meaning { dialect, pre_releases: PreReleases::Default };
+    let meaning = Rules { dialect, pre_releases: PreReleases::ByDialect };
     match upgrade(range, version.as_bytes(), meaning) {
         Ok(Some(range)) => range,
         Ok(None) => "!none".to_string(),

@@ -20,7 +20,7 @@ use Rattle.semver_ranges.specs.Steps.RangeEvents.{Event, one_simple, next_range}
 use Rattle.semver_versions.specs.VersionRefs.{VersionRefValue}
 use Rattle.semver_versions.specs.VersionRefs as refs
 use Rattle.version_sets.specs.declared.rules.PreReleases.{PreReleases}
-use Rattle.version_sets.specs.declared.rules.PreReleases.TheVariants.{Default, Included, Excluded}
+use Rattle.version_sets.specs.declared.rules.PreReleases.TheVariants.{ByDialect, Included, Excluded}
 use Rattle.tool_ranges.specs.AnySize.{zero_filled_any}
 use Rattle.tool_ranges.specs.CargoMeaning as cargo
 use Rattle.tool_ranges.specs.NpmMeaning as npm
@@ -42,7 +42,7 @@ states_at p v = not (is_empty (version_of p).pre) && pointwise nat_eq (numbers v
 
 abbrev pub rule_of : Bool → PreReleases
 rule_of true = Included
-rule_of false = Default
+rule_of false = ByDialect
 
 abbrev pub takes_all : PreReleases → Bool
 takes_all Included = true

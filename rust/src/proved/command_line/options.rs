@@ -6,7 +6,7 @@
 use crate::rattle_std::prelude::*;
 use crate::proved::command_line::error::{ArgumentError, Quoted};
 use crate::proved::tool_ranges::dialect::Dialect;
-use crate::proved::tool_ranges::meaning::Meaning;
+use crate::proved::tool_ranges::meaning::Rules;
 use crate::proved::version_sets::PreReleases;
 
 /// The state of the options that were taken so far: the dialect, and which pre-releases count.
@@ -57,7 +57,7 @@ impl MeaningOptions {
             "--npm" => self.set_dialect(Dialect::Npm, "--npm")?,
             "--releases-only" | "--releases" => self.set_pre_releases(PreReleases::Excluded)?,
             "--include-prerelease" | "--pre" => self.set_pre_releases(PreReleases::Included)?,
-            "--pre-stated" => self.set_pre_releases(PreReleases::Default)?,
+            "--pre-stated" => self.set_pre_releases(PreReleases::ByDialect)?,
             _ => return Ok(false),
         }
         Ok(true)
@@ -74,13 +74,13 @@ impl MeaningOptions {
     /// # Errors
     ///
     /// `NoDialect` if nothing followed `--dialect` or `--as`.
-    pub fn finish(self) -> Result<Meaning, ArgumentError> {
+    pub fn finish(self) -> Result<Rules, ArgumentError> {
         if self.wants_name {
             return Err(ArgumentError::NoDialect);
         }
-        Ok(Meaning {
+        Ok(Rules {
             dialect: self.dialect.map_or(Dialect::Cargo, |(dialect, _)| dialect),
-            pre_releases: self.rule.unwrap_or(PreReleases::Default),
+            pre_releases: self.rule.unwrap_or(PreReleases::ByDialect),
         })
     }
 
@@ -129,7 +129,7 @@ impl MeaningOptions {
 fn option_of(rule: PreReleases) -> &'static str {
     match rule {
         PreReleases::Excluded => "--releases-only",
-        PreReleases::Default => "--pre-stated",
+        PreReleases::ByDialect => "--pre-stated",
         PreReleases::Included => "--include-prerelease",
     }
 }

@@ -6,7 +6,7 @@ use crate::rattle_std::prelude::*;
 use crate::proved::command_line::{ArgumentError, MeaningOptions, Quoted};
 use crate::rattle_std::env;
 use crate::rattle_std::rt::Env;
-use crate::proved::tool_ranges::meaning::Meaning;
+use crate::proved::tool_ranges::meaning::Rules;
 
 /// The request of the arguments.
 pub enum Request {
@@ -25,7 +25,7 @@ pub struct Question {
     /// The new range, if there are two.
     pub new: Option<String>,
     /// The dialect, and which pre-releases count.
-    pub meaning: Meaning,
+    pub meaning: Rules,
     /// Whether an option requested the dialect.
     pub has_dialect: bool,
     /// What is printed, and for which change the status is 1.

@@ -15,7 +15,7 @@ use crate::rattle_std::AllocError;
 use crate::rattle_std::io::{self, ErrorKind};
 use crate::rattle_std::process::ExitCode;
 use crate::proved::tool_ranges::dialect::Dialect;
-use crate::proved::tool_ranges::meaning::Meaning;
+use crate::proved::tool_ranges::meaning::Rules;
 use crate::proved::tool_ranges::version_range::VersionRange;
 use crate::proved::version_sets::OperationError;
 
@@ -143,7 +143,7 @@ fn read_in_npm(
     question: &Question,
     range: &str,
 ) -> Result<VersionRange, RangeError> {
-    let meaning = Meaning {
+    let meaning = Rules {
         dialect: Dialect::Npm,
         pre_releases: question.meaning.pre_releases,
     };
@@ -256,7 +256,7 @@ fn push_tool(
     dialect: Dialect,
 ) -> Result<Option<RangeError>, AllocError> {
     let range = question.range.as_str();
-    let meaning = Meaning {
+    let meaning = Rules {
         dialect,
         pre_releases: question.meaning.pre_releases,
     };

@@ -8,7 +8,7 @@ use crate::proved::invalid_strings::longest::{Language, longest_prefix};
 use crate::proved::semver_ranges::RangeError;
 use crate::rattle_std::AllocError;
 use crate::proved::tool_ranges::dialect::Dialect;
-use crate::proved::tool_ranges::meaning::{self, Meaning};
+use crate::proved::tool_ranges::meaning::{self, Rules};
 use crate::proved::version_sets::PreReleases;
 
 /// The strings that complete a prefix. Which one does depends on the end of the prefix:
@@ -71,9 +71,9 @@ pub(crate) fn is_range(dialect: Dialect, text: &str) -> bool {
 
 /// Returns the error with which a dialect rejects a string, if it does.
 pub(crate) fn check(dialect: Dialect, text: &str) -> Result<(), RangeError> {
-    let meaning = Meaning {
+    let meaning = Rules {
         dialect,
-        pre_releases: PreReleases::Default,
+        pre_releases: PreReleases::ByDialect,
     };
     meaning::check(meaning, text)
 }

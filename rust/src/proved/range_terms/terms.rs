@@ -11,7 +11,7 @@ use crate::proved::semver_ranges::partial::{self, Components};
 use crate::proved::semver_texts::dotted::{strip_mark, text_of_parts};
 use crate::proved::semver_texts::grammar::Grammar;
 use crate::proved::tool_ranges::dialect::Dialect;
-use crate::proved::tool_ranges::meaning::{Meaning, check};
+use crate::proved::tool_ranges::meaning::{Rules, check};
 use crate::proved::version_sets::PreReleases;
 
 /// An iterator over the terms of a range, as they are written. It borrows the string and allocates
@@ -60,9 +60,9 @@ impl<'text> Terms<'text> {
     /// range in the dialect, and `NumberTooLarge` if and only if it is a range, but one of its
     /// numbers, or a bound that is raised by one, is above the dialect's limit.
     pub(crate) fn try_parse(range: &'text str, dialect: Dialect) -> Result<Terms<'text>, RangeError> {
-        let meaning = Meaning {
+        let meaning = Rules {
             dialect,
-            pre_releases: PreReleases::Default,
+            pre_releases: PreReleases::ByDialect,
         };
         check(meaning, range)?;
         Ok(of_range(range, dialect))

@@ -10,7 +10,7 @@ use crate::proved::semver_ranges::RangeError;
 use crate::proved::semver_versions::version::VersionRef;
 use crate::rattle_std::AllocError;
 use crate::proved::tool_ranges::dialect::Dialect;
-use crate::proved::tool_ranges::meaning::{Meaning, read};
+use crate::proved::tool_ranges::meaning::{Rules, read};
 use crate::proved::version_sets::PreReleases;
 
 /// Returns the text of the last alternative, in which each version that has to be raised is
@@ -76,7 +76,7 @@ fn is_below(
     version: &VersionRef<'_>,
     dialect: Dialect,
 ) -> Result<bool, AllocError> {
-    let meaning = Meaning {
+    let meaning = Rules {
         dialect,
         pre_releases: PreReleases::Included,
     };

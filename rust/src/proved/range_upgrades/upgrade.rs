@@ -8,7 +8,7 @@ use crate::proved::range_upgrades::raised_versions::Form;
 use crate::proved::semver_ranges::RangeError;
 use crate::proved::semver_versions::version::{VersionRef, read_ref_in};
 use crate::rattle_std::AllocError;
-use crate::proved::tool_ranges::meaning::{Meaning, read};
+use crate::proved::tool_ranges::meaning::{Rules, read};
 use crate::proved::version_sets::VersionSet;
 
 /// Why a requirement can't be raised.
@@ -89,7 +89,7 @@ impl From<AllocError> for UpgradeError {
 pub fn upgrade(
     range: &str,
     version: &[u8],
-    meaning: Meaning,
+    meaning: Rules,
 ) -> Result<Option<String>, UpgradeError> {
     let Some(version) = read_ref_in(version, meaning.dialect.grammar()) else {
         return Err(UpgradeError::InvalidVersion);
@@ -118,7 +118,7 @@ fn raised_in_some_form(
     range: &str,
     old: &VersionSet,
     version: &VersionRef<'_>,
-    meaning: Meaning,
+    meaning: Rules,
 ) -> Result<Option<String>, AllocError> {
     let as_written = raised_range(range, old, version, meaning, Form::AsWritten)?;
     if as_written.is_some() {
@@ -137,7 +137,7 @@ fn raised_range(
     range: &str,
     old: &VersionSet,
     version: &VersionRef<'_>,
-    meaning: Meaning,
+    meaning: Rules,
     form: Form,
 ) -> Result<Option<String>, AllocError> {
     let Some(last) = last_alternative(range, meaning.dialect) else {
@@ -181,7 +181,7 @@ fn raised_range(
 fn set_with(
     range: &str,
     version: &VersionRef<'_>,
-    meaning: Meaning,
+    meaning: Rules,
 ) -> Result<Option<VersionSet>, AllocError> {
     let set = match read(meaning, range) {
         Ok(set) => set,

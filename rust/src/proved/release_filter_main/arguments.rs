@@ -7,7 +7,7 @@ use crate::proved::command_line::{ArgumentError, MeaningOptions, Quoted};
 use crate::proved::release_filter::{LineEnd, LineOptions, Selection};
 use crate::rattle_std::env;
 use crate::rattle_std::rt::Env;
-use crate::proved::tool_ranges::meaning::Meaning;
+use crate::proved::tool_ranges::meaning::Rules;
 use crate::proved::version_sets::PreReleases;
 
 /// The request of the arguments.
@@ -25,7 +25,7 @@ pub struct Filtering {
     /// The range.
     pub range: String,
     /// The dialect, and which pre-releases count.
-    pub meaning: Meaning,
+    pub meaning: Rules,
     /// Whether an option requested the dialect.
     pub has_dialect: bool,
     /// The files to read, or standard input if there are none.

@@ -58,7 +58,7 @@ fn written(
     let all = match way {
         Way::OneKind => match range.meaning().pre_releases {
             PreReleases::Included => intervals(pre_releases)?,
-            PreReleases::Default | PreReleases::Excluded => intervals(releases)?,
+            PreReleases::ByDialect | PreReleases::Excluded => intervals(releases)?,
         },
         Way::Joined => joined(releases, pre_releases)?,
         Way::Paired => paired(releases, pre_releases)?,

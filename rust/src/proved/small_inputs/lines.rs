@@ -8,7 +8,7 @@ use crate::proved::release_filter::{LineEnd, LineOptions, Lines, LinesError, Sel
 use crate::rattle_std::io;
 use crate::rattle_std::io::Write;
 use crate::proved::tool_ranges::dialect::Dialect;
-use crate::proved::tool_ranges::meaning::Meaning;
+use crate::proved::tool_ranges::meaning::Rules;
 use crate::proved::tool_ranges::version_range::VersionRange;
 use crate::proved::version_sets::PreReleases;
 
@@ -46,9 +46,9 @@ fn add_filtered(
     options: LineOptions,
     sum: &mut Checksum,
 ) -> io::Result<()> {
-    let meaning = Meaning {
+    let meaning = Rules {
         dialect: Dialect::Npm,
-        pre_releases: PreReleases::Default,
+        pre_releases: PreReleases::ByDialect,
     };
     let Ok(range) = VersionRange::try_parse("^1.2.3-a", meaning) else {
         return Ok(());

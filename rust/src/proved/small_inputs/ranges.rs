@@ -14,7 +14,7 @@ use crate::rattle_std::AllocError;
 use crate::rattle_std::io;
 use crate::rattle_std::io::Write;
 use crate::proved::tool_ranges::dialect::{self, Dialect};
-use crate::proved::tool_ranges::meaning::{Meaning, check};
+use crate::proved::tool_ranges::meaning::{Rules, check};
 use crate::proved::tool_ranges::npm;
 use crate::proved::version_sets::PreReleases;
 
@@ -66,9 +66,9 @@ pub fn add_checked(bytes: &[u8], sum: &mut Checksum) -> io::Result<()> {
         return Ok(());
     };
     for dialect in DIALECTS {
-        let pre_releases = PreReleases::Default;
+        let pre_releases = PreReleases::ByDialect;
         match check(
-            Meaning {
+            Rules {
                 dialect,
                 pre_releases,
             },

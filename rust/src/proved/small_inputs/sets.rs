@@ -9,13 +9,13 @@ use crate::proved::semver_parser::version::{self, Version};
 use crate::rattle_std::io;
 use crate::rattle_std::io::Write;
 use crate::proved::tool_ranges::highest::Extreme;
-use crate::proved::tool_ranges::meaning::{self, Meaning};
+use crate::proved::tool_ranges::meaning::{self, Rules};
 use crate::proved::tool_ranges::satisfying::{SatisfiesError, satisfies};
 use crate::proved::tool_ranges::version_range::VersionRange;
 use crate::proved::version_sets::{Combination, OperationError, PreReleases, Release, VersionSet};
 
 const RULES: [PreReleases; 3] = [
-    PreReleases::Default,
+    PreReleases::ByDialect,
     PreReleases::Included,
     PreReleases::Excluded,
 ];
@@ -58,7 +58,7 @@ pub fn add_satisfied(bytes: &[u8], sum: &mut Checksum) -> io::Result<()> {
     };
     for dialect in DIALECTS {
         for pre_releases in RULES {
-            let meaning = Meaning {
+            let meaning = Rules {
                 dialect,
                 pre_releases,
             };
@@ -82,7 +82,7 @@ fn add_answer(answer: Result<bool, SatisfiesError>, sum: &mut Checksum) -> io::R
 pub fn add_contained(bytes: &[u8], sum: &mut Checksum) -> io::Result<()> {
     for dialect in DIALECTS {
         for pre_releases in RULES {
-            let meaning = Meaning {
+            let meaning = Rules {
                 dialect,
                 pre_releases,
             };
@@ -102,7 +102,7 @@ pub fn add_sets(bytes: &[u8], sum: &mut Checksum) -> io::Result<()> {
     };
     for dialect in DIALECTS {
         for pre_releases in RULES {
-            let meaning = Meaning {
+            let meaning = Rules {
                 dialect,
                 pre_releases,
             };
@@ -157,7 +157,7 @@ pub fn add_members(bytes: &[u8], sum: &mut Checksum) -> io::Result<()> {
     };
     for dialect in DIALECTS {
         for pre_releases in RULES {
-            let meaning = Meaning {
+            let meaning = Rules {
                 dialect,
                 pre_releases,
             };
@@ -208,7 +208,7 @@ pub fn add_operations(bytes: &[u8], sum: &mut Checksum) -> io::Result<()> {
     };
     for dialect in DIALECTS {
         for pre_releases in RULES {
-            let meaning = Meaning {
+            let meaning = Rules {
                 dialect,
                 pre_releases,
             };

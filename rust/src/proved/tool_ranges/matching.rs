@@ -38,13 +38,13 @@ pub(crate) fn takes_all(rule: PreReleases) -> bool {
 #[inline(always)]
 fn is_met(progress: &Progress, is_release: bool, dialect: Dialect, rule: PreReleases) -> bool {
     let met = match (dialect, rule) {
-        (Dialect::Npm, PreReleases::Default | PreReleases::Excluded) if progress.matched_all =>
+        (Dialect::Npm, PreReleases::ByDialect | PreReleases::Excluded) if progress.matched_all =>
             is_release,
         _ => progress.met,
     };
     match rule {
         PreReleases::Excluded => is_release && met,
-        PreReleases::Default | PreReleases::Included => met,
+        PreReleases::ByDialect | PreReleases::Included => met,
     }
 }
 

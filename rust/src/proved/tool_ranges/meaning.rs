@@ -24,10 +24,10 @@ use crate::proved::version_sets::{PreReleases, VersionSet};
 /// ```
 #[derive(Clone, Copy, PartialEq, Eq, Hash, Debug)]
 #[non_exhaustive]
-pub struct Meaning {
+pub struct Rules {
     /// The dialect in which the string is read.
     pub dialect: Dialect,
-    /// Which pre-releases count. With `Default` these are the ones that Cargo and npm match by
+    /// Which pre-releases count. With `ByDialect` these are the ones that Cargo and npm match by
     /// default; with `Included`, every one within the bounds, as with node-semver's
     /// `includePrerelease`; with `Excluded`, none.
     pub pre_releases: PreReleases,
@@ -45,7 +45,7 @@ pub struct Meaning {
 /// - `NumberTooLarge` if it is a range, but one of its numbers, or a bound that is raised by one,
 ///   is above 2^64 - 1, or above 2^53 - 1 in npm's dialect.
 /// - `OutOfMemory` if an allocation fails. The first two errors are returned without allocating.
-pub fn read(meaning: Meaning, range: &str) -> Result<VersionSet, RangeError> {
+pub fn read(meaning: Rules, range: &str) -> Result<VersionSet, RangeError> {
     sets::read(range, meaning.dialect, meaning.pre_releases)
 }
 
@@ -62,11 +62,7 @@ pub fn read(meaning: Meaning, range: &str) -> Result<VersionSet, RangeError> {
 /// dialect, and `NumberTooLarge` if it is a range, but one of its numbers, or a bound that is
 /// raised by one, is above the dialect's limit.
 #[inline(always)]
-pub fn satisfies(
-    version: &VersionRef<'_>,
-    range: &str,
-    meaning: Meaning,
-) -> Result<bool, RangeError> {
+pub fn satisfies(version: &VersionRef<'_>, range: &str, meaning: Rules) -> Result<bool, RangeError> {
     let version = version.read_by(meaning.dialect.grammar().digits());
     let rule = meaning.pre_releases;
     // `answer` is compiled once for each dialect. With one call for all, which looks at the dialect
@@ -82,7 +78,7 @@ pub fn satisfies(
 /// Checks that a string is a range, with the errors of [`satisfies`]: `^1.2` is one, and `1 ||`
 /// isn't in Cargo's dialect. It does not allocate.
 #[inline(never)]
-pub fn check(meaning: Meaning, range: &str) -> Result<(), RangeError> {
+pub fn check(meaning: Rules, range: &str) -> Result<(), RangeError> {
     match Checked::new(range, meaning.dialect, LowerBounds::Stated) {
         Ok(_) => Ok(()),
         Err(refusal) => Err(refusal),

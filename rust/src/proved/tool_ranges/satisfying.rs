@@ -2,7 +2,7 @@
 //! Decides whether a version satisfies a range, both given as strings.
 
 use crate::rattle_std::prelude::*;
-use crate::proved::tool_ranges::meaning::{self, Meaning};
+use crate::proved::tool_ranges::meaning::{self, Rules};
 use crate::proved::semver_ranges::RangeError;
 use crate::proved::semver_versions::version::read_ref_in;
 
@@ -35,7 +35,7 @@ impl crate::rattle_std::Error for SatisfiesError {}
 /// `InvalidVersion` if the version is invalid in the dialect; otherwise `InvalidRange` if the range
 /// is invalid, or one of its numbers is too large.
 #[inline(always)]
-pub fn satisfies(version: &[u8], range: &str, meaning: Meaning) -> Result<bool, SatisfiesError> {
+pub fn satisfies(version: &[u8], range: &str, meaning: Rules) -> Result<bool, SatisfiesError> {
     let Some(borrowed) = read_ref_in(version, meaning.dialect.grammar()) else {
         return Err(SatisfiesError::InvalidVersion);
     };

@@ -118,7 +118,7 @@ impl Building<'_> {
         let set = ranges.into_set(&self.here, digits)?;
         match rule {
             PreReleases::Excluded => Ok(set.only_releases()),
-            PreReleases::Default | PreReleases::Included => Ok(set),
+            PreReleases::ByDialect | PreReleases::Included => Ok(set),
         }
     }
 }

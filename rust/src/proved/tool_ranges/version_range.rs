@@ -2,7 +2,7 @@
 //! A range that was read: a set of versions, and the meaning with which it was read.
 
 use crate::rattle_std::prelude::*;
-use crate::proved::tool_ranges::meaning::{self, Meaning};
+use crate::proved::tool_ranges::meaning::{self, Rules};
 use crate::proved::tool_ranges::satisfying::SatisfiesError;
 use crate::proved::tool_ranges::table::limit;
 use crate::proved::semver_ranges::RangeError;
@@ -28,7 +28,7 @@ use crate::proved::version_sets::{OperationError, VersionSet};
 #[derive(Debug)]
 pub struct VersionRange {
     pub(crate) versions: VersionSet,
-    pub(crate) meaning: Meaning,
+    pub(crate) meaning: Rules,
 }
 
 impl VersionRange {
@@ -41,7 +41,7 @@ impl VersionRange {
     ///   one, is above 2^64 - 1, or above 2^53 - 1 in npm's dialect.
     /// - `OutOfMemory` if an allocation failed. The first two errors are returned without
     ///   allocating.
-    pub fn try_parse(range: &str, meaning: Meaning) -> Result<VersionRange, RangeError> {
+    pub fn try_parse(range: &str, meaning: Rules) -> Result<VersionRange, RangeError> {
         let versions = meaning::read(meaning, range)?;
         Ok(VersionRange { versions, meaning })
     }
@@ -63,7 +63,7 @@ impl VersionRange {
     /// Only `DifferentDigits`, if the set reads numeric identifiers differently than the dialect.
     pub fn from_versions(
         versions: VersionSet,
-        meaning: Meaning,
+        meaning: Rules,
     ) -> Result<VersionRange, OperationError> {
         if versions.digits() != meaning.dialect.grammar().digits() {
             return Err(OperationError::DifferentDigits);
@@ -74,7 +74,7 @@ impl VersionRange {
     /// Returns the meaning of the range: its dialect, and which pre-releases count.
     #[must_use]
     #[inline(always)]
-    pub fn meaning(&self) -> Meaning {
+    pub fn meaning(&self) -> Rules {
         self.meaning
     }
 

@@ -4,7 +4,7 @@ use super::Ending;
 use crate::proved::release_filter::{filter_text, LineOptions, Lines, Selection};
 use crate::proved::semver_parser::{Compat, RangeError};
 use crate::proved::tool_ranges::dialect::Dialect;
-use crate::proved::tool_ranges::meaning::Meaning;
+use crate::proved::tool_ranges::meaning::Rules;
 use crate::proved::tool_ranges::version_range::VersionRange;
 use crate::proved::version_sets::PreReleases;
 
@@ -72,7 +72,7 @@ const LINES: &str = "1.2.0-rc.b\n2.1.0-rc.a\n2.0.0\n1.9.0+build\n";
 
 /// Returns the range `<2` of the crate in Cargo mode, with its pre-releases.
 fn below_two() -> Result<VersionRange, Ending> {
-    let meaning = Meaning { dialect: Dialect::CrateCargo, pre_releases: PreReleases::Included };
+    let meaning = Rules { dialect: Dialect::CrateCargo, pre_releases: PreReleases::Included };
     match VersionRange::try_parse("<2", meaning) {
         Ok(range) => Ok(range),
         Err(RangeError::OutOfMemory) => Err(Ending::Refused),

@@ -4,18 +4,18 @@ use super::Ending;
 use crate::proved::semver_parser::{version, RangeError};
 use crate::proved::semver_texts::grammar::Digits;
 use crate::proved::tool_ranges::dialect::Dialect;
-use crate::proved::tool_ranges::meaning::{self, Meaning};
+use crate::proved::tool_ranges::meaning::{self, Rules};
 use crate::proved::version_sets::{Combination, PreReleases, SetRanges, VersionSet};
 use crate::rattle_std::AllocError;
 
 /// Returns the meaning of a dialect with the pre-releases that count by default.
-fn by_default(dialect: Dialect) -> Meaning {
-    Meaning { dialect, pre_releases: PreReleases::Default }
+fn by_default(dialect: Dialect) -> Rules {
+    Rules { dialect, pre_releases: PreReleases::ByDialect }
 }
 
 /// Returns the meaning of a dialect with each pre-release within the bounds.
-fn within(dialect: Dialect) -> Meaning {
-    Meaning { dialect, pre_releases: PreReleases::Included }
+fn within(dialect: Dialect) -> Rules {
+    Rules { dialect, pre_releases: PreReleases::Included }
 }
 
 /// Returns the sets for the calls below: that of `>=1.2.0-b.c` by default, and that of `<2.0.0`
@@ -27,7 +27,7 @@ pub fn of_texts() -> Result<(VersionSet, VersionSet), Ending> {
 }
 
 /// Returns the set of a string.
-fn set_of(text: &str, meaning: Meaning) -> Result<VersionSet, Ending> {
+fn set_of(text: &str, meaning: Rules) -> Result<VersionSet, Ending> {
     match meaning::read(meaning, text) {
         Ok(set) => Ok(set),
         Err(RangeError::OutOfMemory) => Err(Ending::Refused),

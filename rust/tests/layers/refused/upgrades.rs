@@ -3,10 +3,10 @@
 use super::Ending;
 use crate::proved::range_upgrades::upgrade::{upgrade, UpgradeError};
 use crate::proved::tool_ranges::dialect::Dialect;
-use crate::proved::tool_ranges::meaning::Meaning;
+use crate::proved::tool_ranges::meaning::Rules;
 use crate::proved::version_sets::PreReleases;
 
-const NPM: Meaning = Meaning { dialect: Dialect::Npm, pre_releases: PreReleases::Default };
+const NPM: Rules = Rules { dialect: Dialect::Npm, pre_releases: PreReleases::ByDialect };
 
 /// Raises a range to a pre-release, by one more alternative.
 pub fn raised() -> Ending {

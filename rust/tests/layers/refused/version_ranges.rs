@@ -3,12 +3,12 @@
 use super::Ending;
 use crate::proved::semver_parser::RangeError;
 use crate::proved::tool_ranges::dialect::Dialect;
-use crate::proved::tool_ranges::meaning::Meaning;
+use crate::proved::tool_ranges::meaning::Rules;
 use crate::proved::tool_ranges::version_range::VersionRange;
 use crate::proved::version_sets::{Combination, OperationError, PreReleases};
 
 /// Cargo's dialect, with each pre-release within the bounds.
-const CARGO: Meaning = Meaning { dialect: Dialect::Cargo, pre_releases: PreReleases::Included };
+const CARGO: Rules = Rules { dialect: Dialect::Cargo, pre_releases: PreReleases::Included };
 
 /// Reads a range that contains 1.9.0-rc and not 2.0.0.
 pub fn parse() -> Ending {

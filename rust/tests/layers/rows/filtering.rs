@@ -5,13 +5,13 @@ use crate::proved::release_filter::{LineOptions, Lines, Selection};
 use crate::proved::semver_parser::RangeError;
 use crate::proved::tool_ranges::dialect::Dialect;
 use crate::proved::tool_ranges::highest::Extreme;
-use crate::proved::tool_ranges::meaning::Meaning;
+use crate::proved::tool_ranges::meaning::Rules;
 use crate::proved::tool_ranges::version_range::VersionRange;
 use crate::proved::version_sets::PreReleases;
 
 /// Returns the versions of a list that a range contains, or the error of the range. If it contains
 /// other ones when they are given as strings, that follows.
-pub fn kept(text: &str, meaning: Meaning, list: &str) -> String {
+pub fn kept(text: &str, meaning: Rules, list: &str) -> String {
     let Some(versions) = versions_of(list) else {
         return NOT_ALL.into();
     };
@@ -35,7 +35,7 @@ pub fn highest(text: &str, pre_releases: PreReleases, list: &str) -> String {
     let Some(versions) = versions_of(list) else {
         return NOT_ALL.into();
     };
-    let meaning = Meaning { dialect: Dialect::CrateNpm, pre_releases };
+    let meaning = Rules { dialect: Dialect::CrateNpm, pre_releases };
     let range = match VersionRange::try_parse(text, meaning) {
         Ok(range) => range,
         Err(error) => return error.to_string(),
@@ -75,8 +75,8 @@ pub fn copied(text: &str, prefix: &str, lines: &str) -> String {
 /// Returns a filter of lines for a range in npm mode by the default rule, after a prefix if there
 /// is one.
 fn lines_of(text: &str, prefix: &str, selection: Selection) -> Result<Lines, RangeError> {
-    let (dialect, pre_releases) = (Dialect::CrateNpm, PreReleases::Default);
-    let range = VersionRange::try_parse(text, Meaning { dialect, pre_releases })?;
+    let (dialect, pre_releases) = (Dialect::CrateNpm, PreReleases::ByDialect);
+    let range = VersionRange::try_parse(text, Rules { dialect, pre_releases })?;
     let prefixes = if prefix.is_empty() { vec![] } else { vec![prefix.to_string()] };
     Ok(Lines::new(range, prefixes, LineOptions { selection, ..LineOptions::new() }))
 }

@@ -12,7 +12,7 @@ mod versions;
 use crate::proved::replayed_cases::{self as port, checksum::Checksum, text};
 use crate::proved::semver_parser::version::{self, Grammar, Version};
 use crate::proved::tool_ranges::dialect::Dialect;
-use crate::proved::tool_ranges::meaning::Meaning;
+use crate::proved::tool_ranges::meaning::Rules;
 use crate::proved::version_sets::PreReleases;
 use std::io::{self, BufRead, Write};
 
@@ -53,7 +53,7 @@ fn answer(call: &str, text: &str, steps: &str) -> String {
         "greatest-line" => filtering::highest_line(text, "", steps),
         "greatest-tag" => filtering::highest_line(text, "v", steps),
         "greatest-release" => filtering::highest(text, PreReleases::Excluded, steps),
-        "greatest-stated" => filtering::highest(text, PreReleases::Default, steps),
+        "greatest-stated" => filtering::highest(text, PreReleases::ByDialect, steps),
         "greatest-of-all" => filtering::highest(text, PreReleases::Included, steps),
         _ => answer_by_rule(call, text, steps),
     }
@@ -68,15 +68,15 @@ fn answer_in(call: &str, tool: &str, text: &str, steps: &str) -> String {
         "crate-npm" => (Grammar::Crate, Dialect::CrateNpm),
         _ => return "no such call".into(),
     };
-    let meaning = |pre_releases| Meaning { dialect, pre_releases };
+    let meaning = |pre_releases| Rules { dialect, pre_releases };
     match call {
         "version" => versions::read_in(text, grammar),
         "refused" => versions::refused(text, grammar),
         "refused-range" => ranges::refused(text, dialect),
         "rewritten" => ranges::rewritten(text, dialect),
-        "meant" => ranges::meant(text, meaning(PreReleases::Default), steps),
+        "meant" => ranges::meant(text, meaning(PreReleases::ByDialect), steps),
         "meant-with-all" => ranges::meant(text, meaning(PreReleases::Included), steps),
-        "upgraded" => ranges::upgraded(text, meaning(PreReleases::Default), steps),
+        "upgraded" => ranges::upgraded(text, meaning(PreReleases::ByDialect), steps),
         _ => "no such call".into(),
     }
 }
@@ -92,11 +92,11 @@ fn answer_by_rule(call: &str, text: &str, steps: &str) -> String {
     };
     let pre_releases = match words.get(1) {
         Some(&"releases") => PreReleases::Excluded,
-        Some(&"stated") => PreReleases::Default,
+        Some(&"stated") => PreReleases::ByDialect,
         Some(&"mean") => PreReleases::Included,
         _ => return answer_of_port(call, text, steps),
     };
-    let meaning = Meaning { dialect, pre_releases };
+    let meaning = Rules { dialect, pre_releases };
     match words.get(2) {
         None => filtering::kept(text, meaning, steps),
         Some(&"set") => sets::set(meaning, text, steps),

@@ -4,7 +4,7 @@ use super::{versions_of, NOT_ALL};
 use crate::proved::semver_parser::{version, RangeError};
 use crate::proved::range_upgrades::upgrade::upgrade;
 use crate::proved::tool_ranges::dialect::{self, Dialect};
-use crate::proved::tool_ranges::meaning::{self, Meaning};
+use crate::proved::tool_ranges::meaning::{self, Rules};
 use crate::proved::invalid_ranges::refusals;
 
 /// Returns the comparators of a range in a dialect, or the word for its error.
@@ -17,7 +17,7 @@ pub fn rewritten(text: &str, tool: Dialect) -> String {
 
 /// Returns the versions of a list that satisfy a range, or the word for its error. What checking
 /// one version against the range says otherwise follows it.
-pub fn meant(text: &str, tool: Meaning, list: &str) -> String {
+pub fn meant(text: &str, tool: Rules, list: &str) -> String {
     let Some(versions) = versions_of(list) else {
         return NOT_ALL.into();
     };
@@ -40,7 +40,7 @@ pub fn meant(text: &str, tool: Meaning, list: &str) -> String {
 }
 
 /// Returns the range raised to a version, in quotes, or why it isn't raised.
-pub fn upgraded(text: &str, tool: Meaning, version: &str) -> String {
+pub fn upgraded(text: &str, tool: Rules, version: &str) -> String {
     match upgrade(text, version.as_bytes(), tool) {
         Ok(Some(new)) => format!("{new:?}"),
         Ok(None) => "nothing to do".into(),

@@ -3,12 +3,12 @@
 use super::{versions_of, NOT_ALL};
 use crate::proved::semver_parser::version::Version;
 use crate::proved::semver_parser::RangeError;
-use crate::proved::tool_ranges::meaning::{self, Meaning};
+use crate::proved::tool_ranges::meaning::{self, Rules};
 use crate::proved::version_sets::{Combination, VersionSet};
 
 /// Returns the versions of a list that are in the set of a range, then its lowest version and its
 /// lowest release, or the error of the range.
-pub fn set(meaning: Meaning, text: &str, list: &str) -> String {
+pub fn set(meaning: Rules, text: &str, list: &str) -> String {
     let Some(versions) = versions_of(list) else {
         return NOT_ALL.into();
     };
@@ -29,7 +29,7 @@ pub fn set(meaning: Meaning, text: &str, list: &str) -> String {
 
 /// Returns how the sets of two ranges compare, or the error of a range. After the second range
 /// there may be a semicolon and versions: for each of them, the sets that contain it follow.
-pub fn pair(meaning: Meaning, text: &str, steps: &str) -> String {
+pub fn pair(meaning: Rules, text: &str, steps: &str) -> String {
     let (other, list) = steps.split_once(';').unwrap_or((steps, ""));
     let parts = match Parts::of(meaning, text, other) {
         Ok(parts) => parts,
@@ -53,7 +53,7 @@ pub fn pair(meaning: Meaning, text: &str, steps: &str) -> String {
 }
 
 /// Returns the releases and the pre-releases in a range as ranges, or the error of the range.
-pub fn whole(meaning: Meaning, text: &str) -> String {
+pub fn whole(meaning: Rules, text: &str) -> String {
     match meaning::read(meaning, text) {
         Ok(set) => ranges(&set),
         Err(error) => error.to_string(),
@@ -62,7 +62,7 @@ pub fn whole(meaning: Meaning, text: &str) -> String {
 
 /// Returns what the second of two ranges loses, gains and shares compared with the first, as
 /// ranges, or the error of a range.
-pub fn whole_pair(meaning: Meaning, text: &str, other: &str) -> String {
+pub fn whole_pair(meaning: Rules, text: &str, other: &str) -> String {
     match Parts::of(meaning, text, other) {
         Ok(it) => format!(
             "lost {}; gained {}; shared {}",
@@ -91,7 +91,7 @@ struct Parts {
 }
 
 impl Parts {
-    fn of(meaning: Meaning, text: &str, other: &str) -> Result<Parts, RangeError> {
+    fn of(meaning: Rules, text: &str, other: &str) -> Result<Parts, RangeError> {
         let first = meaning::read(meaning, text)?;
         let second = meaning::read(meaning, other)?;
         Ok(Parts {

@@ -1,5 +1,5 @@
 use Rattle.version_sets.specs.declared.rules.PreReleases.TheVariants.{Included}
-use Rattle.tool_ranges.specs.declared.meaning.Meaning.{Meaning}
+use Rattle.tool_ranges.specs.declared.meaning.Rules.{Rules}
 use Rattle.range_upgrades.specs.Upgrades.{IsSetOf}
 use Rattle.range_upgrades.proofs.Sets.{flip, no_set, same_from}
 use Rattle.range_upgrades.proofs.raised_ranges.is_below.Goals as goal
@@ -10,7 +10,7 @@ returns-in-Err-clause-above c = λ e below.
 
 pub returns-clause-above : goal.returns-clause-above
 returns-clause-above c = λ e below.
-    let m : Meaning = record { dialect = c.args.dialect; pre_releases = Included } in
+    let m : Rules = record { dialect = c.args.dialect; pre_releases = Included } in
     let is : IsSetOf m c.args.term.now c.in-Ok.alone =
     record { is_range = c.in-Ok.ensures.refusals.accepted; meaning = c.in-Ok.ensures.meaning; digits = c.in-Ok.ensures.digits } in
     below.1 ((same_from m c.args.term.now c.in-Ok.alone is c.args.version.now c.requires).0

@@ -1,7 +1,7 @@
 use Rattle.std.proofs.Common.{◌≡◌, ap, subst, sym, ◌∙◌}
 use Rattle.semver_texts.specs.Digits.{digits_in}
 use Rattle.tool_ranges.specs.Dialects.{grammar_of}
-use Rattle.tool_ranges.specs.declared.meaning.Meaning.{Meaning}
+use Rattle.tool_ranges.specs.declared.meaning.Rules.{Rules}
 use Rattle.version_sets.specs.VersionSets.{IsNormal}
 use Rattle.result_laws.specs.SameSets.{AreAlikeRanges}
 use Rattle.result_laws.proofs.version_ranges.results_are_alike.Goals as goal
@@ -12,7 +12,7 @@ returns g c =
     let b = c.in-Ok-second.second in
     let alike : AreAlikeRanges a b = λ meaning same.
     let digits : a.versions.digits ≡ b.versions.digits =
-    c.ranges_read_digits.ensures.digits ∙ ap (λ (m : Meaning). digits_in (grammar_of m.dialect)) meaning
+    c.ranges_read_digits.ensures.digits ∙ ap (λ (m : Rules). digits_in (grammar_of m.dialect)) meaning
     ∙ sym c.ranges_read_digits-2.ensures.digits in
     let versions : a.versions ≡ b.versions =
     c.one_set.ensures.same_set a.versions b.versions (subst IsNormal c.versions.ensures c.sets_are_normal.ensures.normal)

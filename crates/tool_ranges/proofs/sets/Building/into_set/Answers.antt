@@ -51,7 +51,7 @@ pub returns-clause-meaning : goal.returns-clause-meaning
 returns-clause-meaning c = λ v small.
     let here = (goal.at.returns-clause-meaning c).In_ok-set in
     let p = ended (counts (takes_all c.args.rule) v) (known (takes_all c.args.rule) v c.args.self) in
-    met here v small ∙ elim c.in-Default.is [
+    met here v small ∙ elim c.in-ByDialect.is [
       | inl e ↦ ap (λ rule. met_of rule v p) (sym e)
       | inr e ↦ ap (λ rule. met_of rule v p) (sym e)
     ] ∙ sym (met_is_met c.args.dialect c.args.rule v p (none here))
