@@ -55,12 +55,14 @@
 #   packages of these names (apt with its network, npm, and the library as for locks)
 # - places: brute force with all texts of up to COUNT characters, the offset at which a string stops
 #   being a range (python3)
-# - raise: node-semver as npm ships it and Cargo's crate semver, what the examples that raise a
-#   requirement return for COUNT random ones that are made of known pieces, in each language (npm,
-#   cargo, librust-semver-dev, gcc, python3, and what rust/wasm/build.sh needs)
-# - upgrade: node-semver as npm ships it and Cargo's crate semver, what `upgrade` returns for COUNT
-#   random requirements and versions: when it returns None, that a result is valid, contains the
-#   version and loses none, and how it is written (npm, cargo and librust-semver-dev)
+# - upgrade: node-semver as npm ships it and Cargo's crate semver, what `upgrade` returns in each
+#   language for each real requirement on this machine, and for COUNT random ones: when it returns
+#   None, that a result is valid, contains the version and loses none, and how it is written; and
+#   cargo-edit's rule, which result it has (npm, cargo, librust-semver-dev, gcc, python3, and what
+#   rust/wasm/build.sh needs)
+# - requirement: the same tools, what `to_requirement` returns for each real requirement on this
+#   machine by each rule for pre-releases, and for how many there is none (npm, cargo, python3 and
+#   librust-semver-dev)
 # - order: a new process, what each of COUNT random calls, at least 2000, returns after other calls:
 #   calls of the JavaScript package, of the Python package, also by several threads, and of the C
 #   functions (node, what rust/wasm/build.sh needs, python3 and gcc)
@@ -151,11 +153,7 @@ real-locks)
     . tools/comparisons/real-locks.sh
     exit
     ;;
-raise)
-    . tools/comparisons/raise/run.sh
-    exit
-    ;;
-upgrade)
+upgrade | requirement)
     . tools/comparisons/upgrade/run.sh
     exit
     ;;
@@ -178,7 +176,7 @@ order)
 crate | cargo | node | npm | versions | real | grid | lines | places | version-places | erased) ;;
 *)
     kinds='crate|cargo|node|npm|versions|real|grid|lines|places|version-places|js|npm-on-it'
-    kinds="$kinds|managers|as-written|damaged-locks|erased|order|raise|upgrade"
+    kinds="$kinds|managers|as-written|damaged-locks|erased|order|upgrade|requirement"
     echo "usage: tools/compare.sh $kinds [COUNT] [SEED], or locks FILE.., or real-locks [NAME..]," >&2
     echo '       or judged [CASE..], or node-suite [--show], or semver-suite, crate-tests or targets' >&2
     exit 2

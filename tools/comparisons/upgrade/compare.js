@@ -1,12 +1,13 @@
 // Compares `upgrade` with node-semver and with Cargo's crate semver:
 //
-//     node compare.js CARGO PROGRAM COUNT SEED
+//     node compare.js PROGRAMS TEXTS COUNT SEED LANGUAGE=COMMAND..
 //
 // makes COUNT random pairs of a requirement and a version, in npm's and in Cargo's dialect. A
-// requirement is made of pieces, so it is known without parsing where its versions are. The tool of
-// the dialect determines whether strings are valid, and which versions a range contains: node-semver
-// or the program CARGO, satisfied-by-cargo-semver. PROGRAM, which by-rust.rs describes, has to
-// return
+// requirement is made of pieces, so it is known without parsing where its versions are. Before
+// these come the real requirements in the directory TEXTS, which tools/real-texts.py writes, each
+// with some versions. The tool of the dialect determines whether strings are valid, and which
+// versions a range contains: node-semver, or satisfied-by-cargo-semver in the directory PROGRAMS. The
+// first COMMAND, which by-rust.rs describes, has to return
 //
 // - that the version is invalid, or else that the range is, if and only if the tool says so
 // - that there is nothing to do, if and only if the range contains a version at or above the given
@@ -20,14 +21,23 @@
 //   none of the versions that are looked at is lost. Raising that range again does nothing
 // - or that it can't be raised, which is only counted
 //
+// The other commands have to return the same as the first one.
+//
+// A raised requirement of Cargo is compared with that of cargo-edit: the program
+// upgraded-by-cargo-edit says what it is, and whether it contains the version. If it does, the two
+// have to be the same, unless some of several comparators is left as it is: cargo-edit raises that,
+// too.
+//
 // It prints the first difference, and then exits with 1.
 'use strict'
 
 const { spawnSync } = require('child_process')
+const { readFileSync } = require('fs')
 const semver = require('semver')
 const { Random } = require('../with-node-semver.js')
 
-const [, , cargo, program, count, seed] = process.argv
+const [, , programs, texts, count, seed, ...given] = process.argv
+const [[, first], ...others] = given.map((it) => it.split('='))
 const random = new Random(seed)
 
 // ---- requirements
@@ -133,11 +143,35 @@ function randomCase () {
   const pieces = requirement(dialect)
   const made = versionNear(random.of(random.of(pieces.alternatives)).version)
   const version = made.numbers.join('.') + made.pre + made.build
-  const one = { dialect, pieces, range: sections(pieces).join(''), version, pre: made.pre }
+  const range = sections(pieces).join('')
+  const one = { dialect, pieces, bounds: boundsOf(pieces), range, version, pre: made.pre }
   const kind = random.below(60)
-  if (kind === 0) return { ...one, pieces: null, range: random.of(INVALID_RANGES) }
+  if (kind === 0) return { ...one, bounds: null, range: random.of(INVALID_RANGES) }
   if (kind === 1) return { ...one, version: random.of(INVALID_VERSIONS) }
   return one
+}
+
+// ---- real requirements
+
+const lines = (name) => readFileSync(`${texts}/${name}`, 'utf8').split('\n').slice(0, -1)
+
+// The real requirements of a dialect, each with a high version, with some that are near the numbers
+// in it, and with real ones.
+function realCases (dialect) {
+  const versions = lines(`${dialect}.versions`)
+  return lines(`${dialect}.texts`).flatMap((range) => {
+    const bounds = [...range.matchAll(/(\d+)(?:\.(\d+))?(?:\.(\d+))?(-[0-9A-Za-z.-]+)?/g)]
+      .map(([, major, minor, patch, pre]) => [[major, minor ?? 0, patch ?? 0].map(Number), pre ?? ''])
+    const near = () => {
+      const [numbers, pre] = random.of(bounds.length ? bounds : [[[0, 0, 0], '']])
+      return versionNear({ parts: numbers.map(String), pre })
+    }
+    const made = [near(), near(), near()].map((it) => it.numbers.join('.') + it.pre + it.build)
+    const of = ['99.1.2', '99.1.2-rc.1', random.of(versions), random.of(versions), ...made]
+    return of.map((version) => ({
+      dialect, range, version, bounds, pre: semver.parse(version)?.prerelease.length > 0
+    }))
+  })
 }
 
 // ---- the versions that are looked at
@@ -156,17 +190,22 @@ function neighbours ([major, minor, patch], pre) {
 
 const HIGH = ['4000000000.0.0', '4000000000.0.0-0']
 
-function versionsOf ({ pieces, version }) {
+// The bounds of a requirement: what its versions state, with zeros for the rest.
+function boundsOf (pieces) {
+  return pieces.alternatives.flat().map(({ version: { parts, pre } }) => {
+    const first = parts.findIndex((it) => !isNumber(it))
+    const stated = first < 0 ? parts : parts.slice(0, first)
+    return [[0, 1, 2].map((at) => Number(stated[at] ?? 0)), pre]
+  })
+}
+
+function versionsOf ({ bounds, version }) {
   const found = new Set(HIGH)
   const add = (numbers, pre) => neighbours(numbers, pre).forEach((it) => found.add(it))
   const given = semver.parse(version)
   add([given.major, given.minor, given.patch], given.prerelease.length ? `-${given.prerelease.join('.')}` : '')
   found.add(given.version)
-  for (const { version: { parts, pre } } of pieces.alternatives.flat()) {
-    const first = parts.findIndex((it) => !isNumber(it))
-    const stated = first < 0 ? parts : parts.slice(0, first)
-    add([0, 1, 2].map((at) => Number(stated[at] ?? 0)), pre)
-  }
+  for (const [numbers, pre] of bounds) add(numbers, pre)
   return [...found].filter((it) => semver.valid(it) !== null)
 }
 
@@ -174,16 +213,25 @@ function versionsOf ({ pieces, version }) {
 
 function run (command, values) {
   const input = values.map((it) => `${it}\0`).join('')
-  const { status, stdout, stderr } = spawnSync(command, { input, maxBuffer: 1 << 30 })
+  const [file, ...options] = command.split(' ')
+  const { status, stdout, stderr } = spawnSync(file, options, { input, maxBuffer: 1 << 30 })
   if (status !== 0) throw new Error(`${command}: status ${status}: ${stderr}`)
   return stdout.toString()
 }
 
-function raised (cases) {
+function raised (cases, command = first) {
   const values = cases.flatMap(({ range, version, dialect }) => [range, version, dialect])
-  const found = run(program, values).split('\0').slice(0, -1)
-  if (found.length !== cases.length) throw new Error(`${program} wrote ${found.length} results`)
+  const found = run(command, values).split('\0').slice(0, -1)
+  if (found.length !== cases.length) throw new Error(`${command} wrote ${found.length} results`)
   return found
+}
+
+// For each case of Cargo that is raised, what upgraded-by-cargo-edit says of it.
+function ofCargoEdit (cases, results) {
+  const isAsked = (one, at) => one.dialect === 'cargo' && !results[at].startsWith('!')
+  const asked = cases.flatMap((one, at) => isAsked(one, at) ? [one.range, one.version, results[at]] : [])
+  const found = run(`${programs}/upgraded-by-cargo-edit`, asked).split('\n')
+  return cases.map((one, at) => isAsked(one, at) ? found.shift() : null)
 }
 
 // For each list of questions, which have a dialect, a range and a version, a list of answers: true,
@@ -191,6 +239,7 @@ function raised (cases) {
 function answered (lists) {
   const isOfCargo = ({ dialect }) => dialect === 'cargo'
   const asked = lists.flat().filter(isOfCargo)
+  const cargo = `${programs}/satisfied-by-cargo-semver`
   const answers = run(cargo, asked.flatMap(({ range, version }) => [range, version]))
   if (answers.length !== asked.length) throw new Error(`${cargo} wrote ${answers.length} results`)
   let at = 0
@@ -230,7 +279,24 @@ function patternOf (dialect, pre, it) {
   return `(${forms.join('|')})`
 }
 
-function isInStyle ({ dialect, pieces, range, pre }, result) {
+// A real requirement with its numbers masked, and without what follows three of them. If three
+// numbers may replace fewer, then how many there are is masked, too.
+function masked (range, pre) {
+  const numbers = range.replace(/(\d+\.\d+\.\d+)[-+][\w.+-]*/g, '$1').replace(/\d+/g, '1')
+  return pre ? numbers.replace(/1(\.1)*/g, '1') : numbers
+}
+
+function isRealInStyle ({ range, pre }, result) {
+  const alternatives = range.split('||')
+  const last = alternatives[alternatives.length - 1]
+  const blanks = [/\s*$/.exec(alternatives[alternatives.length - 2])?.[0], /^\s*/.exec(last)[0]]
+  const longer = range.trimEnd() + blanks.join('||') + last.trimStart()
+  return [range, longer].some((it) => masked(it, pre) === masked(result, pre))
+}
+
+function isInStyle (one, result) {
+  const { dialect, pieces, range, pre } = one
+  if (pieces === undefined) return isRealInStyle(one, result)
   const [before, last, after] = sections(pieces)
   const terms = pieces.alternatives[pieces.alternatives.length - 1]
   const pattern = terms.map((it) => quoted(it.before) + patternOf(dialect, pre, it)).join('')
@@ -246,11 +312,11 @@ const ERRORS = { '!none': 'nothing to do', '!version': 'invalid version', '!rang
 
 // What the tool says of a case: its candidates, and which of them the range contains.
 function questions (one, range) {
-  if (one.pieces === null || semver.valid(one.version) === null) return []
+  if (one.bounds === null || semver.valid(one.version) === null) return []
   return versionsOf(one).map((version) => ({ dialect: one.dialect, range, version }))
 }
 
-function problem (one, result, before, after, again) {
+function problem (one, result, before, after, again, byEdit) {
   const [isIn] = before.given
   if (semver.valid(one.version) === null) return result === '!version' ? null : 'the version is invalid'
   if (isIn === null) return result === '!range' ? null : 'the range is invalid'
@@ -266,7 +332,14 @@ function problem (one, result, before, after, again) {
     const lost = before.asked.find((it, at) => before.found[at] && !after.found[at])
     if (lost) return `${lost.version} is lost`
   }
-  return again === '!none' ? null : 'the result is raised again'
+  if (again !== '!none') return 'the result is raised again'
+  return byEdit?.startsWith('other') && !leavesOne(one.range, result) ? `cargo-edit: ${byEdit}` : null
+}
+
+// Whether some of several comparators of a requirement is left as it is.
+function leavesOne (range, result) {
+  const comparators = result.split(',')
+  return comparators.length > 1 && range.split(',').some((it, at) => it === comparators[at])
 }
 
 function lookedAt (cases, ranges) {
@@ -278,13 +351,18 @@ function lookedAt (cases, ranges) {
 
 function compare (cases, counts) {
   const results = raised(cases)
+  for (const [language, command] of others) {
+    const at = raised(cases, command).findIndex((it, at) => it !== results[at])
+    if (at >= 0) throw new Error(`${language} returns another result for ${JSON.stringify(cases[at])}`)
+  }
+  const byEdit = ofCargoEdit(cases, results)
   const ranges = cases.map((one, at) => results[at].startsWith('!') ? one.range : results[at])
   const again = raised(cases.map((one, at) => ({ ...one, range: ranges[at] })))
   const before = lookedAt(cases, cases.map((one) => one.range))
   const after = lookedAt(cases, ranges)
   cases.forEach((one, at) => {
     const result = results[at]
-    const why = problem(one, result, before[at], after[at], again[at])
+    const why = problem(one, result, before[at], after[at], again[at], byEdit[at])
     if (why !== null) {
       const { dialect, range, version } = one
       console.log(`differ: ${JSON.stringify({ dialect, range, version, result })}: ${why}`)
@@ -292,19 +370,28 @@ function compare (cases, counts) {
     }
     const added = result.split('||').length > one.range.split('||').length
     const key = `${one.dialect}: ${ERRORS[result] ?? (added ? 'one more alternative' : 'raised')}`
-    counts.set(key, (counts.get(key) ?? 0) + 1)
+    const edited = byEdit[at] && `cargo-edit: ${byEdit[at].split(' ')[0]}`
+    for (const it of [key, edited]) if (it) counts.set(it, (counts.get(it) ?? 0) + 1)
   })
 }
 
 const BATCH = 20000
 
+function print (what, counts) {
+  console.log(`seed ${seed}: ${what}: no difference`)
+  for (const [key, times] of [...counts].sort()) console.log(`  ${times} times ${key}`)
+}
+
 function main () {
+  const ofReal = new Map()
+  const real = ['cargo', 'npm'].flatMap(realCases)
+  compare(real, ofReal)
+  print(`${real.length} pairs of a real requirement and a version`, ofReal)
   const counts = new Map()
   for (let left = Number(count); left > 0; left -= BATCH) {
     compare(Array.from({ length: Math.min(left, BATCH) }, randomCase), counts)
   }
-  console.log(`seed ${seed}: ${count} requirements: no difference`)
-  for (const [key, times] of [...counts].sort()) console.log(`  ${times} times ${key}`)
+  print(`${count} random requirements`, counts)
 }
 
 main()
