@@ -1,6 +1,6 @@
 // Tests the JavaScript package with the rows of crates/replayed_cases and rust/tests/layers: which
 // versions satisfy a range, what a version is parsed to, where and why a string is invalid, how two
-// ranges compare, and what a raised range is.
+// ranges compare, and what a raised range and a requirement are.
 //
 //     node tests/js-rows.js PACKAGE
 'use strict';
@@ -34,6 +34,7 @@ const REFUSED_RANGES = {
     'refused-range-as-crate-cargo': 'crate-cargo', 'refused-range-as-crate-npm': 'crate-npm',
 };
 const UPGRADED = { 'upgraded-as-cargo': 'cargo', 'upgraded-as-npm': 'npm' };
+const REQUIRED = { 'requirement-as-cargo': 'cargo', 'requirement-as-npm': 'npm' };
 const IS_ERROR = /^(not[- ]a[- ]range|number[- ]too[- ]large)$/;
 const NOTHING = '<0.0.0-0';
 
@@ -128,6 +129,12 @@ function upgraded(range, version, dialect) {
     }
 }
 
+function askRequirement(what, range, options, answer) {
+    if (IS_ERROR.test(answer)) return expect(what, semver.validRange(range, options), null);
+    const found = new semver.Range(range, options).toRequirement();
+    return expect(what, found === null ? 'none' : `"${found}"`, answer);
+}
+
 const lines = (name) => TABLES.flatMap((table) =>
     fs.readFileSync(path.join(__dirname, '..', table, name), 'utf8').split('\n').slice(0, -1));
 const wanted = lines('stdout');
@@ -141,6 +148,7 @@ lines('stdin').forEach((line, at) => {
     if (call in REFUSED_VERSIONS) askWhy(what, string, semver.explainVersion(string, { dialect: REFUSED_VERSIONS[call] }), answer);
     if (call in REFUSED_RANGES) askWhy(what, string, semver.explainRange(string, { dialect: REFUSED_RANGES[call] }), answer);
     if (call in UPGRADED) askUpgrade(what, string, expanded(list), UPGRADED[call], answer);
+    if (call in REQUIRED) askRequirement(what, string, meaning(REQUIRED[call], expanded(list)), answer);
     if (call in PAIRS) askPair(what, string, expanded(list), PAIRS[call], answer);
     if (call in SETS) askSet(what, string, SETS[call], answer);
     if (call in WHOLES) askWhole(what, string, WHOLES[call], answer);

@@ -114,6 +114,7 @@ def rows_of_tools() -> Iterator[Tuple[str, str, Row]]:
     - `version`: the fields of a version
     - `refused`, `refused-range`: where and why a version or a range is invalid
     - `upgraded`: a range that is raised to a version
+    - `requirement`: the requirement of a range by the rule for pre-releases in the steps
     """
     for row in rows():
         function, _, tool = row.call.partition("-as-")

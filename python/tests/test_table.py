@@ -26,6 +26,7 @@ _VERSION = "version"
 _REFUSED = "refused"
 _NO_RANGE = "refused-range"
 _UPGRADED = "upgraded"
+_REQUIREMENT = "requirement"
 _DIALECTS_OF_TOOLS = {"cargo": Dialect.CARGO, "npm": Dialect.NPM}
 _DIALECTS_OF_CRATE = {"crate-cargo": Dialect.CRATE_CARGO, "crate-npm": Dialect.CRATE_NPM}
 _DIALECTS_OF_REFUSED = {**_DIALECTS_OF_TOOLS, "crate": Dialect.CRATE_CARGO}
@@ -83,6 +84,8 @@ class Tools(unittest.TestCase):
                     self.check_meaning(row.text, dialect, rule, row.steps.split(" "), row.wanted)
                 elif function == _UPGRADED:
                     self.check_upgrade(row.text, dialect, row.steps, row.wanted)
+                elif function == _REQUIREMENT:
+                    self.check_requirement(row.text, dialect, row.steps, row.wanted)
                 else:
                     self.check_rewriting(row.text, dialect, row.wanted)
             counts[tool, function] += 1
@@ -97,6 +100,8 @@ class Tools(unittest.TestCase):
             self.assertGreaterEqual(counts[tool, _NO_RANGE], 69)
         self.assertGreaterEqual(counts["cargo", _UPGRADED], 4)
         self.assertGreaterEqual(counts["npm", _UPGRADED], 14)
+        self.assertGreaterEqual(counts["cargo", _REQUIREMENT], 12)
+        self.assertGreaterEqual(counts["npm", _REQUIREMENT], 15)
 
     def check_refusal(self, text: str, dialect: Dialect, wanted: str) -> None:
         """Checks where and why a version is invalid; the table has the offset in bytes."""
@@ -130,6 +135,15 @@ class Tools(unittest.TestCase):
             answered = f"invalid range: {name}"
         except UpgradeError as error:
             answered = str(error).partition(": ")[0]
+        self.assertEqual(answered, wanted)
+
+    def check_requirement(self, text: str, dialect: Dialect, rule: str, wanted: str) -> None:
+        """Checks the requirement of a range, in quotes, `none`, or the error of the range."""
+        try:
+            requirement = Range(text, dialect=dialect, pre_releases=rule).to_requirement()
+            answered = "none" if requirement is None else f'"{requirement}"'
+        except RangeError as error:
+            answered = _NAMES[is_too_large(error)].replace("-", " ")
         self.assertEqual(answered, wanted)
 
     def check_version(self, call: str, text: str, dialect: Dialect, wanted: str) -> None:

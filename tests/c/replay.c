@@ -449,6 +449,28 @@ static bool say_upgraded(text *to, const row *of, int dialect, int rule) {
     return true;
 }
 
+/* The row names the rule. */
+static bool say_requirement(text *to, const row *of, int dialect, int rule) {
+    if (strcmp(of->steps.bytes, "by-dialect") != 0) {
+        rule = strcmp(of->steps.bytes, "included") == 0 ? INCLUDED : EXCLUDED;
+    }
+    semver_parser_range *range = read_set(to, &of->of, dialect, rule);
+    if (range == NULL) {
+        return true;
+    }
+    char *made = NULL;
+    check(semver_parser_range_to_requirement(range, &made) == SEMVER_PARSER_OK,
+          "no requirement", of->of.bytes);
+    if (made == NULL) {
+        text_say(to, "none");
+    } else {
+        text_say(to, "\"%s\"", made);
+    }
+    semver_parser_free(made);
+    semver_parser_range_free(range);
+    return true;
+}
+
 /* ---- calls of the table */
 
 typedef struct {
@@ -502,6 +524,7 @@ static table_call calls[] = {
     {"refused-as-crate", say_refused, CRATE_NPM, 0, 15, 0, 0},
     TOOLS("refused-range", say_refused_range, 0, 85, 85),
     TOOLS("upgraded", say_upgraded, BY_DIALECT, 4, 14),
+    TOOLS("requirement", say_requirement, BY_DIALECT, 12, 15),
     CRATE("refused-range-as-crate", say_refused_range, 0, 85, 85),
 };
 enum { CALLS = sizeof calls / sizeof *calls };

@@ -8,19 +8,27 @@ use semver_ranges::{Range, RangeError};
 use std::alloc::{AllocError, Global};
 use tool_ranges::dialect::Dialect;
 use tool_ranges::version_range::VersionRange;
-use version_sets::PreReleases;
 
 /// What is tried, in this order.
-const WAYS: [Way; 4] = [Way::OneKind, Way::Joined, Way::Paired, Way::Nothing];
+const WAYS: [Way; 5] = [
+    Way::Releases,
+    Way::PreReleases,
+    Way::Joined,
+    Way::Paired,
+    Way::Nothing,
+];
 
 /// A way to write the intervals of a range.
 #[derive(Clone, Copy)]
 enum Way {
-    /// The intervals of one kind: of pre-releases if all of them count, otherwise of releases.
-    OneKind,
+    /// The intervals of releases.
+    Releases,
+    /// The intervals of pre-releases, whose bounds may be pre-releases.
+    PreReleases,
     /// Intervals of pre-releases joined to the intervals of releases that they touch.
     Joined,
-    /// Each interval of releases with the ends of the interval of pre-releases at the same place.
+    /// Each interval of releases with those bounds of an interval of pre-releases that are at the same
+    /// place.
     Paired,
     /// A range that contains no version.
     Nothing,
@@ -63,10 +71,8 @@ fn written(
     pre_releases: &[Range],
 ) -> Result<String, AllocError> {
     let all = match way {
-        Way::OneKind => match range.meaning().pre_releases {
-            PreReleases::Included => intervals(alloc, pre_releases)?,
-            PreReleases::ByDialect | PreReleases::Excluded => intervals(alloc, releases)?,
-        },
+        Way::Releases => intervals(alloc, releases)?,
+        Way::PreReleases => intervals(alloc, pre_releases)?,
         Way::Joined => joined(alloc, releases, pre_releases)?,
         Way::Paired => paired(alloc, releases, pre_releases)?,
         Way::Nothing => Vec::new(alloc),

@@ -10,7 +10,7 @@ use crate::rattle_std::AllocError;
 pub(crate) struct Interval<'set> {
     /// `>=`, or `=`.
     pub(crate) lower: Option<&'set Comparator>,
-    /// `<`, or `<=`.
+    /// `<`, or `<=`. It may also be `=`, which is then written as `<=`.
     pub(crate) upper: Option<&'set Comparator>,
 }
 
@@ -66,12 +66,15 @@ pub(crate) fn joined<'set>(
 }
 
 /// Joins an interval of pre-releases to the first interval that it touches. Returns whether there
-/// is one.
+/// is one. If that is a single release, it becomes the upper bound: `>=1.2.3-b <=1.2.3`.
 fn join<'set>(all: &mut [Interval<'set>], found: &Interval<'set>) -> bool {
     for at in 0..all.len() {
         let other = all[at];
         if ends_at(found, &other) {
             all[at].lower = found.lower;
+            if other.upper.is_none() && is_equal(other.lower) {
+                all[at].upper = other.lower;
+            }
             return true;
         }
         if begins_at(found, &other) {
@@ -104,6 +107,11 @@ fn begins_at(found: &Interval<'_>, other: &Interval<'_>) -> bool {
     }
 }
 
+/// Returns whether a comparator is `=`.
+fn is_equal(comparator: Option<&Comparator>) -> bool {
+    comparator.is_some_and(|it| matches!(it.op, Op::Eq))
+}
+
 /// Returns whether a comparator is `>=` with the lowest pre-release of its numbers.
 fn has_lowest_pre(comparator: &Comparator) -> bool {
     matches!(comparator.op, Op::Gte)
@@ -115,8 +123,8 @@ fn have_same_numbers(one: &Comparator, other: &Comparator) -> bool {
     one.major == other.major && one.minor == other.minor && one.patch == other.patch
 }
 
-/// Returns the intervals of pre-releases, each from the beginning of the interval of releases with
-/// the same index.
+/// Returns the intervals of pre-releases, each with those bounds of the interval of releases with the
+/// same index that are at another place.
 pub(crate) fn paired<'set>(
     releases: &'set [Range],
     pre_releases: &'set [Range],
@@ -128,11 +136,14 @@ pub(crate) fn paired<'set>(
         if !is_at_same_place(all[at].lower, release.lower) {
             all[at].lower = release.lower;
         }
+        if !is_at_same_place(all[at].upper, release.upper) {
+            all[at].upper = release.upper;
+        }
     }
     Ok(all)
 }
 
-/// Returns whether two lower comparators have the same numbers, or both are missing.
+/// Returns whether two comparators have the same numbers, or both are missing.
 fn is_at_same_place(one: Option<&Comparator>, other: Option<&Comparator>) -> bool {
     match (one, other) {
         (Some(one), Some(other)) => have_same_numbers(one, other),
@@ -172,6 +183,9 @@ fn write_interval(
                 Joint::Comma => ", ",
                 Joint::Space => " ",
             })?;
+            if is_equal(interval.upper) {
+                text.fallible_push_str("<")?;
+            }
             write!(text, "{upper}")
         }
         (Some(lower), None) if !is_lowest(lower) => write!(text, "{lower}"),

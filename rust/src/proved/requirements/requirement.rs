@@ -7,19 +7,27 @@ use crate::proved::semver_ranges::{Range, RangeError};
 use crate::rattle_std::AllocError;
 use crate::proved::tool_ranges::dialect::Dialect;
 use crate::proved::tool_ranges::version_range::VersionRange;
-use crate::proved::version_sets::PreReleases;
 
 /// What is tried, in this order.
-const WAYS: [Way; 4] = [Way::OneKind, Way::Joined, Way::Paired, Way::Nothing];
+const WAYS: [Way; 5] = [
+    Way::Releases,
+    Way::PreReleases,
+    Way::Joined,
+    Way::Paired,
+    Way::Nothing,
+];
 
 /// A way to write the intervals of a range.
 #[derive(Clone, Copy)]
 enum Way {
-    /// The intervals of one kind: of pre-releases if all of them count, otherwise of releases.
-    OneKind,
+    /// The intervals of releases.
+    Releases,
+    /// The intervals of pre-releases, whose bounds may be pre-releases.
+    PreReleases,
     /// Intervals of pre-releases joined to the intervals of releases that they touch.
     Joined,
-    /// Each interval of releases with the ends of the interval of pre-releases at the same place.
+    /// Each interval of releases with those bounds of an interval of pre-releases that are at the same
+    /// place.
     Paired,
     /// A range that contains no version.
     Nothing,
@@ -56,10 +64,8 @@ fn written(
     pre_releases: &[Range],
 ) -> Result<String, AllocError> {
     let all = match way {
-        Way::OneKind => match range.meaning().pre_releases {
-            PreReleases::Included => intervals(pre_releases)?,
-            PreReleases::ByDialect | PreReleases::Excluded => intervals(releases)?,
-        },
+        Way::Releases => intervals(releases)?,
+        Way::PreReleases => intervals(pre_releases)?,
         Way::Joined => joined(releases, pre_releases)?,
         Way::Paired => paired(releases, pre_releases)?,
         Way::Nothing => Vec::new(),

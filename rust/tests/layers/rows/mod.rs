@@ -77,6 +77,11 @@ fn answer_in(call: &str, tool: &str, text: &str, steps: &str) -> String {
         "meant" => ranges::meant(text, meaning(PreReleases::ByDialect), steps),
         "meant-with-all" => ranges::meant(text, meaning(PreReleases::Included), steps),
         "upgraded" => ranges::upgraded(text, meaning(PreReleases::ByDialect), steps),
+        "requirement" => match steps {
+            "included" => ranges::required(text, meaning(PreReleases::Included)),
+            "excluded" => ranges::required(text, meaning(PreReleases::Excluded)),
+            _ => ranges::required(text, meaning(PreReleases::ByDialect)),
+        },
         _ => "no such call".into(),
     }
 }

@@ -3,8 +3,10 @@
 use super::{versions_of, NOT_ALL};
 use crate::proved::semver_parser::{version, RangeError};
 use crate::proved::range_upgrades::upgrade::upgrade;
+use crate::proved::requirements::requirement::requirement;
 use crate::proved::tool_ranges::dialect::{self, Dialect};
 use crate::proved::tool_ranges::meaning::{self, Rules};
+use crate::proved::tool_ranges::version_range::VersionRange;
 use crate::proved::invalid_ranges::refusals;
 
 /// Returns the comparators of a range in a dialect, or the word for its error.
@@ -44,6 +46,17 @@ pub fn upgraded(text: &str, tool: Rules, version: &str) -> String {
     match upgrade(text, version.as_bytes(), tool) {
         Ok(Some(new)) => format!("{new:?}"),
         Ok(None) => "nothing to do".into(),
+        Err(error) => error.to_string(),
+    }
+}
+
+/// Returns the requirement of a range, in quotes, `none`, or the range's error.
+pub fn required(text: &str, tool: Rules) -> String {
+    match VersionRange::try_parse(text, tool) {
+        Ok(range) => match requirement(&range).unwrap() {
+            Some(requirement) => format!("{requirement:?}"),
+            None => "none".into(),
+        },
         Err(error) => error.to_string(),
     }
 }
