@@ -9,7 +9,7 @@ _compare_ranges() {
     --fail-on) COMPREPLY=($(compgen -W 'lost gained any' -- "$word")); return ;;
     esac
     case $word in
-    -*) COMPREPLY=($(compgen -W '--dialect --as --npm --include-prerelease --pre --releases-only --releases --lowest --least --json --fail-on -h --help --version' -- "$word")) ;;
+    -*) COMPREPLY=($(compgen -W '--dialect --as --npm --include-prerelease --pre --releases-only --releases --lowest --least --json --fail-on --upgrade -h --help --version' -- "$word")) ;;
     esac
 }
 complete -F _compare_ranges compare-ranges

@@ -70,6 +70,12 @@ pub enum ArgumentError {
     /// `--fail-on` is given with one range.
     #[error("--fail-on needs two ranges")]
     NoComparison,
+    /// Nothing follows `--upgrade`.
+    #[error("--upgrade needs a version")]
+    NoVersion,
+    /// `--upgrade` is given with two ranges.
+    #[error("--upgrade needs only one range")]
+    TwoToUpgrade,
     /// `--reverse` is given without `--sort`.
     #[error("--reverse needs --sort")]
     NoOrder,

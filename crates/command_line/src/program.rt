@@ -4,7 +4,7 @@ ghost use Rattle.std.specs.Prelude.{◌≡◌, ◌⊎◌};
 ghost use Rattle.std.specs.Process.{exit_status};
 
 use crate::error::ArgumentError;
-use crate::refused::refused_text;
+use crate::refused::{refused_text, refused_version};
 use invalid_strings::escaped::Escaped;
 use semver_parser::RangeError;
 use std::io::{self, ErrorKind};
@@ -72,6 +72,19 @@ impl Program {
         let _ = match refused_text(rt.alloc(), dialect, error, range) {
             Ok(text) => eprintln!(rt; "{}: {text}", self.name),
             Err(_) => eprintln!(rt; "{}: {error}: \"{shown}\"", self.name),
+        };
+        ExitCode::from(2)
+    }
+
+    // Determined by: equation.
+    /// Writes the error of an invalid version, with the string and the offset, and returns status 2.
+    pub fn refuse_version(self, rt: &HostRuntime, dialect: Dialect, version: &str) -> ExitCode
+        ensures status { exit_status result ≡ 2 }
+    {
+        let shown = Escaped { text: version };
+        let _ = match refused_version(rt.alloc(), dialect, version) {
+            Ok(text) => eprintln!(rt; "{}: {text}", self.name),
+            Err(_) => eprintln!(rt; "{}: invalid version: \"{shown}\"", self.name),
         };
         ExitCode::from(2)
     }

@@ -8,6 +8,7 @@ ghost use Rattle.command_line.specs.RefusedLines.{line_of, place_of, why_of, wor
 
 use crate::excerpt::Excerpt;
 use invalid_ranges::refusals::{Refusal, refused};
+use invalid_strings::refusals::explain;
 use semver_parser::RangeError;
 use std::alloc::{AllocError, Global};
 use tool_ranges::dialect::Dialect;
@@ -33,6 +34,30 @@ pub(crate) fn refused_text(
         Some(refusal) => write_refusal(alloc, &mut written, &refusal, text)?,
         None => write!(written, "{}: {}", words_of(error), Excerpt::round(text, 0))?,
     }
+    Ok(written)
+}
+
+/// Returns the message for an invalid version, in the same form. `Err` means out of memory.
+///
+/// ```text
+/// invalid version: "1.2"
+///     1.2
+///        ^ at the end: there are fewer than three numbers
+/// ```
+pub(crate) fn refused_version(
+    alloc: Global,
+    dialect: Dialect,
+    text: &str,
+) -> Result<String, AllocError> {
+    let mut written = String::new(alloc);
+    let Some(refusal) = explain(alloc, text.as_bytes(), dialect.grammar())? else {
+        return Ok(written);
+    };
+    let excerpt = Excerpt::round(text, refusal.offset);
+    write!(written, "invalid version: {excerpt}")?;
+    excerpt.write_pointed(alloc, &mut written)?;
+    write_place(&mut written, refusal.offset, text.len())?;
+    write!(written, ": {}", refusal.reason)?;
     Ok(written)
 }
 

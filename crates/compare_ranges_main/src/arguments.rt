@@ -1,6 +1,7 @@
 //! Reads the arguments.
 
 use command_line::{ArgumentError, MeaningOptions, Quoted};
+use std::alloc::Global;
 use std::env;
 use std::rt::Env;
 use tool_ranges::meaning::Rules;
@@ -8,7 +9,7 @@ use tool_ranges::meaning::Rules;
 /// The request of the arguments.
 #[derive(Drop)]
 pub enum Request {
-    /// To print what one range contains, or to compare two.
+    /// To print what one range contains, to raise it, or to compare two.
     Read(Question),
     /// To print the usage.
     Help,
@@ -52,7 +53,7 @@ pub enum Change {
 }
 
 /// The options that only this program has.
-#[derive(Clone, Copy)]
+#[derive(Drop)]
 pub struct Options {
     /// How versions are printed.
     pub extent: Extent,
@@ -60,8 +61,12 @@ pub struct Options {
     pub is_json: bool,
     /// The change that `--fail-on` names.
     pub fails_on: Option<Change>,
+    /// The version to which the range has to be raised.
+    pub version: Option<String>,
     /// Whether the next argument is that change.
     wants_change: bool,
+    /// Whether the next argument is that version.
+    wants_version: bool,
     /// Whether options may follow.
     has_more: bool,
 }
@@ -73,15 +78,21 @@ impl Options {
             extent: Extent::Whole,
             is_json: false,
             fails_on: None,
+            version: None,
             wants_change: false,
+            wants_version: false,
             has_more: true,
         }
     }
 
     /// Takes an option, and returns whether it is known.
-    fn take(&mut self, option: &str) -> Result<bool, ArgumentError> {
+    fn take(&mut self, alloc: Global, option: &str) -> Result<bool, ArgumentError> {
         if let Some(change) = option.strip_prefix("--fail-on=") {
             self.take_change(change)?;
+            return Ok(true);
+        }
+        if let Some(version) = option.strip_prefix("--upgrade=") {
+            self.take_version(alloc, version)?;
             return Ok(true);
         }
         match option {
@@ -89,6 +100,7 @@ impl Options {
             "--json" if self.is_json => return Err(ArgumentError::GivenTwice("--json")),
             "--json" => self.is_json = true,
             "--fail-on" => self.wants_change = true,
+            "--upgrade" => self.wants_version = true,
             "--" => self.has_more = false,
             _ => return Ok(false),
         }
@@ -120,10 +132,37 @@ impl Options {
         };
         Ok(())
     }
+
+    /// Takes the version to which the range has to be raised.
+    fn take_version(&mut self, alloc: Global, version: &str) -> Result<(), ArgumentError> {
+        self.wants_version = false;
+        if self.version.is_some() {
+            return Err(ArgumentError::GivenTwice("--upgrade"));
+        }
+        self.version = Some(version.to_string(alloc)?);
+        Ok(())
+    }
+
+    /// Returns an error if options don't belong together, or to this number of ranges.
+    fn check(&self, has_new: bool) -> Result<(), ArgumentError> {
+        if self.fails_on.is_some() && !has_new {
+            return Err(ArgumentError::NoComparison);
+        }
+        if self.version.is_none() {
+            return Ok(());
+        }
+        match self.extent {
+            _ if has_new => Err(ArgumentError::TwoToUpgrade),
+            _ if self.is_json => Err(ArgumentError::Contradiction("--json", "--upgrade")),
+            Extent::Lowest => Err(ArgumentError::Contradiction("--lowest", "--upgrade")),
+            Extent::Whole => Ok(()),
+        }
+    }
 }
 
 /// Returns the request of the arguments. An argument that begins with a hyphen is an option, up to
-/// the first `--`. This doesn't apply to the values of `--dialect`, `--as` and `--fail-on`.
+/// the first `--`. This doesn't apply to the values of `--dialect`, `--as`, `--fail-on` and
+/// `--upgrade`.
 pub fn requested(rt: &(impl Env + AllocGlobal)) -> Result<Request, ArgumentError> {
     let mut arguments = env::args(rt)?;
     let _program = arguments.next();
@@ -136,6 +175,10 @@ pub fn requested(rt: &(impl Env + AllocGlobal)) -> Result<Request, ArgumentError
             options.take_change(argument.as_str())?;
             continue;
         }
+        if options.wants_version {
+            options.take_version(rt.alloc(), argument.as_str())?;
+            continue;
+        }
         if options.has_more && meaning.take(rt.alloc(), argument.as_str())? {
             continue;
         }
@@ -143,7 +186,7 @@ pub fn requested(rt: &(impl Env + AllocGlobal)) -> Result<Request, ArgumentError
             "-h" | "--help" if options.has_more => return Ok(Request::Help),
             "--version" if options.has_more => return Ok(Request::Version),
             text if options.has_more && text.starts_with('-') => {
-                if !options.take(text)? {
+                if !options.take(rt.alloc(), text)? {
                     return Err(unknown(rt, argument, meaning, options));
                 }
             }
@@ -165,7 +208,7 @@ fn unknown(
     let is_known = match option.as_str().split_once('=') {
         Some((name, _)) => {
             !matches!(meaning.take(rt.alloc(), name), Ok(false))
-                || !matches!(options.take(name), Ok(false))
+                || !matches!(options.take(rt.alloc(), name), Ok(false))
         }
         None => false,
     };
@@ -186,14 +229,15 @@ fn request_of(
     if options.wants_change {
         return Err(ArgumentError::NoChange);
     }
+    if options.wants_version {
+        return Err(ArgumentError::NoVersion);
+    }
     let has_dialect = meaning.has_dialect();
     let meaning = meaning.finish()?;
     let Some(range) = range else {
         return Err(ArgumentError::NoRange("OLD NEW, or one RANGE"));
     };
-    if options.fails_on.is_some() && new.is_none() {
-        return Err(ArgumentError::NoComparison);
-    }
+    options.check(new.is_some())?;
     Ok(Request::Read(Question {
         range,
         new,

@@ -10,22 +10,25 @@ use version_sets::{Combination, OperationError, SetRanges, VersionSet};
 pub struct Output {
     /// The lines, or the members of the object.
     text: String,
-    /// How versions are printed, and in which format.
-    options: Options,
+    /// How versions are printed.
+    extent: Extent,
+    /// Whether the output is JSON.
+    is_json: bool,
 }
 
 impl Output {
     /// Returns an empty output.
-    pub fn new(alloc: Global, options: Options) -> Output {
+    pub fn new(alloc: Global, options: &Options) -> Output {
         Output {
             text: String::new(alloc),
-            options,
+            extent: options.extent,
+            is_json: options.is_json,
         }
     }
 
     /// Returns the whole output.
     pub fn finish(self, alloc: Global) -> Result<String, AllocError> {
-        if !self.options.is_json {
+        if !self.is_json {
             return Ok(self.text);
         }
         let mut object = String::new(alloc);
@@ -40,7 +43,7 @@ impl Output {
         old: &VersionSet,
         new: &VersionSet,
     ) -> Result<(), OperationError> {
-        match self.options.extent {
+        match self.extent {
             Extent::Whole => {
                 let (alone, both) = (Combination::Difference, Combination::Intersection);
                 self.push_whole(alloc, "lost", &old.combined(alloc, alone, new)?)?;
@@ -54,7 +57,7 @@ impl Output {
                 self.push_lowest("shared", &comparison.shared)?;
             }
         }
-        if self.options.is_json {
+        if self.is_json {
             self.begin_member("equal")?;
             self.text
                 .push_str(if old == new { "true" } else { "false" })?;
@@ -69,10 +72,10 @@ impl Output {
         word: &str,
         range: &VersionSet,
     ) -> Result<(), AllocError> {
-        if range.is_empty() && !self.options.is_json {
+        if range.is_empty() && !self.is_json {
             return self.push_text(word, "no version");
         }
-        match self.options.extent {
+        match self.extent {
             Extent::Whole => self.push_whole(alloc, word, range),
             Extent::Lowest => self.push_lowest(word, &range.lowest(alloc)?),
         }
@@ -86,7 +89,7 @@ impl Output {
     /// Appends why there is no range, labelled with a word. In JSON, the label has null, and
     /// another member has the reason.
     pub fn push_error(&mut self, word: &str, why: &str) -> Result<(), AllocError> {
-        if !self.options.is_json {
+        if !self.is_json {
             return self.push_text(word, why);
         }
         self.begin_members()?;
@@ -102,7 +105,7 @@ impl Output {
         set: &VersionSet,
     ) -> Result<(), AllocError> {
         self.push_ranges(word, "", &set.release_ranges(alloc)?)?;
-        let suffix = if self.options.is_json {
+        let suffix = if self.is_json {
             "_pre_releases"
         } else {
             " pre-releases"
@@ -119,7 +122,7 @@ impl Output {
         ranges: &SetRanges,
     ) -> Result<(), AllocError> {
         let is_empty = ranges.range_set.ranges.is_empty();
-        if !self.options.is_json {
+        if !self.is_json {
             return if is_empty {
                 Ok(())
             } else {
@@ -136,7 +139,7 @@ impl Output {
 
     /// Appends a version, if there is one.
     fn push_lowest(&mut self, word: &str, version: &Option<Version>) -> Result<(), AllocError> {
-        if !self.options.is_json {
+        if !self.is_json {
             return match version {
                 Some(version) => write!(self.text, "{word}: {version}\n"),
                 None => Ok(()),

@@ -7,7 +7,9 @@ mod lines;
 
 use arguments::{Change, Question, Request};
 use command_line::{Program, refused_line, write_whole};
+use invalid_strings::escaped::Escaped;
 use lines::Output;
+use range_upgrades::upgrade::{UpgradeError, upgrade};
 use semver_parser::RangeError;
 use std::alloc::AllocError;
 use std::io::{self, ErrorKind};
@@ -25,7 +27,8 @@ const PROGRAM: Program = Program {
 /// The usage of the program.
 const USAGE: &str = "\
 usage: compare-ranges [OPTION]... OLD NEW
-       compare-ranges [OPTION]... RANGE";
+       compare-ranges [OPTION]... RANGE
+       compare-ranges [OPTION]... --upgrade VERSION RANGE";
 
 /// What the program does.
 const HELP: &str = "
@@ -45,8 +48,12 @@ would have no version is left out. With one RANGE, 'no version' is printed if it
 contains none. RANGES is a range in npm's syntax, such as
 '=1.2.0 || >=1.9.0 <2.0.0', or '*' for all versions.
 
+With --upgrade, prints RANGE raised so that it contains VERSION, in the form in
+which it is written, or unchanged if it has this version or a higher one.
+
     --dialect NAME         read the ranges as:
-                             cargo        Cargo (the default for two ranges)
+                             cargo        Cargo (the default for two ranges, and
+                                          with --upgrade)
                              npm          npm
                              crate-cargo  semver-parser in Cargo mode
                              crate-npm    semver-parser in npm mode
@@ -60,12 +67,14 @@ contains none. RANGES is a range in npm's syntax, such as
     --json                 print one object of JSON
     --fail-on CHANGE       exit with 1 only if versions are lost (CHANGE is
                            lost), gained (gained), or either (any, the default)
+    --upgrade VERSION      print RANGE raised to VERSION
     --                     end the options
     -h, --help             print this help
     --version              print the version of this program
 
 The status is 0 for one range, or if both ranges contain the same versions, 1 if
-they differ, and 2 after an error. semver-ranges(7) explains ranges.";
+they differ, or if RANGE can't be raised to VERSION, and 2 after an error.
+semver-ranges(7) explains ranges.";
 
 /// The version of this program, which is that of the file VERSION.
 const VERSION: &str = "compare-ranges 1.0.0";
@@ -85,6 +94,10 @@ enum Error<'a> {
     Range(RangeError, &'a str),
     /// The range is invalid in Cargo and in npm: the error of each.
     Neither(RangeError, RangeError),
+    /// The version to which the range has to be raised is invalid.
+    Version(&'a str),
+    /// The range can't be raised to this version.
+    CannotUpgrade(&'a str),
     /// An allocation failed after the ranges were read.
     OutOfMemory,
 }
@@ -115,19 +128,26 @@ fn run(rt: &HostRuntime, question: &Question) -> ExitCode {
     }
 }
 
-/// Returns whether two ranges were read by Cargo's rules since no option named a dialect, and give
-/// another output by npm's.
+/// Returns whether the ranges were read by Cargo's rules only since no option named a dialect, and
+/// give another output by npm's.
 fn is_other_in_npm(rt: &HostRuntime, question: &Question, text: &str) -> bool {
-    let Some(new) = &question.new else {
-        return false;
-    };
     if question.has_dialect {
         return false;
     }
-    let Ok(range) = read_in_npm(rt, question, question.range.as_str()) else {
+    let meaning = in_npm(question);
+    if let Some(version) = &question.options.version {
+        return match upgraded(rt, question, version.as_str(), meaning) {
+            Ok(other) => other.as_str() != text,
+            Err(_) => false,
+        };
+    }
+    let Some(new) = &question.new else {
         return false;
     };
-    let Ok(new) = read_in_npm(rt, question, new.as_str()) else {
+    let Ok(range) = VersionRange::parse(rt.alloc(), question.range.as_str(), meaning) else {
+        return false;
+    };
+    let Ok(new) = VersionRange::parse(rt.alloc(), new.as_str(), meaning) else {
         return false;
     };
     match of_two(rt, question, &range, &new) {
@@ -136,17 +156,12 @@ fn is_other_in_npm(rt: &HostRuntime, question: &Question, text: &str) -> bool {
     }
 }
 
-/// Reads a range in npm's dialect.
-fn read_in_npm(
-    rt: &HostRuntime,
-    question: &Question,
-    range: &str,
-) -> Result<VersionRange, RangeError> {
-    let meaning = Rules {
+/// Returns npm's dialect, with the requested rule for pre-releases.
+fn in_npm(question: &Question) -> Rules {
+    Rules {
         dialect: Dialect::Npm,
         pre_releases: question.meaning.pre_releases,
-    };
-    VersionRange::parse(rt.alloc(), range, meaning)
+    }
 }
 
 /// Writes a string, and returns the status.
@@ -163,7 +178,8 @@ fn failed(rt: &HostRuntime, question: &Question, error: &Error<'_>) -> ExitCode 
     match error {
         Error::Range(error, range) => {
             let status = PROGRAM.refuse_range(rt, question.meaning.dialect, error, range);
-            if !question.has_dialect && read_in_npm(rt, question, range).is_ok() {
+            let by_npm = VersionRange::parse(rt.alloc(), range, in_npm(question));
+            if !question.has_dialect && by_npm.is_ok() {
                 let _ = eprintln!(rt; "{}: {IN_NPM}", PROGRAM.name);
             }
             status
@@ -171,6 +187,18 @@ fn failed(rt: &HostRuntime, question: &Question, error: &Error<'_>) -> ExitCode 
         Error::Neither(cargo, npm) => {
             let tools = [("cargo", Dialect::Cargo, cargo), ("npm", Dialect::Npm, npm)];
             PROGRAM.refuse_range_of_each(rt, &tools, question.range.as_str())
+        }
+        Error::Version(version) => { PROGRAM.refuse_version(rt, question.meaning.dialect, version) }
+        Error::CannotUpgrade(version) => {
+            let range = Escaped {
+                text: question.range.as_str(),
+            };
+            let version = Escaped { text: version };
+            let _ = eprintln!(rt;
+                "{}: \"{range}\" can't be raised to {version}",
+                PROGRAM.name
+            );
+            ExitCode::from(1)
         }
         Error::OutOfMemory => {
             let _ = eprintln!(rt; "{}: out of memory", PROGRAM.name);
@@ -181,6 +209,10 @@ fn failed(rt: &HostRuntime, question: &Question, error: &Error<'_>) -> ExitCode 
 
 /// Returns the output for the ranges.
 fn answered<'a>(rt: &HostRuntime, question: &'a Question) -> Result<Answer, Error<'a>> {
+    if let Some(version) = &question.options.version {
+        let text = upgraded(rt, question, version.as_str(), question.meaning)?;
+        return Ok((text, false));
+    }
     if question.new.is_none() && !question.has_dialect {
         return of_both_tools(rt, question);
     }
@@ -198,13 +230,33 @@ fn answered<'a>(rt: &HostRuntime, question: &'a Question) -> Result<Answer, Erro
     }
 }
 
+/// Returns the line with the range raised to a version, or unchanged if it has this version or a
+/// higher one.
+fn upgraded<'a>(
+    rt: &HostRuntime,
+    question: &'a Question,
+    version: &'a str,
+    meaning: Rules,
+) -> Result<String, Error<'a>> {
+    let range = question.range.as_str();
+    let line = match upgrade(rt.alloc(), range, version.as_bytes(), meaning) {
+        Ok(Some(raised)) => format!(in rt.alloc(); "{raised}\n"),
+        Ok(None) => format!(in rt.alloc(); "{range}\n"),
+        Err(UpgradeError::InvalidVersion) => return Err(Error::Version(version)),
+        Err(UpgradeError::InvalidRange(error)) => return Err(Error::Range(error, range)),
+        Err(UpgradeError::CannotUpgrade) => return Err(Error::CannotUpgrade(version)),
+        Err(UpgradeError::OutOfMemory) => return Err(Error::OutOfMemory),
+    };
+    line.map_err(|_| Error::OutOfMemory)
+}
+
 /// Returns the output for one range in the requested dialect.
 fn of_one(
     rt: &HostRuntime,
     question: &Question,
     range: &VersionRange,
 ) -> Result<String, AllocError> {
-    let mut output = Output::new(rt.alloc(), question.options);
+    let mut output = Output::new(rt.alloc(), &question.options);
     output.push_range(rt.alloc(), "means", range.versions())?;
     output.finish(rt.alloc())
 }
@@ -216,7 +268,7 @@ fn of_two(
     range: &VersionRange,
     new: &VersionRange,
 ) -> Result<String, OperationError> {
-    let mut output = Output::new(rt.alloc(), question.options);
+    let mut output = Output::new(rt.alloc(), &question.options);
     output.push_two(rt.alloc(), range.versions(), new.versions())?;
     Ok(output.finish(rt.alloc())?)
 }
@@ -232,7 +284,7 @@ fn is_changed(question: &Question, range: &VersionRange, new: &VersionRange) -> 
 
 /// Returns the output for one range in Cargo and in npm, or why it is not a range.
 fn of_both_tools<'a>(rt: &HostRuntime, question: &'a Question) -> Result<Answer, Error<'a>> {
-    let mut output = Output::new(rt.alloc(), question.options);
+    let mut output = Output::new(rt.alloc(), &question.options);
     let cargo = push_tool(rt, question, &mut output, "cargo", Dialect::Cargo);
     let npm = push_tool(rt, question, &mut output, "npm", Dialect::Npm);
     match (cargo, npm) {

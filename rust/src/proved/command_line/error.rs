@@ -54,6 +54,10 @@ pub enum ArgumentError {
     NoChange,
     /// `--fail-on` is given with one range.
     NoComparison,
+    /// Nothing follows `--upgrade`.
+    NoVersion,
+    /// `--upgrade` is given with two ranges.
+    TwoToUpgrade,
     /// `--reverse` is given without `--sort`.
     NoOrder,
     /// There is no range. These are the arguments that are needed.
@@ -77,6 +81,8 @@ impl crate::rattle_std::fmt::Display for ArgumentError {
             ArgumentError::NoKind => write!(f, "--only needs releases or pre-releases"),
             ArgumentError::NoChange => write!(f, "--fail-on needs lost, gained or any"),
             ArgumentError::NoComparison => write!(f, "--fail-on needs two ranges"),
+            ArgumentError::NoVersion => write!(f, "--upgrade needs a version"),
+            ArgumentError::TwoToUpgrade => write!(f, "--upgrade needs only one range"),
             ArgumentError::NoOrder => write!(f, "--reverse needs --sort"),
             ArgumentError::NoRange(_0) => write!(f, "no range: the arguments are {_0}"),
             ArgumentError::MoreThanTwoRanges => write!(f, "more than two ranges"),

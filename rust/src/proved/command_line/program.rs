@@ -4,7 +4,7 @@
 
 use crate::rattle_std::prelude::*;
 use crate::proved::command_line::error::ArgumentError;
-use crate::proved::command_line::refused::refused_text;
+use crate::proved::command_line::refused::{refused_text, refused_version};
 use crate::proved::invalid_strings::escaped::Escaped;
 use crate::proved::semver_parser::RangeError;
 use crate::rattle_std::io::{self, ErrorKind};
@@ -61,6 +61,16 @@ impl Program {
         let _ = match refused_text(dialect, error, range) {
             Ok(text) => crate::rattle_std::fallible_eprintln!(rt; "{}: {text}", self.name),
             Err(_) => crate::rattle_std::fallible_eprintln!(rt; "{}: {error}: \"{shown}\"", self.name),
+        };
+        ExitCode::from(2)
+    }
+
+    /// Writes the error of an invalid version, with the string and the offset, and returns status 2.
+    pub fn refuse_version(self, rt: &HostRuntime, dialect: Dialect, version: &str) -> ExitCode {
+        let shown = Escaped { text: version };
+        let _ = match refused_version(dialect, version) {
+            Ok(text) => crate::rattle_std::fallible_eprintln!(rt; "{}: {text}", self.name),
+            Err(_) => crate::rattle_std::fallible_eprintln!(rt; "{}: invalid version: \"{shown}\"", self.name),
         };
         ExitCode::from(2)
     }

@@ -5,6 +5,7 @@
 use crate::rattle_std::prelude::*;
 use crate::proved::command_line::excerpt::Excerpt;
 use crate::proved::invalid_ranges::refusals::{Refusal, refused};
+use crate::proved::invalid_strings::refusals::explain;
 use crate::proved::semver_parser::RangeError;
 use crate::rattle_std::AllocError;
 use crate::proved::tool_ranges::dialect::Dialect;
@@ -29,6 +30,29 @@ pub(crate) fn refused_text(
         Some(refusal) => write_refusal(&mut written, &refusal, text)?,
         None => write!(written, "{}: {}", words_of(error), Excerpt::round(text, 0))?,
     }
+    Ok(written)
+}
+
+/// Returns the message for an invalid version, in the same form. `Err` means out of memory.
+///
+/// ```text
+/// invalid version: "1.2"
+///     1.2
+///        ^ at the end: there are fewer than three numbers
+/// ```
+pub(crate) fn refused_version(
+    dialect: Dialect,
+    text: &str,
+) -> Result<String, AllocError> {
+    let mut written = String::new();
+    let Some(refusal) = explain(text.as_bytes(), dialect.grammar())? else {
+        return Ok(written);
+    };
+    let excerpt = Excerpt::round(text, refusal.offset);
+    write!(written, "invalid version: {excerpt}")?;
+    excerpt.write_pointed(&mut written)?;
+    write_place(&mut written, refusal.offset, text.len())?;
+    write!(written, ": {}", refusal.reason)?;
     Ok(written)
 }
 

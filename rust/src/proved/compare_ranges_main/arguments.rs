@@ -10,7 +10,7 @@ use crate::proved::tool_ranges::meaning::Rules;
 
 /// The request of the arguments.
 pub enum Request {
-    /// To print what one range contains, or to compare two.
+    /// To print what one range contains, to raise it, or to compare two.
     Read(Question),
     /// To print the usage.
     Help,
@@ -53,7 +53,6 @@ pub enum Change {
 }
 
 /// The options that only this program has.
-#[derive(Clone, Copy)]
 pub struct Options {
     /// How versions are printed.
     pub extent: Extent,
@@ -61,8 +60,12 @@ pub struct Options {
     pub is_json: bool,
     /// The change that `--fail-on` names.
     pub fails_on: Option<Change>,
+    /// The version to which the range has to be raised.
+    pub version: Option<String>,
     /// Whether the next argument is that change.
     wants_change: bool,
+    /// Whether the next argument is that version.
+    wants_version: bool,
     /// Whether options may follow.
     has_more: bool,
 }
@@ -74,7 +77,9 @@ impl Options {
             extent: Extent::Whole,
             is_json: false,
             fails_on: None,
+            version: None,
             wants_change: false,
+            wants_version: false,
             has_more: true,
         }
     }
@@ -85,11 +90,16 @@ impl Options {
             self.take_change(change)?;
             return Ok(true);
         }
+        if let Some(version) = option.strip_prefix("--upgrade=") {
+            self.take_version(version)?;
+            return Ok(true);
+        }
         match option {
             "--lowest" | "--least" => self.take_lowest()?,
             "--json" if self.is_json => return Err(ArgumentError::GivenTwice("--json")),
             "--json" => self.is_json = true,
             "--fail-on" => self.wants_change = true,
+            "--upgrade" => self.wants_version = true,
             "--" => self.has_more = false,
             _ => return Ok(false),
         }
@@ -121,10 +131,37 @@ impl Options {
         };
         Ok(())
     }
+
+    /// Takes the version to which the range has to be raised.
+    fn take_version(&mut self, version: &str) -> Result<(), ArgumentError> {
+        self.wants_version = false;
+        if self.version.is_some() {
+            return Err(ArgumentError::GivenTwice("--upgrade"));
+        }
+        self.version = Some(version.fallible_to_string()?);
+        Ok(())
+    }
+
+    /// Returns an error if options don't belong together, or to this number of ranges.
+    fn check(&self, has_new: bool) -> Result<(), ArgumentError> {
+        if self.fails_on.is_some() && !has_new {
+            return Err(ArgumentError::NoComparison);
+        }
+        if self.version.is_none() {
+            return Ok(());
+        }
+        match self.extent {
+            _ if has_new => Err(ArgumentError::TwoToUpgrade),
+            _ if self.is_json => Err(ArgumentError::Contradiction("--json", "--upgrade")),
+            Extent::Lowest => Err(ArgumentError::Contradiction("--lowest", "--upgrade")),
+            Extent::Whole => Ok(()),
+        }
+    }
 }
 
 /// Returns the request of the arguments. An argument that begins with a hyphen is an option, up to
-/// the first `--`. This doesn't apply to the values of `--dialect`, `--as` and `--fail-on`.
+/// the first `--`. This doesn't apply to the values of `--dialect`, `--as`, `--fail-on` and
+/// `--upgrade`.
 pub fn requested(rt: &(impl Env + AllocGlobal)) -> Result<Request, ArgumentError> {
     let mut arguments = env::args(rt)?;
     let _program = arguments.next();
@@ -135,6 +172,10 @@ pub fn requested(rt: &(impl Env + AllocGlobal)) -> Result<Request, ArgumentError
     for argument in arguments {
         if options.wants_change {
             options.take_change(argument.as_str())?;
+            continue;
+        }
+        if options.wants_version {
+            options.take_version(argument.as_str())?;
             continue;
         }
         if options.has_more && meaning.take(argument.as_str())? {
@@ -187,14 +228,15 @@ fn request_of(
     if options.wants_change {
         return Err(ArgumentError::NoChange);
     }
+    if options.wants_version {
+        return Err(ArgumentError::NoVersion);
+    }
     let has_dialect = meaning.has_dialect();
     let meaning = meaning.finish()?;
     let Some(range) = range else {
         return Err(ArgumentError::NoRange("OLD NEW, or one RANGE"));
     };
-    if options.fails_on.is_some() && new.is_none() {
-        return Err(ArgumentError::NoComparison);
-    }
+    options.check(new.is_some())?;
     Ok(Request::Read(Question {
         range,
         new,

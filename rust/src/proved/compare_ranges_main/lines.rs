@@ -12,22 +12,25 @@ use crate::proved::version_sets::{Combination, OperationError, SetRanges, Versio
 pub struct Output {
     /// The lines, or the members of the object.
     text: String,
-    /// How versions are printed, and in which format.
-    options: Options,
+    /// How versions are printed.
+    extent: Extent,
+    /// Whether the output is JSON.
+    is_json: bool,
 }
 
 impl Output {
     /// Returns an empty output.
-    pub fn new(options: Options) -> Output {
+    pub fn new(options: &Options) -> Output {
         Output {
             text: String::new(),
-            options,
+            extent: options.extent,
+            is_json: options.is_json,
         }
     }
 
     /// Returns the whole output.
     pub fn finish(self) -> Result<String, AllocError> {
-        if !self.options.is_json {
+        if !self.is_json {
             return Ok(self.text);
         }
         let mut object = String::new();
@@ -41,7 +44,7 @@ impl Output {
         old: &VersionSet,
         new: &VersionSet,
     ) -> Result<(), OperationError> {
-        match self.options.extent {
+        match self.extent {
             Extent::Whole => {
                 let (alone, both) = (Combination::Difference, Combination::Intersection);
                 self.push_whole("lost", &old.combined(alone, new)?)?;
@@ -55,7 +58,7 @@ impl Output {
                 self.push_lowest("shared", &comparison.shared)?;
             }
         }
-        if self.options.is_json {
+        if self.is_json {
             self.begin_member("equal")?;
             self.text
                 .fallible_push_str(if old == new { "true" } else { "false" })?;
@@ -69,10 +72,10 @@ impl Output {
         word: &str,
         range: &VersionSet,
     ) -> Result<(), AllocError> {
-        if range.is_empty() && !self.options.is_json {
+        if range.is_empty() && !self.is_json {
             return self.push_text(word, "no version");
         }
-        match self.options.extent {
+        match self.extent {
             Extent::Whole => self.push_whole(word, range),
             Extent::Lowest => self.push_lowest(word, &range.lowest()?),
         }
@@ -86,7 +89,7 @@ impl Output {
     /// Appends why there is no range, labelled with a word. In JSON, the label has null, and
     /// another member has the reason.
     pub fn push_error(&mut self, word: &str, why: &str) -> Result<(), AllocError> {
-        if !self.options.is_json {
+        if !self.is_json {
             return self.push_text(word, why);
         }
         self.begin_members()?;
@@ -101,7 +104,7 @@ impl Output {
         set: &VersionSet,
     ) -> Result<(), AllocError> {
         self.push_ranges(word, "", &set.release_ranges()?)?;
-        let suffix = if self.options.is_json {
+        let suffix = if self.is_json {
             "_pre_releases"
         } else {
             " pre-releases"
@@ -118,7 +121,7 @@ impl Output {
         ranges: &SetRanges,
     ) -> Result<(), AllocError> {
         let is_empty = ranges.range_set.ranges.is_empty();
-        if !self.options.is_json {
+        if !self.is_json {
             return if is_empty {
                 Ok(())
             } else {
@@ -135,7 +138,7 @@ impl Output {
 
     /// Appends a version, if there is one.
     fn push_lowest(&mut self, word: &str, version: &Option<Version>) -> Result<(), AllocError> {
-        if !self.options.is_json {
+        if !self.is_json {
             return match version {
                 Some(version) => write!(self.text, "{word}: {version}\n"),
                 None => Ok(()),

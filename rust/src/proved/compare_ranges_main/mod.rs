@@ -9,7 +9,9 @@ mod lines;
 
 use arguments::{Change, Question, Request};
 use crate::proved::command_line::{Program, refused_line, write_whole};
+use crate::proved::invalid_strings::escaped::Escaped;
 use lines::Output;
+use crate::proved::range_upgrades::upgrade::{UpgradeError, upgrade};
 use crate::proved::semver_parser::RangeError;
 use crate::rattle_std::AllocError;
 use crate::rattle_std::io::{self, ErrorKind};
@@ -27,7 +29,8 @@ const PROGRAM: Program = Program {
 /// The usage of the program.
 const USAGE: &str = "\
 usage: compare-ranges [OPTION]... OLD NEW
-       compare-ranges [OPTION]... RANGE";
+       compare-ranges [OPTION]... RANGE
+       compare-ranges [OPTION]... --upgrade VERSION RANGE";
 
 /// What the program does.
 const HELP: &str = "
@@ -47,8 +50,12 @@ would have no version is left out. With one RANGE, 'no version' is printed if it
 contains none. RANGES is a range in npm's syntax, such as
 '=1.2.0 || >=1.9.0 <2.0.0', or '*' for all versions.
 
+With --upgrade, prints RANGE raised so that it contains VERSION, in the form in
+which it is written, or unchanged if it has this version or a higher one.
+
     --dialect NAME         read the ranges as:
-                             cargo        Cargo (the default for two ranges)
+                             cargo        Cargo (the default for two ranges, and
+                                          with --upgrade)
                              npm          npm
                              crate-cargo  semver-parser in Cargo mode
                              crate-npm    semver-parser in npm mode
@@ -62,12 +69,14 @@ contains none. RANGES is a range in npm's syntax, such as
     --json                 print one object of JSON
     --fail-on CHANGE       exit with 1 only if versions are lost (CHANGE is
                            lost), gained (gained), or either (any, the default)
+    --upgrade VERSION      print RANGE raised to VERSION
     --                     end the options
     -h, --help             print this help
     --version              print the version of this program
 
 The status is 0 for one range, or if both ranges contain the same versions, 1 if
-they differ, and 2 after an error. semver-ranges(7) explains ranges.";
+they differ, or if RANGE can't be raised to VERSION, and 2 after an error.
+semver-ranges(7) explains ranges.";
 
 /// The version of this program, which is that of the file VERSION.
 const VERSION: &str = "compare-ranges 1.0.0";
@@ -86,6 +95,10 @@ enum Error<'a> {
     Range(RangeError, &'a str),
     /// The range is invalid in Cargo and in npm: the error of each.
     Neither(RangeError, RangeError),
+    /// The version to which the range has to be raised is invalid.
+    Version(&'a str),
+    /// The range can't be raised to this version.
+    CannotUpgrade(&'a str),
     /// An allocation failed after the ranges were read.
     OutOfMemory,
 }
@@ -116,19 +129,26 @@ fn run(rt: &HostRuntime, question: &Question) -> ExitCode {
     }
 }
 
-/// Returns whether two ranges were read by Cargo's rules since no option named a dialect, and give
-/// another output by npm's.
+/// Returns whether the ranges were read by Cargo's rules only since no option named a dialect, and
+/// give another output by npm's.
 fn is_other_in_npm(rt: &HostRuntime, question: &Question, text: &str) -> bool {
-    let Some(new) = &question.new else {
-        return false;
-    };
     if question.has_dialect {
         return false;
     }
-    let Ok(range) = read_in_npm(rt, question, question.range.as_str()) else {
+    let meaning = in_npm(question);
+    if let Some(version) = &question.options.version {
+        return match upgraded(rt, question, version.as_str(), meaning) {
+            Ok(other) => other.as_str() != text,
+            Err(_) => false,
+        };
+    }
+    let Some(new) = &question.new else {
         return false;
     };
-    let Ok(new) = read_in_npm(rt, question, new.as_str()) else {
+    let Ok(range) = VersionRange::try_parse(question.range.as_str(), meaning) else {
+        return false;
+    };
+    let Ok(new) = VersionRange::try_parse(new.as_str(), meaning) else {
         return false;
     };
     match of_two(rt, question, &range, &new) {
@@ -137,17 +157,12 @@ fn is_other_in_npm(rt: &HostRuntime, question: &Question, text: &str) -> bool {
     }
 }
 
-/// Reads a range in npm's dialect.
-fn read_in_npm(
-    rt: &HostRuntime,
-    question: &Question,
-    range: &str,
-) -> Result<VersionRange, RangeError> {
-    let meaning = Rules {
+/// Returns npm's dialect, with the requested rule for pre-releases.
+fn in_npm(question: &Question) -> Rules {
+    Rules {
         dialect: Dialect::Npm,
         pre_releases: question.meaning.pre_releases,
-    };
-    VersionRange::try_parse(range, meaning)
+    }
 }
 
 /// Writes a string, and returns the status.
@@ -164,7 +179,8 @@ fn failed(rt: &HostRuntime, question: &Question, error: &Error<'_>) -> ExitCode 
     match error {
         Error::Range(error, range) => {
             let status = PROGRAM.refuse_range(rt, question.meaning.dialect, error, range);
-            if !question.has_dialect && read_in_npm(rt, question, range).is_ok() {
+            let by_npm = VersionRange::try_parse(range, in_npm(question));
+            if !question.has_dialect && by_npm.is_ok() {
                 let _ = crate::rattle_std::fallible_eprintln!(rt; "{}: {IN_NPM}", PROGRAM.name);
             }
             status
@@ -172,6 +188,18 @@ fn failed(rt: &HostRuntime, question: &Question, error: &Error<'_>) -> ExitCode 
         Error::Neither(cargo, npm) => {
             let tools = [("cargo", Dialect::Cargo, cargo), ("npm", Dialect::Npm, npm)];
             PROGRAM.refuse_range_of_each(rt, &tools, question.range.as_str())
+        }
+        Error::Version(version) => { PROGRAM.refuse_version(rt, question.meaning.dialect, version) }
+        Error::CannotUpgrade(version) => {
+            let range = Escaped {
+                text: question.range.as_str(),
+            };
+            let version = Escaped { text: version };
+            let _ = crate::rattle_std::fallible_eprintln!(rt;
+                "{}: \"{range}\" can't be raised to {version}",
+                PROGRAM.name
+            );
+            ExitCode::from(1)
         }
         Error::OutOfMemory => {
             let _ = crate::rattle_std::fallible_eprintln!(rt; "{}: out of memory", PROGRAM.name);
@@ -182,6 +210,10 @@ fn failed(rt: &HostRuntime, question: &Question, error: &Error<'_>) -> ExitCode 
 
 /// Returns the output for the ranges.
 fn answered<'a>(rt: &HostRuntime, question: &'a Question) -> Result<Answer, Error<'a>> {
+    if let Some(version) = &question.options.version {
+        let text = upgraded(rt, question, version.as_str(), question.meaning)?;
+        return Ok((text, false));
+    }
     if question.new.is_none() && !question.has_dialect {
         return of_both_tools(rt, question);
     }
@@ -199,13 +231,33 @@ fn answered<'a>(rt: &HostRuntime, question: &'a Question) -> Result<Answer, Erro
     }
 }
 
+/// Returns the line with the range raised to a version, or unchanged if it has this version or a
+/// higher one.
+fn upgraded<'a>(
+    rt: &HostRuntime,
+    question: &'a Question,
+    version: &'a str,
+    meaning: Rules,
+) -> Result<String, Error<'a>> {
+    let range = question.range.as_str();
+    let line = match upgrade(range, version.as_bytes(), meaning) {
+        Ok(Some(raised)) => crate::rattle_std::fallible_format!("{raised}\n"),
+        Ok(None) => crate::rattle_std::fallible_format!("{range}\n"),
+        Err(UpgradeError::InvalidVersion) => return Err(Error::Version(version)),
+        Err(UpgradeError::InvalidRange(error)) => return Err(Error::Range(error, range)),
+        Err(UpgradeError::CannotUpgrade) => return Err(Error::CannotUpgrade(version)),
+        Err(UpgradeError::OutOfMemory) => return Err(Error::OutOfMemory),
+    };
+    line.map_err(|_| Error::OutOfMemory)
+}
+
 /// Returns the output for one range in the requested dialect.
 fn of_one(
     rt: &HostRuntime,
     question: &Question,
     range: &VersionRange,
 ) -> Result<String, AllocError> {
-    let mut output = Output::new(question.options);
+    let mut output = Output::new(&question.options);
     output.push_range("means", range.versions())?;
     output.finish()
 }
@@ -217,7 +269,7 @@ fn of_two(
     range: &VersionRange,
     new: &VersionRange,
 ) -> Result<String, OperationError> {
-    let mut output = Output::new(question.options);
+    let mut output = Output::new(&question.options);
     output.push_two(range.versions(), new.versions())?;
     Ok(output.finish()?)
 }
@@ -233,7 +285,7 @@ fn is_changed(question: &Question, range: &VersionRange, new: &VersionRange) -> 
 
 /// Returns the output for one range in Cargo and in npm, or why it is not a range.
 fn of_both_tools<'a>(rt: &HostRuntime, question: &'a Question) -> Result<Answer, Error<'a>> {
-    let mut output = Output::new(question.options);
+    let mut output = Output::new(&question.options);
     let cargo = push_tool(rt, question, &mut output, "cargo", Dialect::Cargo);
     let npm = push_tool(rt, question, &mut output, "npm", Dialect::Npm);
     match (cargo, npm) {
