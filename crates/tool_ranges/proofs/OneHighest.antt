@@ -4,6 +4,7 @@ use Rattle.std.specs.Borrow.{Bor}
 use Rattle.std.specs.Cmp.{IsTotalOrder}
 use Rattle.std.specs.declared.cmp.Ordering.{Ordering}
 use Rattle.semver_texts.specs.declared.grammar.Grammar.{Grammar}
+use Rattle.semver_texts.specs.Texts.{Text}
 use Rattle.semver_texts.specs.Versions.{PlainVersion}
 use Rattle.tool_ranges.specs.declared.highest.Extreme.{Extreme}
 use Rattle.tool_ranges.specs.Highest.{FindsExtreme, IsHighest, IsMember, order_for}
