@@ -73,7 +73,7 @@ KNOWN = {
         strip_prefix''',
     '[] as Index': 'index', '[] as IndexMut': 'index_mut', '[] as IntoIterator': 'into_iter',
     '[] as Ord': 'cmp', '[] as PartialEq': 'eq',
-    'bool': 'then_some', 'char': 'is_ascii', 'char as From': 'from',
+    'bool': 'then_some', 'char': 'encode_utf8 is_ascii', 'char as From': 'from',
     'own as IntoIterator': 'into_iter', 'own as Iterator': 'any by_ref next', 'own as Ord': 'cmp',
     'own as PartialEq': 'eq ne', 'own as Write': 'write write_fmt',
     'rattle_std': '''args eprintln fallible_clone fallible_extend_from_slice fallible_from_elem

@@ -7,3 +7,5 @@ pub mod Cores
 pub mod VersionPrefixes
 pub mod AnyLength
 pub mod VersionLaws
+pub mod Hexadecimal
+pub mod Writes

@@ -1,8 +1,9 @@
 -- A string as it is shown in a message.
 use Prim.Native.Char.{code}
-use Rattle.std.specs.Prelude.{ℕ, false, ◌==◌, ◌++◌, if◌then◌else◌, [], ◌∷◌, codes}
+use Rattle.std.specs.Prelude.{ℕ, false, ◌==◌, ◌++◌, if◌then◌else◌, [], ◌∷◌}
+use Rattle.std.specs.Prelude.{codes, length}
 use Rattle.std.specs.Int.{is_in_range}
-use Rattle.std.specs.List.{flat_map}
+use Rattle.std.specs.List.{flat_map, repeat}
 use Rattle.std.specs.Str.{chars}
 use Rattle.std.specs.Fmt.{digits}
 use Rattle.semver_texts.specs.Texts.{Text}
@@ -24,3 +25,7 @@ escaped_character c =
 
 abbrev pub escaped : Text → Text
 escaped t = flat_map escaped_character (chars t)
+
+-- a mark for each column that a text takes as it is shown
+abbrev pub marks_below : (mark t : Text) → Text
+marks_below mark t = repeat (length (escaped t)) mark

@@ -1,0 +1,10 @@
+use Rattle.std.proofs.Common.{length}
+use Rattle.std.specs.Fmt.{HasWrittenStyled, IsFlush}
+use Rattle.std.specs.List.{flat_map, repeat}
+use Rattle.invalid_strings.specs.Escaping.{escaped_character}
+use Rattle.invalid_strings.proofs.escaped.write_marks.Given as goal
+
+abbrev pub invariant-loop-character : goal.invariant-loop-character
+invariant-loop-character g l =
+    IsFlush l.initial.f → HasWrittenStyled g.W.Write.write_str_gives l.initial.f
+    (repeat (length (flat_map escaped_character l.yielded)) l.mark) l.f
