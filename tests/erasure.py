@@ -278,7 +278,8 @@ class World:
         self.codes = {(crate, path): coded(f'crates/{crate}/src/{path}', text)
                       for (crate, path), text in self.files.items()}
         derived = [found for code, _ in self.codes.values() for found in re.findall(
-            rf'# \[\d+ derive \(\d+ ([^)]*)\)\d+ \]\d+ {PUBLIC}(?:struct|enum) (\w+)', code)]
+            r'# \[\d+ derive \(\d+ ([^)]*)\)\d+ \]\d+ (?:# \[\d+ \w+ \]\d+ )*'
+            rf'{PUBLIC}(?:struct|enum) (\w+)', code)]
         self.copies = ({kind for names, kind in derived if 'Copy' in names}
                        - {kind for names, kind in derived if 'Copy' not in names})
         self.std = {at for at, (code, _) in self.codes.items() if STD.search(code)}

@@ -103,8 +103,8 @@ def cloned(name, found, copied):
     """Rule 11: returns a clone, field by field, that returns an error if an allocation fails."""
     arms = ''
     for path, members, named, _ in found:
-        made = [f'*{n}' if len(kind) == 1 and kind[0] in copied else f'{n}.{PREFIX}clone()?'
-                for n, kind in members]
+        made = [f'*{n}' if kind[0] == '&' and 'mut' not in kind or kind[0] in copied and not kind[1:]
+                else f'{n}.{PREFIX}clone()?' for n, kind in members]
         made = [f'{n}: {m}' if named else m for (n, _), m in zip(members, made)]
         head = pattern(path, [n for n, _ in members], named)
         arms += f'            {head} => Ok({pattern(path, made, named)}),\n'

@@ -11,7 +11,7 @@ IMPORTS = set('''AllocError BufRead BufReader BufWriter Display Env ErrorKind Ex
     Global IsTerminal Model Ordering Read Write'''.split())
 MODULES = set('alloc as cmp env fmt fs io iter marker mem process rt self str'.split())
 SAME_MACROS = {'matches', 'unreachable', 'write'}
-SAME_ATTRIBUTES = {'derive', 'inline', 'must_use', 'non_exhaustive'}
+SAME_ATTRIBUTES = {'cold', 'derive', 'inline', 'must_use', 'non_exhaustive'}
 DERIVES = set('Clone Copy Debug Drop Eq Error Hash Ord PartialEq PartialOrd'.split())
 # The only type of std for which a trait of the sources is implemented.
 SLICE = ['&', "'a", '[', 'T', ']']
