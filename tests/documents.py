@@ -157,8 +157,8 @@ def errors_of_files():
 
 
 def clauses(text):
-    """Returns the names of the clauses of a source."""
-    return set(re.findall(r'\b(?:ensures|requires|invariant) ([a-z_]+) \{', text))
+    """Returns the names of the clauses of a source, and what it says that `Display` prints."""
+    return set(re.findall(r'\b(?:(?:ensures|requires|invariant) |ghost (?=\w*output ))([a-z_]+) (?:= )?\{', text))
 
 
 def is_public(crate, path, line):

@@ -1,5 +1,6 @@
 //! The versions of which a range can be asked.
 
+use crate::proved::repaired_strings::errors::Expected;
 use crate::proved::semver_texts::grammar::Digits;
 use crate::proved::semver_versions::version::{compare_by, read_ref_in};
 use crate::proved::tool_ranges::highest::Extreme;
@@ -93,7 +94,7 @@ impl<T: AsRef<str>> sealed::Sealed<Result<bool, Error>> for T {
     fn contained(&self, range: &VersionRange) -> Result<bool, Error> {
         let version = self.as_ref();
         let found = range.0.try_contains_bytes(version.as_bytes());
-        found.map_err(|_| Error::from_version(version, range.rules().dialect))
+        found.map_err(|_| Error::from_string(Expected::Version, range.rules().dialect, version))
     }
 
     fn extreme(range: &VersionRange, which: Extreme, all: impl Iterator<Item = Self>) -> Option<Self> {

@@ -82,8 +82,8 @@
 //!
 //! The code that reads, compares and matches is written in Rattle, which is Rust with contracts, and
 //! proved there for every input. This crate is that code without its contracts, below a layer that is
-//! written by hand: names, conversions, operators and the [`Error`]. The crate has no dependency and
-//! no `unsafe`. Without the feature `std` (default) it needs only `alloc`.
+//! written by hand: names, conversions and operators. The crate has no dependency and no `unsafe`.
+//! Without the feature `std` (default) it needs only `alloc`.
 #![no_std]
 #![forbid(unsafe_code)]
 #![warn(missing_docs)]
@@ -110,10 +110,10 @@ mod version_range;
 mod versions;
 
 pub use as_version::AsVersion;
-pub use error::{Error, ErrorKind};
 pub use proved::invalid_strings::reasons::Reason;
 pub use proved::range_terms::term::{Component, Operator, PartialVersion, Span, Term};
 pub use proved::range_terms::terms::Terms;
+pub use proved::semver_errors::{Error, Kind as ErrorKind};
 pub use proved::semver_versions::owned::Version;
 pub use proved::semver_versions::version::VersionRef;
 pub use proved::tool_ranges::dialect::Dialect;

@@ -1,7 +1,7 @@
 //! The signatures of the Rust crate `semver-parser` 0.10.3 that the proved functions don't have.
 //! Proved functions return an error if an allocation fails; these end the process, like std.
 
-use crate::proved::invalid_strings::escaped::Escaped;
+use crate::proved::semver_errors::conversions::UnexpectedCharacter;
 use crate::rattle_std::{AllocError, FallibleToString};
 use crate::version;
 use crate::{lexer, parser};
@@ -117,10 +117,8 @@ impl Clone for parser::Error<'_> {
 impl Display for lexer::Error {
     /// Writes a sentence, such as `unexpected character '/'`.
     fn fmt(&self, f: &mut Formatter<'_>) -> fmt::Result {
-        let lexer::Error::UnexpectedChar(character) = self;
-        let mut bytes = [0; 4];
-        let text = &*character.encode_utf8(&mut bytes);
-        write!(f, "unexpected character '{}'", Escaped { text })
+        let lexer::Error::UnexpectedChar(character) = *self;
+        UnexpectedCharacter { character }.fmt(f)
     }
 }
 

@@ -1,5 +1,6 @@
 //! The rules by which a range is read, and their names.
 
+use crate::proved::semver_errors::names::{dialect_named, rule_named};
 use crate::{Dialect, Error, PreReleases, Rules};
 use core::fmt::{self, Display, Formatter};
 use core::str::FromStr;
@@ -36,8 +37,10 @@ impl Dialect {
 }
 
 impl PreReleases {
-    const ALL: [PreReleases; 3] =
-        [PreReleases::ByDialect, PreReleases::Included, PreReleases::Excluded];
+    /// The rule of the dialect: a pre-release counts if Cargo or npm match it by default.
+    // Rattle still calls it `Default`.
+    #[allow(non_upper_case_globals)]
+    pub const ByDialect: PreReleases = PreReleases::Default;
 }
 
 impl From<Dialect> for Rules {
@@ -55,7 +58,7 @@ impl Default for PreReleases {
 }
 
 macro_rules! named {
-    ($($type:ident: $expected:literal;)*) => {$(
+    ($($type:ident: $named:ident;)*) => {$(
         impl Display for $type {
             /// Writes the name.
             fn fmt(&self, f: &mut Formatter<'_>) -> fmt::Result {
@@ -68,14 +71,13 @@ macro_rules! named {
 
             /// Returns the value that has the name.
             fn from_str(name: &str) -> Result<$type, Error> {
-                let found = $type::ALL.into_iter().find(|it| it.name() == name);
-                found.ok_or_else(|| Error::unknown_name(name, $expected))
+                $named(name)
             }
         }
     )*};
 }
 
 named! {
-    Dialect: "cargo, npm, crate-cargo or crate-npm";
-    PreReleases: "by-dialect, included or excluded";
+    Dialect: dialect_named;
+    PreReleases: rule_named;
 }

@@ -1,7 +1,7 @@
 //! Raises requirements.
 
-use crate::proved::range_upgrades::upgrade::{self as proved, UpgradeError};
-use crate::{Error, ErrorKind, Rules};
+use crate::proved::range_upgrades::upgrade as proved;
+use crate::{Error, Rules};
 use alloc::string::String;
 
 /// Raises a requirement, so that it contains a newer version, and keeps how it is written. The result
@@ -50,10 +50,6 @@ pub fn upgrade(
     rules: impl Into<Rules>,
 ) -> Result<Option<String>, Error> {
     let rules = rules.into();
-    proved::upgrade(range, version.as_bytes(), rules).map_err(|error| match error {
-        UpgradeError::InvalidVersion => Error::from_version(version, rules.dialect),
-        UpgradeError::InvalidRange(error) => Error::from_range(error, range, rules.dialect),
-        UpgradeError::CannotUpgrade => Error::cannot_upgrade(range),
-        UpgradeError::OutOfMemory => Error::plain(ErrorKind::OutOfMemory),
-    })
+    proved::upgrade(range, version.as_bytes(), rules)
+        .map_err(|error| Error::from_upgrade(error, version, range, rules.dialect))
 }

@@ -2,7 +2,7 @@
 
 use crate::original::out_of_memory;
 use crate::proved::tool_ranges::highest::Extreme;
-use crate::proved::tool_ranges::satisfying::{self, SatisfiesError};
+use crate::proved::tool_ranges::satisfying;
 use crate::proved::tool_ranges::version_range as proved;
 use crate::proved::requirements::requirement::requirement;
 use crate::proved::tool_ranges::dialect::rewrite;
@@ -43,10 +43,7 @@ use core::ops::{BitAnd, BitOr, Sub};
 pub fn satisfies(version: &str, range: &str, rules: impl Into<Rules>) -> Result<bool, Error> {
     let rules = rules.into();
     let result = satisfying::satisfies(version.as_bytes(), range, rules);
-    result.map_err(|error| match error {
-        SatisfiesError::InvalidVersion => Error::from_version(version, rules.dialect),
-        SatisfiesError::InvalidRange(error) => Error::from_range(error, range, rules.dialect),
-    })
+    result.map_err(|error| Error::from_satisfies(error, version, range, rules.dialect))
 }
 
 /// Rewrites a range string into plain comparators with exact bounds, as data of `semver-parser`
@@ -222,7 +219,7 @@ impl VersionRange {
     /// # Ok::<(), semver_parser::Error>(())
     /// ```
     pub fn is_subset(&self, other: &VersionRange) -> Result<bool, Error> {
-        self.0.is_subset(&other.0).map_err(Error::of_operation)
+        self.0.is_subset(&other.0).map_err(Error::from_operation)
     }
 
     /// Returns whether no version is in both ranges.
@@ -239,7 +236,7 @@ impl VersionRange {
     /// # Ok::<(), semver_parser::Error>(())
     /// ```
     pub fn is_disjoint(&self, other: &VersionRange) -> Result<bool, Error> {
-        self.0.is_disjoint(&other.0).map_err(Error::of_operation)
+        self.0.is_disjoint(&other.0).map_err(Error::from_operation)
     }
 
     /// Returns the range of the versions that are in either range; also `&a | &b`.
@@ -298,7 +295,7 @@ impl VersionRange {
     }
 
     fn combined(&self, how: Combination, other: &VersionRange) -> Result<VersionRange, Error> {
-        self.0.combined(how, &other.0).map(VersionRange).map_err(Error::of_operation)
+        self.0.combined(how, &other.0).map(VersionRange).map_err(Error::from_operation)
     }
 
     /// Returns the releases of the range as intervals, in ascending order. Each is a

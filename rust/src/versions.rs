@@ -1,6 +1,7 @@
 //! Versions, with strings of their own or borrowed ones.
 
 use crate::original::{out_of_memory, printed};
+use crate::proved::repaired_strings::errors::Expected;
 use crate::proved::semver_texts::grammar::Digits;
 use crate::proved::semver_versions::version::read_ref_in;
 use crate::{version, Dialect, Error, Version, VersionRef};
@@ -38,7 +39,7 @@ impl Version {
     /// ```
     #[inline]
     pub fn parse(string: &str, dialect: Dialect) -> Result<Version, Error> {
-        VersionRef::parse(string, dialect)?.owned().map_err(Error::out_of_memory)
+        VersionRef::parse(string, dialect)?.owned().map_err(|_| Error::out_of_memory())
     }
 
     /// Returns a version without build metadata that is given as data of 0.10. What is printed after
@@ -84,7 +85,7 @@ impl<'t> VersionRef<'t> {
     #[inline]
     pub fn parse(string: &'t str, dialect: Dialect) -> Result<VersionRef<'t>, Error> {
         read_ref_in(string.as_bytes(), dialect.grammar())
-            .ok_or_else(|| Error::from_version(string, dialect))
+            .ok_or_else(|| Error::from_string(Expected::Version, dialect, string))
     }
 
     /// Returns the version with strings of its own.

@@ -12,7 +12,7 @@ use std::alloc::{AllocError, Global};
 use tool_ranges::dialect::Dialect;
 
 /// What a string is meant as.
-#[derive(Clone, Copy, PartialEq, Eq)]
+#[derive(Clone, Copy, PartialEq, Eq, Debug)]
 pub enum Expected {
     /// A version.
     Version,

@@ -3,3 +3,4 @@ pub mod SameSets
 pub mod LowestVersions
 pub mod RangeResults
 pub mod VersionResults
+pub mod OneError

@@ -1,3 +1,4 @@
 pub mod OneResult
 pub mod SameSets
 pub mod SeenTexts
+pub mod OneError

@@ -3,6 +3,7 @@
 //! proof uses only the clauses of the called function. No program contains this crate.
 #![tactic(auto)]
 
+pub mod errors;
 pub mod filters;
 pub mod ranges;
 pub mod repairs;

@@ -14,6 +14,7 @@ pub mod tool_ranges;
 pub mod invalid_ranges;
 pub mod range_terms;
 pub mod repaired_strings;
+pub mod semver_errors;
 pub mod requirements;
 pub mod range_upgrades;
 pub mod release_filter;

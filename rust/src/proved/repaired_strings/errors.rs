@@ -9,7 +9,7 @@ use crate::rattle_std::AllocError;
 use crate::proved::tool_ranges::dialect::Dialect;
 
 /// What a string is meant as.
-#[derive(Clone, Copy, PartialEq, Eq)]
+#[derive(Clone, Copy, PartialEq, Eq, Debug)]
 pub enum Expected {
     /// A version.
     Version,

@@ -1,0 +1,4 @@
+pub mod ErrorValues
+pub mod ErrorTexts
+pub mod Conversions
+pub mod Names
