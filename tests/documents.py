@@ -47,6 +47,10 @@ EXAMPLES = 'docs/COMING_FROM.md'
 # How many calls may have a result that isn't determined, and how many mutants there may be.
 MOST_FREE = 9
 MOST_EDITS = 24
+# How many lines of rust/src may be written by hand, except for these files, which have names and the
+# original's signatures. Move what decides into Rattle instead of raising it.
+MOST_BY_HAND = 508
+NAMES_BY_HAND = {'docs.rs', 'lib.rs', 'original.rs'}
 
 # The pages that are generated.
 MADE = ('docs/PROOFS.md', 'docs/CRATES.md')
@@ -421,7 +425,8 @@ def errors_of_the_readme():
 
 def errors_of_lines_by_hand():
     """Checks that the table of docs/ERASURE.md lists each file by hand of rust/src except the shim,
-    with its lines of code."""
+    with its lines of code, and that without names and the original's signatures there are no more
+    than `MOST_BY_HAND`."""
     found = {}
     for name in sorted(os.listdir(os.path.join(TOP, 'rust/src'))):
         if name.endswith('.rs') and name != 'rattle_std.rs':
@@ -429,6 +434,11 @@ def errors_of_lines_by_hand():
     listed = {name: int(lines) for name, lines in re.findall(r'^\| `(\w+\.rs)` \| (\d+) \|', read('docs/ERASURE.md'), re.M)}
     if listed != found or f'| {sum(found.values())} of code |' not in read('docs/ERASURE.md'):
         yield f'docs/ERASURE.md lists {listed} by hand, and rust/src has {found}, {sum(found.values())} in all'
+    deciding = sum(lines for name, lines in found.items() if name not in NAMES_BY_HAND)
+    if deciding > MOST_BY_HAND:
+        yield f'rust/src has {deciding} lines by hand, without names and signatures, and at most {MOST_BY_HAND} may be'
+    if f'these are {MOST_BY_HAND} lines,' not in ' '.join(read('docs/ERASURE.md').split()):
+        yield f"docs/ERASURE.md doesn't say that at most {MOST_BY_HAND} lines by hand are accepted"
 
 
 def errors_of_licences():
@@ -470,6 +480,7 @@ EDITS = [
     ('rust/docs/MEANING.md', '## Terms', '## Words'),
     ('docs/ERASURE.md', 'tests/erased.py', 'tests/erases.py'),
     ('rust/src/terms.rs', 'use crate::', 'use core::fmt;\nuse crate::'),
+    ('docs/ERASURE.md', 'these are 508 lines', 'these are 509 lines'),
     ('rust/docs/MEANING.md', ': RANGES.md#pre-releases', ': RANGES.md#prereleases'),
     ('rust/docs/MEANING.md', '][written terms]', '][terms as written]'),
     ('docs/manual/release-filter.1.md', '](../../rust/docs/RANGES.md)', '](../../rust/docs/RANGE.md)'),
