@@ -49,7 +49,7 @@ MOST_FREE = 9
 MOST_EDITS = 24
 # How many lines of rust/src may be written by hand, except for these files, which have names and the
 # original's signatures. Move what decides into Rattle instead of raising it.
-MOST_BY_HAND = 508
+MOST_BY_HAND = 504
 NAMES_BY_HAND = {'docs.rs', 'lib.rs', 'original.rs'}
 
 # The pages that are generated.
@@ -480,7 +480,7 @@ EDITS = [
     ('rust/docs/MEANING.md', '## Terms', '## Words'),
     ('docs/ERASURE.md', 'tests/erased.py', 'tests/erases.py'),
     ('rust/src/terms.rs', 'use crate::', 'use core::fmt;\nuse crate::'),
-    ('docs/ERASURE.md', 'these are 508 lines', 'these are 509 lines'),
+    ('docs/ERASURE.md', 'these are 504 lines', 'these are 505 lines'),
     ('rust/docs/MEANING.md', ': RANGES.md#pre-releases', ': RANGES.md#prereleases'),
     ('rust/docs/MEANING.md', '][written terms]', '][terms as written]'),
     ('docs/manual/release-filter.1.md', '](../../rust/docs/RANGES.md)', '](../../rust/docs/RANGE.md)'),

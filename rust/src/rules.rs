@@ -36,13 +36,6 @@ impl Dialect {
     }
 }
 
-impl PreReleases {
-    /// The rule of the dialect: a pre-release counts if Cargo or npm match it by default.
-    // Rattle still calls it `Default`.
-    #[allow(non_upper_case_globals)]
-    pub const ByDialect: PreReleases = PreReleases::Default;
-}
-
 impl From<Dialect> for Rules {
     /// Returns `dialect.with(PreReleases::ByDialect)`.
     fn from(dialect: Dialect) -> Rules {
