@@ -430,7 +430,8 @@ def root_of(crates):
     text = ('// Made by tools/erase.py from crates.txt; not edited by hand.\n'
             '//! What is proved, as plain Rust: each crate of `crates/` without its contracts.\n'
             '#![allow(clippy::complexity, clippy::style, missing_docs, private_bounds, unused)]\n'
-            '#![allow(clippy::large_const_arrays, clippy::manual_unwrap_or_default)]\n\n')
+            '#![allow(clippy::large_const_arrays, clippy::large_enum_variant)]\n'
+            '#![allow(clippy::manual_unwrap_or_default)]\n\n')
     programs = {name for name in crates if os.path.exists(f'{TOP}/crates/{name}/src/main.rt')}
     return text + ''.join('#[cfg(test)]\n' * (name in programs) + f'pub mod {name};\n'
                           for name in crates)

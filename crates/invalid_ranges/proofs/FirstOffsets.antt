@@ -14,15 +14,14 @@ use Rattle.semver_ranges.specs.Terms.{right_side}
 use Rattle.semver_ranges.proofs.LongWords.{no_dot}
 use Rattle.semver_ranges.proofs.WrittenPieces.{first_read}
 use Rattle.tool_ranges.specs.declared.dialect.Dialect.{Dialect}
-use Rattle.tool_ranges.specs.Dialects.{IsTextAs, SpellsAs, grammar_of}
+use Rattle.tool_ranges.specs.Dialects.{IsTextAs, SpellsAs}
 use Rattle.tool_ranges.specs.FittingTerms.{read_in, terms_as}
 use Rattle.tool_ranges.proofs.ReadingLaws.{one_tree}
 use Rattle.range_terms.specs.SpelledTerms.{AreTermsOf, IsSpelled, IsTermOf, IsUpperOf, first_form}
-use Rattle.range_terms.specs.Steps.{terms_left}
 use Rattle.range_terms.specs.WrittenTerms.{WrittenTerm, WrittenVersion, terms_in}
 use Rattle.range_terms.proofs.Dots.{cut_here}
 use Rattle.range_terms.proofs.TermPlaces.{terms_spelled}
-use Rattle.range_terms.proofs.Whole.{terms_found}
+use Rattle.range_terms.proofs.Whole.{found_terms, terms_found}
 use Rattle.invalid_ranges.specs.TooLarge.{component_begin, first_of, first_offset, limit_offset, offset_in, versions_of}
 
 -- the offset is the same for each tree of the text, and for each way in which it spells the text
@@ -30,7 +29,7 @@ pub same_limit : (d : Dialect) (t : Text) (tree : SetTree) (spelled : SpellsAs d
     → limit_offset d tree t spelled ≡ limit_offset d tree' t spelled'
 same_limit d t tree spelled tree' spelled' =
     (λ i. unwrap_or (first_offset d (terms_as d tree) (flat_map versions_of (sym (terms_found d tree t spelled) i))) 0)
-    ∙ (λ i. unwrap_or (first_offset d (terms_as d (one_tree d tree tree' t spelled spelled' i)) (flat_map versions_of (terms_left (grammar_of d) (length t) 0 t))) 0)
+    ∙ (λ i. unwrap_or (first_offset d (terms_as d (one_tree d tree tree' t spelled spelled' i)) (flat_map versions_of (found_terms d t))) 0)
     ∙ (λ i. unwrap_or (first_offset d (terms_as d tree') (flat_map versions_of (terms_found d tree' t spelled' i))) 0)
 
 -- ---- one term after the other

@@ -3,7 +3,6 @@ pub mod LeftTerms
 pub mod FoundWords
 pub mod FoundTerms
 pub mod FoundComparators
-pub mod Bars
 pub mod Dots
 pub mod MadeVersions
 pub mod LowBytes

@@ -1,30 +1,33 @@
 //! Iterates over the terms of a range string. Nothing here allocates.
 
-ghost use Rattle.std.specs.Prelude.{◌≡◌, ◌≢◌, ◌≤◌, ◌<◌, ◌+◌, true, Err, IfOk, IfSome};
-ghost use Rattle.std.specs.Prelude.{Some, None, length, option_map};
-ghost use Rattle.std.specs.List.{AllByRecursion, list_all};
-ghost use Rattle.semver_texts.specs.Texts.{Text, begins_with, cut_at_dots, is_part};
-ghost use Rattle.semver_ranges.specs.RangeTree.{PartialTree, SetTree};
+ghost use Rattle.std.specs.Prelude.{◌≡◌, ◌≢◌, ◌≤◌, ◌+◌, Err, IfOk, length, option_map};
+ghost use Rattle.std.specs.List.{AllByRecursion};
+ghost use Rattle.semver_texts.specs.Texts.{Text, begins_with};
+ghost use Rattle.semver_texts.specs.declared.grammar.Grammar as some;
+ghost use Rattle.semver_ranges.specs.RangeTree.{SetTree};
 ghost use Rattle.semver_ranges.specs.Steps.CursorViews.{form_of};
-ghost use Rattle.semver_ranges.specs.Steps.PartialViews.{AreWritten, IsComponentOf, IsWrittenAs};
+ghost use Rattle.semver_ranges.specs.Steps.Items.{FoundTerm, FoundWord, IsTermOf, IsWordOf};
+ghost use Rattle.semver_ranges.specs.Steps.PartialViews.{IsComponentOf, IsWrittenAs};
 ghost use Rattle.tool_ranges.specs.Dialects.{RefusesAs, SpellsAs};
-ghost use Rattle.range_terms.specs.WrittenTerms.{component_of, major_of, minor_of, operator_of};
-ghost use Rattle.range_terms.specs.WrittenTerms.{patch_of, term_value, terms_in, version_value};
+ghost use Rattle.tool_ranges.specs.Steps.Cursors.{bytes_in};
+ghost use Rattle.range_terms.specs.WrittenTerms.{component_of, operator_of, term_value, terms_in};
+ghost use Rattle.range_terms.specs.WrittenTerms.{version_value};
 ghost use Rattle.range_terms.specs.Replacing.{IsReplaceable};
 ghost use Rattle.range_terms.specs.RewrittenVersions.{IsRewritable};
 ghost use Rattle.range_terms.specs.SpelledTerms.{first_form};
-ghost use Rattle.range_terms.specs.Steps.{after_ranges, term_of, terms_left, upper_in};
-ghost use Rattle.range_terms.specs.Steps.{version_in, IsFound, IsVersionOf};
+ghost use Rattle.range_terms.specs.Steps.{YieldsTerm, version_at};
+ghost use Rattle.range_terms.specs.Steps.{written_term};
 
 use crate::term::{Component, Operator, PartialVersion, Span, Term};
 use semver_ranges::RangeError;
-use semver_ranges::grammar::{
-    Form, after_bars, after_blanks, after_v, read_components, read_operator,
-};
-use semver_ranges::partial::{self, Components};
-use semver_texts::dotted::{strip_mark, text_of_parts};
+use semver_ranges::cursor::Event;
+use semver_ranges::grammar::Form;
+use semver_ranges::partial::{self, LowerBounds};
+use semver_ranges::term::{RawTerm, RawVersion};
+use semver_texts::dotted::text_of_parts;
 use semver_texts::grammar::Grammar;
 use std::marker::Model;
+use tool_ranges::cursor::Cursor;
 use tool_ranges::dialect::Dialect;
 use tool_ranges::meaning::{Rules, check};
 use version_sets::PreReleases;
@@ -54,21 +57,22 @@ pub struct Terms<'text> {
     /// The length of the whole string.
     len: usize,
     grammar: Grammar,
-    /// The number of `||` before the rest.
+    /// The number of `||` before what is left.
     range: usize,
-    rest: &'text [u8],
+    cursor: Cursor<'text>,
 }
 
 impl<'text> Model for Terms<'text> {
-    ghost use Rattle.std.specs.Prelude.{List, ◌≤◌, ◌<◌, ◌+◌, ◌^◌, length};
+    ghost use Rattle.std.specs.Prelude.{List, ◌≤◌, ◌+◌};
     ghost use Rattle.range_terms.specs.WrittenTerms.{WrittenTerm};
     ghost use Rattle.range_terms.specs.Steps.{terms_left};
+    ghost use Rattle.tool_ranges.specs.Steps.Cursors.{bytes_in};
 
     ghost Value = { List WrittenTerm };
 
-    ghost view = { λ s. terms_left s.grammar s.len s.range s.rest.now };
+    ghost view = { λ s. terms_left s.grammar s.len s.range s.cursor };
 
-    ghost invariant = { λ s. s.range + length s.rest.now ≤ s.len };
+    ghost invariant = { λ s. s.range + bytes_in s.cursor ≤ s.len };
 }
 
 impl<'text> Terms<'text> {
@@ -126,14 +130,33 @@ impl<'text> Iterator for Terms<'text> {
     ghost remaining = { item_count (λ terms. terms) };
 
     fn next(&mut self) -> Option<Term<'text>> {
-        let (bars, text) = after_ranges(self.rest, self.grammar);
-        let (form, word) = read_operator(text, self.grammar);
-        let (version, after) = read_version(word, self.grammar, self.len)?;
-        let (upper, rest) = read_upper(after, self.grammar, self.len);
-        self.range += bars;
-        self.rest = rest;
-        Some(term(self.range, form, self.len - text.len(), version, upper))
+        next_term(&mut self.cursor, &mut self.range, self.grammar, self.len)
     }
+}
+
+/// Returns the next term of a string with a length of `len` bytes, if there is one, and counts the
+/// `||` before it.
+fn next_term<'text>(
+    cursor: &mut Cursor<'text>,
+    range: &mut usize,
+    grammar: Grammar,
+    len: usize,
+) -> Option<Term<'text>>
+    requires { range.old + bytes_in cursor.old ≤ len }
+    ensures value { YieldsTerm grammar len range.old cursor.old result range.new cursor.new }
+    ensures within { range.new + bytes_in cursor.new ≤ len }
+{
+    while let Some(event) = cursor.next_term(grammar) {
+        let Ok(event) = event else {
+            return None;
+        };
+        match event {
+            Event::Term(read) => return Some(term_of(&read, *range, len)),
+            Event::NextRange => *range += 1,
+            Event::EmptyRange => {}
+        }
+    }
+    None
 }
 
 // Determined by: equation.
@@ -147,7 +170,7 @@ pub fn of_range(range: &str, dialect: Dialect) -> Terms<'_>
         len: range.len(),
         grammar: dialect.grammar(),
         range: 0,
-        rest: range.as_bytes(),
+        cursor: Cursor::begin(range, dialect, LowerBounds::Stated),
     }
 }
 
@@ -161,29 +184,33 @@ pub fn copy<'text>(terms: &Terms<'text>) -> Terms<'text>
         len: terms.len,
         grammar: terms.grammar,
         range: terms.range,
-        rest: terms.rest,
+        cursor: terms.cursor,
     }
 }
 
-/// Returns the term of an operator and one version, or of the two versions of a hyphen range.
-fn term<'text>(
-    range: usize,
-    form: Form,
-    start: usize,
-    version: PartialVersion<'text>,
-    upper: Option<PartialVersion<'text>>,
-) -> Term<'text>
-    ensures { term_value result ≡ term_of range (form_of form) start
-        (version_value version.entry) (option_map version_value upper.entry) }
+/// Returns a term of the range with an index, in a string with a length of `len` bytes.
+fn term_of<'text>(read: &RawTerm<'text>, range: usize, len: usize) -> Term<'text>
+    requires { (d : some.Grammar) × (x : FoundTerm) × IsTermOf d x read.now
+        × (length x.from ≤ len) }
+    ensures { (d : some.Grammar) (x : FoundTerm) → IsTermOf d x read.now
+        → term_value result ≡ written_term len range x }
 {
+    let version = version_of(&read.version, len);
+    let upper = match &read.upper {
+        Some(upper) => Some(version_of(upper, len)),
+        None => None,
+    };
     let (operator, end) = match &upper {
         Some(upper) => (Operator::Hyphen, upper.span.end),
-        None => (operator_of(form), version.span.end),
+        None => (operator_of(read.form), version.span.end),
     };
     Term {
         range,
         operator,
-        span: Span { start, end },
+        span: Span {
+            start: len - read.from.len(),
+            end,
+        },
         version,
         upper,
     }
@@ -224,37 +251,26 @@ pub fn form_of(operator: Operator) -> Form
     }
 }
 
-/// Returns how many pairs of bars are at the beginning of a string, among blanks, and what follows
-/// them and the blanks.
-fn after_ranges(text: &[u8], grammar: Grammar) -> (usize, &[u8])
-    ensures value { (result.0, result.1.now) ≡ after_ranges grammar text.now }
-    ensures within { result.0 + length result.1.now ≤ length text.now }
+/// Returns a version of a term, in a string with a length of `len` bytes.
+fn version_of<'text>(written: &RawVersion<'text>, len: usize) -> PartialVersion<'text>
+    requires { (d : some.Grammar) × (x : FoundWord) × IsWordOf d x written.now
+        × (length x.from ≤ len) }
+    ensures { (d : some.Grammar) (x : FoundWord) → IsWordOf d x written.now
+        → version_value result ≡ version_at len x }
 {
-    let mut bars = 0;
-    let mut rest = after_blanks(text, grammar);
-    loop {
-        let Some(after) = after_bars(rest) else {
-            return (bars, rest);
-        };
-        bars += 1;
-        rest = after_blanks(after, grammar);
+    let components = &written.components;
+    PartialVersion {
+        span: Span {
+            start: len - written.from.len(),
+            end: len - written.after.len(),
+        },
+        has_v: begins_with_v(written.from),
+        major: component(components.major),
+        minor: component_if_written(components.minor),
+        patch: component_if_written(components.patch),
+        pre: text_of_parts(components.pre),
+        build: text_of_parts(components.build),
     }
-}
-
-/// Returns the version at the beginning of the rest of a string, and what follows it. `len` is the
-/// length of the whole string.
-fn read_version(text: &[u8], grammar: Grammar, len: usize) -> Option<(PartialVersion<'_>, &[u8])>
-    requires { length text.now ≤ len }
-    ensures found { IsFound (version_in grammar len text.now) result }
-    ensures fewer { IfSome result (λ found. length found.1.now < length text.now) }
-{
-    let word = after_v(text, grammar);
-    let (written, rest) = read_components(word)?;
-    let span = Span {
-        start: len - text.len(),
-        end: len - rest.len(),
-    };
-    Some((version(span, begins_with_v(text), &written), rest))
 }
 
 /// Returns whether a string begins with `v`.
@@ -262,23 +278,6 @@ fn begins_with_v(text: &[u8]) -> bool
     ensures { result ≡ begins_with 118 text.now }
 {
     matches!(text, [b'v', ..])
-}
-
-/// Returns the version with these components.
-fn version<'text>(span: Span, has_v: bool, written: &Components<'text>) -> PartialVersion<'text>
-    requires { (p : PartialTree) × AreWritten p written.now
-        × (list_all is_part (cut_at_dots written.now.build.now) ≡ true) }
-    ensures { (p : PartialTree) → AreWritten p written.now → IsVersionOf span has_v p result }
-{
-    PartialVersion {
-        span,
-        has_v,
-        major: component(written.major),
-        minor: component_if_written(written.minor),
-        patch: component_if_written(written.patch),
-        pre: text_of_parts(written.pre),
-        build: text_of_parts(written.build),
-    }
 }
 
 /// Returns a component that was read, if it is written.
@@ -299,26 +298,5 @@ fn component(read: partial::Component) -> Component
     match read {
         partial::Component::Number(number) => Component::Number(number.unwrap_or(u64::MAX)),
         partial::Component::Wildcard(byte) => Component::Wildcard(char::from(byte)),
-    }
-}
-
-/// Returns the version after a hyphen, if what follows a version continues with one, and what is
-/// left after it, after the blanks, or after a comma.
-fn read_upper(text: &[u8], grammar: Grammar, len: usize) -> (Option<PartialVersion<'_>>, &[u8])
-    requires { length text.now ≤ len }
-    ensures value { (option_map version_value result.0, result.1.now)
-        ≡ upper_in grammar len text.now }
-    ensures within { length result.1.now ≤ length text.now }
-{
-    let gap = after_blanks(text, grammar);
-    if let Some(others) = strip_mark(gap, b',') {
-        return (None, others);
-    }
-    let Some(right) = strip_mark(gap, b'-') else {
-        return (None, gap);
-    };
-    match read_version(after_blanks(right, grammar), grammar, len) {
-        Some((version, rest)) => (Some(version), rest),
-        None => (None, gap),
     }
 }

@@ -1,12 +1,20 @@
 -- The events that were left begin with the event that was read.
-use Rattle.std.proofs.Common.{◌≡◌, ◌≤◌, Bool, true, false, arith, List, [], ◌∷◌, Option, Some, None, refl}
+use Rattle.std.proofs.Common.{◌≡◌, ℕ, ◌≤◌, Bool, true, false, arith, List, [], ◌∷◌, Option, Some, None, length, refl}
 use Rattle.semver_texts.specs.declared.grammar.Grammar.{Grammar}
 use Rattle.semver_ranges.specs.declared.events.Events.{Events}
 use Rattle.semver_ranges.specs.declared.grammar.Simple as read
 use Rattle.semver_ranges.specs.declared.events.Event.TheVariants as event
+use Rattle.semver_ranges.specs.declared.cursor.Event.TheVariants.{Term, EmptyRange}
+use Rattle.semver_ranges.specs.declared.partial.LowerBounds.{LowerBounds}
+use Rattle.semver_ranges.specs.declared.term.RawTerm as written
+use Rattle.semver_ranges.specs.declared.term.RawVersion.{RawVersion}
+use Rattle.semver_texts.specs.Texts.{Text}
+use Rattle.semver_ranges.specs.Steps.Items.{FoundTerm, FoundWord, IsItemOf, IsTermAt, IsTermOf, IsUpperOf, IsViewOf, IsWordOf, Item}
+use Rattle.semver_ranges.specs.Steps.Items.{empty_range, one_term, simple_of, simples_of}
 use Rattle.semver_ranges.specs.RangeTree.{Simple}
-use Rattle.semver_ranges.specs.Steps.RangeEvents.{Event, one_simple, next_range, put, put_simples}
-use Rattle.semver_ranges.specs.Steps.CursorViews.{IsSimpleOf, AreSides, IsEventOf, HasAfter, HasLeft, IsFirst, flag}
+use Rattle.semver_ranges.specs.Steps.Reading.{simple}
+use Rattle.semver_ranges.specs.Steps.RangeEvents.{Event, one_simple, next_range, put, put_simples, wildcard}
+use Rattle.semver_ranges.specs.Steps.CursorViews.{IsSimpleOf, AreSides, IsEventOf, HasAfter, HasLeft, IsFirst, flag, form_of}
 
 -- the events of a hyphen range begin with its first side, and the other side, if there is one, is
 -- left
@@ -57,3 +65,31 @@ module _ (d : Grammar) where
   next_bars es cursor (one_simple s, left, is, has, e) = absurd is
   next_bars es cursor (next_range, None, is, has, e) = cc
   next_bars es cursor (next_range, Some after, is, has, e) = (after, has, cc)
+
+  -- the right side of a hyphen range that was read
+  pub found_upper : (t : Text) (x : Option FoundWord) (v : RawVersion) → IsUpperOf d t x (Some v)
+      → (u : FoundWord) × (x ≡ Some u) × IsWordOf d u v × (length u.from ≤ length t)
+  found_upper t None v is = absurd is
+  found_upper t (Some u) v is = (u, refl, is.0, is.1)
+
+  -- a term that was read, without a right side
+  pub term_here : (t : Text) (term : written.RawTerm) (u : Text) → IsTermAt d t term u
+      → (x : FoundTerm) × IsTermOf d x term × (simple d t ≡ Some (simple_of x, u))
+  term_here t term u here = (
+    record { from = t; form = form_of term.form; version = here.version; upper = None },
+    record { from = here.from; form = refl; version = here.is; within = here.within; upper = rw here.upper tt },
+    here.simple,
+  )
+
+  -- the view of an event in plain terms
+  pub view_term : (lower : LowerBounds) (n : ℕ) (x : Item) (term : written.RawTerm) (first : read.Simple) (upper : Option read.Simple)
+      → IsItemOf d n x (Term term) → ((y : FoundTerm) → IsTermOf d y term → AreSides (simples_of lower y) first upper)
+      → IsViewOf lower x true (event.Simple first) upper
+  view_term lower n (one_term y) term first upper is sides =
+      (λ o. sides_first (simples_of lower y) first upper o (sides y is.0), flag_small _)
+  view_term lower n _ term first upper is sides = absurd is
+
+  pub view_empty : (lower : LowerBounds) (n : ℕ) (x : Item) (simple : read.Simple) → IsItemOf d n x EmptyRange
+      → IsSimpleOf wildcard simple → IsViewOf lower x false (event.Simple simple) None
+  view_empty lower n empty_range simple is one = (λ o. (one_simple wildcard, o, one, refl, refl), omega arith)
+  view_empty lower n _ simple is one = absurd is

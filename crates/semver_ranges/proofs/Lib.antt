@@ -9,6 +9,7 @@ pub mod EventSums
 pub mod ExactLaws
 pub mod FoundEvents
 pub mod Fronts
+pub mod ItemSteps
 pub mod LongWords
 pub mod Meanings
 pub mod OnlySimples

@@ -27,7 +27,7 @@ word_simple (b ∷ t) e = or_left _ _ e
 simple_written : (b : ℕ) → is_simple_byte b ≡ true → is_written b ≡ true
 simple_written b e = grind (arith, nat_tests)
 
-simple_no_end : (t : Text) → starts is_simple_byte t ≡ true → ends_range t ≡ false
+pub simple_no_end : (t : Text) → starts is_simple_byte t ≡ true → ends_range t ≡ false
 simple_no_end [] e = cc
 simple_no_end (b ∷ t) e = apart is_simple_byte b 124 e refl
 
@@ -103,7 +103,7 @@ module _ (d : Grammar) where
       }
 
   -- the right side of a hyphen range
-  right_read : (p : PartialTree) (gap w blanks u : Text) → AreSomeBlanks d gap → SpellsWord d after_hyphen p w → AreBlanks d blanks
+  pub right_read : (p : PartialTree) (gap w blanks u : Text) → AreSomeBlanks d gap → SpellsWord d after_hyphen p w → AreBlanks d blanks
       → ends_range u ≡ true → right_side d (45 ∷ (gap ++ (w ++ (blanks ++ u)))) ≡ Some (p, u)
   right_read p [] w blanks u (some, g) h b e = cc
   right_read p (c ∷ gap) w blanks u (some, g) h b e =

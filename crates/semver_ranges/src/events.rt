@@ -1,23 +1,22 @@
-//! The events of a range string, from left to right.
-//!
-//! Nothing here allocates, and a call looks at each byte a fixed number of times.
+//! The events of a range string, in plain terms: each term has one version, and the two sides of a
+//! hyphen range are terms of their own. Nothing here allocates.
 
-ghost use Rattle.std.specs.Prelude.{◌≡◌, ◌<◌, ◌≤◌, ◌++◌, Some, None, true, false, length, codes};
-ghost use Rattle.std.specs.Prelude.{[], Err, IfSome};
-ghost use Rattle.semver_ranges.specs.RangeTree.{Simple as SimpleTree, PartialTree, hyphen};
-ghost use Rattle.semver_ranges.specs.Steps.Reading.{ends_range, simple, right_side};
-ghost use Rattle.semver_ranges.specs.Steps.Reading.{with_right};
+ghost use Rattle.std.specs.Prelude.{◌≡◌, ◌<◌, Some, [], Err, IfSome, List, Option, ℕ};
+ghost use Rattle.semver_texts.specs.declared.grammar.Grammar.{Grammar};
+ghost use Rattle.semver_ranges.specs.RangeTree.{PartialTree, hyphen};
 ghost use Rattle.semver_ranges.specs.Steps.PartialViews.{IsPartialOf};
-ghost use Rattle.semver_ranges.specs.Steps.RangeEvents.{yielded, events};
-ghost use Rattle.semver_ranges.specs.Steps.CursorViews.{AreSides, FindsSides, TakesEvent, HasLeft};
-ghost use Rattle.semver_ranges.specs.Steps.CursorViews.{IsSimpleOf, NextGives, size_left};
+ghost use Rattle.semver_ranges.specs.Steps.RangeEvents as list;
+ghost use Rattle.semver_ranges.specs.Steps.RangeEvents.{yielded};
+ghost use Rattle.semver_ranges.specs.Steps.Items.{FoundTerm, IsItemOf, IsTermOf, Item, is_term};
+ghost use Rattle.semver_ranges.specs.Steps.Items.{GivesItem, IsViewOf, simples_of};
+ghost use Rattle.semver_ranges.specs.Steps.CursorViews.{AreSides, Gives, HasLeft, IsBegunIn};
+ghost use Rattle.semver_ranges.specs.Steps.CursorViews.{size_left};
 
-use crate::grammar::{
-    Form, Simple, after_bars, after_blanks, ends_range, read_right_side, read_simple,
-};
+use crate::cursor::{self, Cursor};
+use crate::grammar::{Form, Simple};
 use crate::partial::{LowerBounds, Partial};
 use crate::range_set::RangeError;
-use semver_texts::dotted::strip_mark;
+use crate::term::RawTerm;
 use semver_texts::grammar::Grammar;
 
 /// The next part of a range string.
@@ -31,10 +30,10 @@ pub enum Event<'input> {
 }
 
 /// A cursor over a range string that returns its events.
-#[derive(Clone, Copy)]
+#[derive(Clone, Copy, Debug)]
 pub struct Events<'input> {
-    rest: &'input [u8],
-    begins_range: bool,
+    cursor: Cursor<'input>,
+    /// The right side of a hyphen range, if it comes next.
     upper: Option<Simple<'input>>,
     lower: LowerBounds,
 }
@@ -45,12 +44,10 @@ impl<'input> Events<'input> {
     /// range is written.
     #[inline(always)]
     pub fn new(text: &'input [u8], grammar: Grammar, lower: LowerBounds) -> Events<'input>
-        ensures all { HasLeft grammar result (events grammar lower text.now) }
-        ensures short { length result.rest.now ≤ length text.now }
+        ensures { IsBegunIn grammar lower text.now result }
     {
         Events {
-            rest: after_blanks(text, grammar),
-            begins_range: true,
+            cursor: Cursor::new(text, grammar),
             upper: None,
             lower,
         }
@@ -61,7 +58,8 @@ impl<'input> Events<'input> {
     /// there on. It returns `None` at the end, and after an error.
     #[inline(always)]
     pub fn next_in(&mut self, grammar: Grammar) -> Option<Result<Event<'input>, RangeError>>
-        ensures gives { NextGives grammar self.old result self.new }
+        ensures gives { (o : Option (List list.Event)) → HasLeft grammar self.old o
+            → Gives grammar o result self.new }
         ensures ended { result ≡ Some (Err RangeError.NotARange)
             → HasLeft grammar self.new (Some []) }
         ensures fewer { IfSome result (λ _. size_left self.new < size_left self.old) }
@@ -70,110 +68,64 @@ impl<'input> Events<'input> {
             self.upper = None;
             return Some(Ok(Event::Simple(upper)));
         }
-        if !self.begins_range && self.rest.is_empty() {
-            return None;
-        }
-        match self.read_event(grammar) {
-            Some(event) => Some(Ok(event)),
-            None => {
-                self.rest = &[];
-                Some(Err(RangeError::NotARange))
+        match self.cursor.next_in(grammar)? {
+            Ok(event) => {
+                let (event, upper) = view(&event, self.lower);
+                self.upper = upper;
+                Some(Ok(event))
             }
+            Err(error) => Some(Err(error)),
         }
     }
 
-    /// Returns the event at the beginning of the rest, and moves after it. It returns `None` if the
-    /// rest isn't in the grammar.
+    // Determined by: equation.
+    /// Returns the next term as it is written, like the cursor that this one reads with.
     #[inline(always)]
-    fn read_event(&mut self, grammar: Grammar) -> Option<Event<'input>>
-        requires alone { self.old.upper ≡ None }
-        requires some { self.old.begins_range ≡ false → 0 < length self.old.rest.now }
-        ensures { TakesEvent grammar self.old.lower self.old.begins_range self.old.rest.now
-            result self.new }
-    {
-        let begins_range = self.begins_range;
-        self.begins_range = false;
-        if !ends_range(self.rest) {
-            return self.read_in_range(begins_range, grammar);
-        }
-        if !begins_range {
-            return self.read_bars(grammar);
-        }
-        Some(Event::Simple(Simple::wildcard()))
-    }
-
-    /// Returns the event of two bars, and moves after them.
-    #[inline(always)]
-    fn read_bars(&mut self, grammar: Grammar) -> Option<Event<'input>>
-        requires alone { self.old.upper ≡ None }
-        requires begun { self.old.begins_range ≡ false }
-        requires some { 0 < length self.old.rest.now }
-        requires ends { ends_range self.old.rest.now ≡ true }
-        ensures { TakesEvent grammar self.old.lower false self.old.rest.now result self.new }
-    {
-        self.rest = after_blanks(after_bars(self.rest)?, grammar);
-        self.begins_range = true;
-        Some(Event::NextRange)
-    }
-
-    /// Returns the event of a term, and moves after it. At the beginning of a range this may be a
-    /// hyphen range, whose two sides are separate events.
-    #[inline(always)]
-    fn read_in_range(&mut self, begins_range: bool, grammar: Grammar) -> Option<Event<'input>>
-        requires alone { self.old.upper ≡ None }
-        requires begun { self.old.begins_range ≡ false }
-        requires goes_on { ends_range self.old.rest.now ≡ false }
-        ensures { TakesEvent grammar self.old.lower begins_range self.old.rest.now result
-            self.new }
-    {
-        let (simple, rest) = read_simple(self.rest, grammar)?;
-        match strip_mark(rest, b'-') {
-            Some(after) if begins_range => self.read_sides(simple, after, grammar),
-            _ => {
-                self.rest = rest;
-                Some(Event::Simple(simple))
-            }
-        }
-    }
-
-    /// Moves after a hyphen range, whose left side and hyphen were read.
-    #[inline(always)]
-    fn read_sides(
+    pub fn next_term(
         &mut self,
-        left: Simple<'input>,
-        after: &'input [u8],
         grammar: Grammar,
-    ) -> Option<Event<'input>>
-        requires alone { self.old.upper ≡ None }
-        requires begun { self.old.begins_range ≡ false }
-        requires goes_on { ends_range self.old.rest.now ≡ false }
-        requires left { (s : SimpleTree) × IsSimpleOf s left
-            × (simple grammar self.old.rest.now ≡ Some (s, codes "-" ++ after.now)) }
-        ensures { TakesEvent grammar self.old.lower true self.old.rest.now result self.new }
+    ) -> Option<Result<cursor::Event<'input>, RangeError>>
+        ensures { GivesItem grammar self.old.cursor result self.new.cursor }
     {
-        let (lower, upper, rest) = read_hyphen_range(left, after, grammar, self.lower)?;
-        self.rest = rest;
-        self.upper = upper;
-        Some(Event::Simple(lower))
+        self.cursor.next_in(grammar)
     }
 }
 
-/// Returns the two terms of a hyphen range, whose left side has to be bare, and what follows it.
-fn read_hyphen_range<'input>(
-    left: Simple<'input>,
-    after: &'input [u8],
-    grammar: Grammar,
+/// Returns an event in plain terms, and the right side of a hyphen range, if it comes next.
+#[inline(always)]
+fn view<'input>(
+    event: &cursor::Event<'input>,
     lower: LowerBounds,
-) -> Option<(Simple<'input>, Option<Simple<'input>>, &'input [u8])>
-    ensures { (s : SimpleTree) → IsSimpleOf s left.entry
-        → FindsSides lower (with_right s (right_side grammar (codes "-" ++ after.now))) result }
+) -> (Event<'input>, Option<Simple<'input>>)
+    requires { (d : Grammar) × (n : ℕ) × (x : Item) × IsItemOf d n x event.now }
+    ensures { (d : Grammar) (n : ℕ) (x : Item) → IsItemOf d n x event.now
+        → IsViewOf lower x (is_term event.now) result.0 result.1 }
 {
-    let Form::Bare = left.form else {
-        return None;
-    };
-    let (right, rest) = read_right_side(after, grammar)?;
-    let (lower, upper) = sides(left.partial, right, lower);
-    Some((lower, upper, rest))
+    match event {
+        cursor::Event::Term(term) => {
+            let (first, upper) = simples(term, lower);
+            (Event::Simple(first), upper)
+        }
+        cursor::Event::EmptyRange => (Event::Simple(Simple::wildcard()), None),
+        cursor::Event::NextRange => (Event::NextRange, None),
+    }
+}
+
+/// Returns a term in plain terms: the one, or the two sides of a hyphen range.
+#[inline(always)]
+fn simples<'input>(
+    term: &RawTerm<'input>,
+    lower: LowerBounds,
+) -> (Simple<'input>, Option<Simple<'input>>)
+    requires { (d : Grammar) × (x : FoundTerm) × IsTermOf d x term.now }
+    ensures { (d : Grammar) (x : FoundTerm) → IsTermOf d x term.now
+        → AreSides (simples_of lower x) result.0 result.1 }
+{
+    let simple = term.simple();
+    match &term.upper {
+        Some(upper) => sides(simple.partial, Partial::of(&upper.components), lower),
+        None => (simple, None),
+    }
 }
 
 /// Returns the terms of the two sides of a hyphen range. A side without a number is left out,

@@ -14,19 +14,20 @@ ghost use Rattle.semver_ranges.specs.RangeTree.{PartialTree, has_no_leading_zero
 ghost use Rattle.semver_texts.specs.declared.grammar.Grammar.TheVariants as grammar;
 ghost use Rattle.semver_ranges.specs.Steps.Reading.{after_v, takes};
 ghost use Rattle.semver_ranges.specs.Steps.Reading.{back, ends_range, ends_word};
-ghost use Rattle.semver_ranges.specs.Steps.Reading.{component, partial, operator, simple};
-ghost use Rattle.semver_ranges.specs.Steps.Reading.{right_side};
+ghost use Rattle.semver_ranges.specs.Steps.Reading.{component, operator};
 ghost use Rattle.semver_ranges.specs.Steps.Reading.{with_first, after_bars};
 ghost use Rattle.semver_ranges.specs.Steps.Reading.{front, after_blanks};
 ghost use Rattle.semver_ranges.specs.Steps.RangeEvents.{wildcard};
 ghost use Rattle.semver_ranges.specs.Steps.PartialViews.{IsValue, IsComponentOf};
-ghost use Rattle.semver_ranges.specs.Steps.PartialViews.{AreWritten, IsPartialOf};
+ghost use Rattle.semver_ranges.specs.Steps.PartialViews.{AreWritten};
+ghost use Rattle.semver_ranges.specs.Steps.Items.{FindsRight, FindsTerm, FindsWord};
 ghost use Rattle.semver_ranges.specs.Steps.CursorViews.{form_of, Finds, FindsPre};
 ghost use Rattle.semver_ranges.specs.Steps.CursorViews.{IsSimpleOf, role_of};
 ghost use Rattle.semver_ranges.specs.Steps.NpmLimits.{IsBefore};
 
 use crate::npm_lengths::is_short_word;
 use crate::partial::{Component, Components, Partial};
+use crate::term::{RawTerm, RawVersion};
 use semver_texts::decimals;
 use semver_texts::dotted::{Hyphens, have_no_leading_zeros, marked_part, strip_mark};
 use semver_texts::grammar::Grammar;
@@ -34,7 +35,7 @@ use semver_texts::npm_limits::MAX_SAFE_BUILD_LENGTH;
 use semver_texts::white_space::is_ascii_white_space;
 
 /// The operator before a partial, if there is one.
-#[derive(Clone, Copy)]
+#[derive(Clone, Copy, Debug)]
 pub enum Form {
     /// No operator.
     Bare,
@@ -64,7 +65,7 @@ pub(crate) enum Role {
 }
 
 /// A partial and its operator.
-#[derive(Clone, Copy)]
+#[derive(Clone, Copy, Debug)]
 pub struct Simple<'input> {
     /// The operator.
     pub form: Form,
@@ -95,13 +96,13 @@ impl<'input> Simple<'input> {
 /// Returns the right side of a hyphen range, which follows the hyphen and ends with the range, and
 /// what follows it.
 #[inline(always)]
-pub(crate) fn read_right_side(after: &[u8], grammar: Grammar) -> Option<(Partial<'_>, &[u8])>
-    ensures { Finds IsPartialOf (right_side grammar (codes "-" ++ after.now)) result }
+pub(crate) fn read_right_side(after: &[u8], grammar: Grammar) -> Option<(RawVersion<'_>, &[u8])>
+    ensures { FindsRight grammar (codes "-" ++ after.now) result }
 {
     let text = after_blank(after, grammar)?;
     let text = after_blanks(text, grammar);
-    let (right, rest) = read_partial(text, grammar, Role::AfterHyphen)?;
-    let rest = after_blanks(rest, grammar);
+    let right = read_version(text, grammar, Role::AfterHyphen)?;
+    let rest = after_blanks(right.after, grammar);
     if ends_range(rest) {
         Some((right, rest))
     } else {
@@ -110,14 +111,20 @@ pub(crate) fn read_right_side(after: &[u8], grammar: Grammar) -> Option<(Partial
 }
 
 /// Returns the term at the beginning of a string, and what follows it and the blanks after it. It
-/// returns `None` if there is no term.
+/// returns `None` if there is no term. It doesn't look for the right side of a hyphen range.
 #[inline(always)]
-pub(crate) fn read_simple(text: &[u8], grammar: Grammar) -> Option<(Simple<'_>, &[u8])>
-    ensures { Finds IsSimpleOf (simple grammar text.now) result }
+pub(crate) fn read_term(text: &[u8], grammar: Grammar) -> Option<(RawTerm<'_>, &[u8])>
+    ensures { FindsTerm grammar text.now result }
 {
-    let (form, rest) = read_operator(text, grammar);
-    let (partial, rest) = read_partial(rest, grammar, Role::AfterForm(form))?;
-    Some((Simple { form, partial }, after_blanks(rest, grammar)))
+    let (form, word) = read_operator(text, grammar);
+    let version = read_version(word, grammar, Role::AfterForm(form))?;
+    let term = RawTerm {
+        from: text,
+        form,
+        version,
+        upper: None,
+    };
+    Some((term, after_blanks(version.after, grammar)))
 }
 
 // Determined by: equation.
@@ -140,23 +147,26 @@ pub fn read_operator(text: &[u8], grammar: Grammar) -> (Form, &[u8])
     (form, after_blanks(rest, grammar))
 }
 
-/// Returns the partial at the beginning of a string, which ends with its word, and what follows it.
+/// Returns the version at the beginning of a string, which ends with its word.
 #[inline(always)]
-fn read_partial(text: &[u8], grammar: Grammar, role: Role) -> Option<(Partial<'_>, &[u8])>
-    ensures { Finds IsPartialOf (partial grammar (role_of role) text.now) result }
+fn read_version(text: &[u8], grammar: Grammar, role: Role) -> Option<RawVersion<'_>>
+    ensures { FindsWord grammar (role_of role) text.now result }
 {
-    let (written, rest) = read_components(after_v(text, grammar))?;
-    if ends_word(rest, grammar) && takes(text, rest, &written, grammar, role) {
-        Some((Partial::of(&written), rest))
+    let (components, after) = read_components(after_v(text, grammar))?;
+    if ends_word(after, grammar) && takes(text, after, &components, grammar, role) {
+        Some(RawVersion {
+            from: text,
+            after,
+            components,
+        })
     } else {
         None
     }
 }
 
-// Determined by: equation.
 /// Returns what follows one `v`, which only npm allows.
 #[inline(always)]
-pub fn after_v(text: &[u8], grammar: Grammar) -> &[u8]
+pub(crate) fn after_v(text: &[u8], grammar: Grammar) -> &[u8]
     ensures { result.now ≡ after_v grammar text.now }
 {
     match (grammar, text) {
@@ -337,10 +347,9 @@ fn after_blank(text: &[u8], grammar: Grammar) -> Option<&[u8]>
     }
 }
 
-// Determined by: equation.
 /// Returns what follows two bars, if the string begins with them.
 #[inline(always)]
-pub fn after_bars(text: &[u8]) -> Option<&[u8]>
+pub(crate) fn after_bars(text: &[u8]) -> Option<&[u8]>
     ensures { MatchOption result (after_bars text.now ≡ None) (λ rest. after_bars text.now
         ≡ Some rest.now) }
 {

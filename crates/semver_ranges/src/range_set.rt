@@ -21,7 +21,7 @@ ghost use Rattle.semver_ranges.specs.Steps.DesugaredViews.{IsRow};
 
 use crate::desugared_texts::read_in_two_runs;
 use crate::desugaring::{Desugared, rewritten};
-use crate::grammar::read_simple;
+use crate::grammar::read_term;
 use crate::partial::{Partial, RaisedBounds};
 use crate::range::{Compat, Range};
 use semver_texts::grammar::Grammar;
@@ -250,10 +250,11 @@ fn read_only_simple(text: &[u8], compat: Compat) -> Option<(Partial<'_>, Desugar
     if text.len() > LONGEST_ONLY_SIMPLE {
         return None;
     }
-    let (simple, rest) = read_simple(text, Grammar::Crate)?;
+    let (term, rest) = read_term(text, Grammar::Crate)?;
     if !rest.is_empty() {
         return None;
     }
+    let simple = term.simple();
     let bounds = rewritten(&simple, compat);
     if bounds.fits(&simple.partial) {
         Some((simple.partial, bounds))

@@ -13,8 +13,9 @@ use Rattle.semver_ranges.proofs.ReadingPieces.{front-back, front_all, operator_s
 use Rattle.semver_ranges.proofs.ReadingPieces.{starts, starts-append, is_word_byte, component_word, partial_starts}
 use Rattle.semver_ranges.proofs.WrittenPieces.{stops, ends_partial, first_read, operator_read, blanks_after, no_blank, no_sign}
 use Rattle.semver_texts.proofs.Lists.{by_test}
+use Rattle.semver_ranges.specs.Steps.Items.{FoundTerm, simple_of}
 use Rattle.tool_ranges.specs.CargoGrammar.{sign, is_of_cargo, SpellsComparator}
-use Rattle.tool_ranges.specs.Steps.CargoReading.{begins_with_tilde_greater, at_end, with_operator, comparator_here, comparator_at}
+use Rattle.tool_ranges.specs.Steps.CargoReading.{begins_with_tilde_greater, at_end, with_operator, comparator_at}
 
 -- ---- a comparator that is found is in the text
 
@@ -23,9 +24,9 @@ abbrev pub Follows : Text → Text → Option Text → Type 0
 Follows front t None = t ≡ front
 Follows front t (Some u) = t ≡ front ++ (44 ∷ u)
 
-abbrev pub ComparatorAt : Text → Option (Simple × Option Text) → Type 0
+abbrev pub ComparatorAt : Text → Option (FoundTerm × Option Text) → Type 0
 ComparatorAt t None = Unit {0}
-ComparatorAt t (Some found) = (front : Text) × SpellsComparator found.0 front × Follows front t found.1
+ComparatorAt t (Some found) = (front : Text) × SpellsComparator (simple_of found.0) front × Follows front t found.1
 
 -- the text before a partial version is a sign and blanks, unless it begins with `~>`
 form_signed : (f : Form) (w t : Text) → SpellsForm Cargo f w → begins_with_tilde_greater (w ++ t) ≡ false
@@ -41,11 +42,11 @@ form_signed at_least w t h n = h
 form_signed caret w t h n = h
 
 -- the pieces of a comparator make one, if nothing or a comma follows them
-made : (s : Simple) (before gap word after v t : Text) → AreBlanks Cargo before → AreBlanks Cargo gap → AreBlanks Cargo after
-    → SpellsPartial s.partial word
-    → is_of_cargo s ≡ true → t ≡ before ++ ((sign s.form ++ gap) ++ (word ++ (after ++ v))) → ComparatorAt t (at_end s v)
-made s before gap word after [] t b g a p r text = search rules
-made s before gap word after (c ∷ v) t b g a p r text = by_test (c == 44)
+made : (x : FoundTerm) (before gap word after v t : Text) → AreBlanks Cargo before → AreBlanks Cargo gap → AreBlanks Cargo after
+    → SpellsPartial x.version.partial word
+    → is_of_cargo (simple_of x) ≡ true → t ≡ before ++ ((sign x.form ++ gap) ++ (word ++ (after ++ v))) → ComparatorAt t (at_end x v)
+made x before gap word after [] t b g a p r text = search rules
+made x before gap word after (c ∷ v) t b g a p r text = by_test (c == 44)
     (λ e. rw e (
       before ++ _,
       record {
@@ -60,24 +61,24 @@ made s before gap word after (c ∷ v) t b g a p r text = by_test (c == 44)
         is_read = r;
         text = refl;
       },
-      text ∙ ap (λ x. before ++ ((sign s.form ++ gap) ++ (word ++ (after ++ (x ∷ v))))) (eqb-true c 44 e) ∙ simp append_assoc,
+      text ∙ ap (λ y. before ++ ((sign x.form ++ gap) ++ (word ++ (after ++ (y ∷ v))))) (eqb-true c 44 e) ∙ simp append_assoc,
     ))
     (λ e. rw e tt)
 
-partial_made : (before gap t u : Text) (f : Form) (o : Option (PartialTree × Text)) → AreBlanks Cargo before → AreBlanks Cargo gap
-    → t ≡ before ++ ((sign f ++ gap) ++ u) → PartialAt u o → ComparatorAt t (with_operator f o)
-partial_made before gap t u f None b g text h = tt
-partial_made before gap t u f (Some (p, v)) b g text (word, spelled, whole) = by_test (is_of_cargo (record { form = f; partial = p }))
+partial_made : (before gap t from u : Text) (f : Form) (o : Option (PartialTree × Text)) → AreBlanks Cargo before → AreBlanks Cargo gap
+    → t ≡ before ++ ((sign f ++ gap) ++ u) → PartialAt u o → ComparatorAt t (with_operator from (f, u) o)
+partial_made before gap t from u f None b g text h = tt
+partial_made before gap t from u f (Some (p, v)) b g text (word, spelled, whole) = by_test (is_of_cargo (record { form = f; partial = p }))
     (λ e. rw e (made _ before gap word _ (after_blanks Cargo v) t b g
     (front_all (is_blank Cargo) v) spelled e
     (text ∙ ap (λ x. before ++ ((sign f ++ gap) ++ x)) (whole ∙ ap (λ x. word ++ x) (front-back (is_blank Cargo) v)))))
     (λ e. rw e tt)
 
 here_sound : (before u t : Text) (found : Form × Text) → AreBlanks Cargo before → t ≡ before ++ u
-    → begins_with_tilde_greater u ≡ false → FormAt Cargo u found → ComparatorAt t (with_operator found.0 (with_first (component found.1)))
+    → begins_with_tilde_greater u ≡ false → FormAt Cargo u found → ComparatorAt t (with_operator u found (with_first (component found.1)))
 here_sound before u t found b text m (w, form, whole) =
     let signed = form_signed found.0 w found.1 form (cc) in
-    partial_made before signed.0 t found.1 found.0 _ b signed.1
+    partial_made before signed.0 t u found.1 found.0 _ b signed.1
     (cc)
     (first_sound found.1 (component found.1) (component_sound found.1))
 
@@ -129,7 +130,7 @@ abbrev pub is_bare_form : Form → Bool
 is_bare_form bare = true
 is_bare_form _ = false
 
-signs_stop : (f : Form) (gap x : Text) → is_bare_form f ≡ false → stops (is_blank Cargo) ((sign f ++ gap) ++ x) ≡ true
+pub signs_stop : (f : Form) (gap x : Text) → is_bare_form f ≡ false → stops (is_blank Cargo) ((sign f ++ gap) ++ x) ≡ true
 signs_stop bare gap x e = cc
 signs_stop equal gap x e = refl
 signs_stop less gap x e = refl
@@ -139,7 +140,7 @@ signs_stop at_least gap x e = refl
 signs_stop tilde gap x e = refl
 signs_stop caret gap x e = refl
 
-bare_form : (f : Form) → is_bare_form f ≡ true → f ≡ bare
+pub bare_form : (f : Form) → is_bare_form f ≡ true → f ≡ bare
 bare_form bare e = refl
 bare_form _ e = cc
 
@@ -159,31 +160,34 @@ spaces_end : (after v : Text) → AreBlanks Cargo after → ends_partial v ≡ t
 spaces_end [] v a e = e
 spaces_end (b ∷ after) v a e = search rules
 
-comparator_here_read : (s : Simple) (word after v u : Text) → AreBlanks Cargo after → SpellsPartial s.partial word → is_of_cargo s ≡ true
-    → ends_partial v ≡ true → stops (is_blank Cargo) v ≡ true → Reads s.form u (word ++ (after ++ v)) → comparator_here u ≡ at_end s v
-comparator_here_read s word after v u a p r e n (other, form) =
+-- the comparator that is found in a text t, from its beginning `w`, after which `v` is left
+abbrev pub found_comparator : (s : Simple) (w v t : Text) → SpellsComparator s w → FoundTerm
+found_comparator s w v t spelled = record {
+  from = after_blanks Cargo t;
+  form = s.form;
+  version = record { partial = s.partial; from = spelled.word ++ (spelled.after ++ v); after = spelled.after ++ v };
+  upper = None;
+}
+
+comparator_read : (s : Simple) (w v t : Text) (spelled : SpellsComparator s w) → t ≡ w ++ v → ends_partial v ≡ true
+    → stops (is_blank Cargo) v ≡ true → comparator_at t ≡ at_end (found_comparator s w v t spelled) v
+comparator_read s w v t spelled whole e n =
+    let x = spelled.word ++ (spelled.after ++ v) in
+    let text : t ≡ spelled.before ++ ((sign s.form ++ spelled.gap) ++ x) = whole ∙ ap (λ y. y ++ v) spelled.text ∙ simp append_assoc in
+    let begins = starts-append is_word_byte spelled.word (spelled.after ++ v) (component_word spelled.word (partial_starts s.partial spelled.word
+    spelled.partial)) in
+    let read : Reads s.form (after_blanks Cargo t) x = rw text (reads s.form spelled.before spelled.gap x spelled.before_is spelled.gap_is begins) in
     rw (
-      other,
-      form,
-      first_read s.partial word _ p (spaces_end after v a e),
-      r,
-      blanks_after Cargo after v
-          a n,
+      read.0,
+      read.1,
+      first_read s.partial spelled.word _ spelled.partial (spaces_end spelled.after v spelled.after_is e),
+      spelled.is_read,
+      blanks_after Cargo spelled.after v spelled.after_is n,
     ) refl
 
-pub comparator_read : (s : Simple) (w v : Text) → SpellsComparator s w → ends_partial v ≡ true → stops (is_blank Cargo) v ≡ true
-    → comparator_at (w ++ v) ≡ at_end s v
-comparator_read s w v contains e n =
-    let x = contains.word ++ _ in
-    let whole : w ++ v ≡ contains.before ++ ((sign s.form ++ contains.gap) ++ x) = ap (λ y. y ++ v) contains.text ∙ simp append_assoc in
-    ap comparator_at whole
-    ∙ comparator_here_read s contains.word contains.after v (after_blanks Cargo (contains.before ++
-    ((sign s.form ++ contains.gap) ++ x))) contains.after_is contains.partial contains.is_read e n
-    (reads s.form contains.before contains.gap x contains.before_is contains.gap_is (starts-append is_word_byte contains.word (contains.after ++ v) (component_word
-    contains.word (partial_starts s.partial contains.word contains.partial))))
+pub ended_read : (s : Simple) (t : Text) (spelled : SpellsComparator s t) → comparator_at t ≡ Some (found_comparator s t [] t spelled, None)
+ended_read s t spelled = comparator_read s t [] t spelled (sym (append-nil t)) refl refl
 
-pub ended_read : (s : Simple) (t : Text) → SpellsComparator s t → comparator_at t ≡ Some (s, None)
-ended_read s t contains = ap comparator_at (sym (append-nil t)) ∙ comparator_read s t [] contains refl refl
-
-pub parted_read : (s : Simple) (w u : Text) → SpellsComparator s w → comparator_at (w ++ (44 ∷ u)) ≡ Some (s, Some u)
-parted_read s w u contains = comparator_read s w _ contains refl refl
+pub parted_read : (s : Simple) (w u t : Text) (spelled : SpellsComparator s w) → t ≡ w ++ (44 ∷ u)
+    → comparator_at t ≡ Some (found_comparator s w (44 ∷ u) t spelled, Some u)
+parted_read s w u t spelled whole = comparator_read s w _ t spelled whole refl refl

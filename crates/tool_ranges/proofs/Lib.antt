@@ -1,7 +1,7 @@
 -- a text has one tree in each dialect, and the cursor returns its terms
-mod ComparatorReading
+pub mod ComparatorReading
 mod FoundComparators
-mod Comparators
+pub mod Comparators
 mod ReadTrees
 pub mod ReadingLaws
 mod LeftEvents

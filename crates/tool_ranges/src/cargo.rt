@@ -18,7 +18,7 @@ mod grammar;
 
 use crate::dialect::Dialect;
 use crate::printing;
-pub(crate) use grammar::{has_wildcard, named, read_comparator};
+pub(crate) use grammar::{begins_with_wildcard, has_wildcard, named, read_comparator, simple_of};
 use semver_ranges::partial::LowerBounds;
 use semver_ranges::{Compat, RangeError, RangeSet};
 use std::alloc::Global;

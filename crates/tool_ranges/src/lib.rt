@@ -4,7 +4,7 @@
 
 pub mod cargo;
 mod checked;
-mod cursor;
+pub mod cursor;
 pub mod dialect;
 pub mod highest;
 pub mod laws;

@@ -1,6 +1,6 @@
 -- A means of proof, cited only in clauses of calls between these crates: how contracts see the
 -- results of the cursor over a range text.
-use Rattle.std.specs.Prelude.{◌≡◌, ◌+◌, ◌*◌, ◌<◌, ◌≤◌, length, ℕ, Bool, true, false, ◌==◌}
+use Rattle.std.specs.Prelude.{◌≡◌, ◌+◌, ◌*◌, length, ℕ, Bool, true, false, ◌==◌}
 use Rattle.std.specs.Prelude.{if◌then◌else◌, Option, Some, None, is_some, Result, Ok, Err, List, []}
 use Rattle.std.specs.Prelude.{◌∷◌}
 use Rattle.std.specs.Borrow.{Bor}
@@ -21,9 +21,10 @@ use Rattle.semver_ranges.specs.RangeTree as tree
 use Rattle.semver_ranges.specs.RangeTree.{three}
 use Rattle.semver_texts.specs.Texts.{is_part}
 use Rattle.semver_texts.specs.Texts.{Text}
-use Rattle.semver_ranges.specs.Steps.Reading.{parts, after_three}
+use Rattle.semver_ranges.specs.Steps.Reading.{after_blanks, after_three, parts}
 use Rattle.semver_ranges.specs.Steps.RangeEvents as list
-use Rattle.semver_ranges.specs.Steps.RangeEvents.{one_simple, next_range, yielded, put, events_left}
+use Rattle.semver_ranges.specs.Steps.RangeEvents.{one_simple, next_range, yielded, put, events}
+use Rattle.semver_ranges.specs.Steps.RangeEvents.{events_left}
 use Rattle.semver_ranges.specs.Steps.PartialViews.{IsPartialOf}
 use Rattle.semver_texts.specs.Texts.{cut_at_dots}
 
@@ -74,13 +75,6 @@ AreSides (s ∷ []) lower None = IsSimpleOf s lower
 AreSides (s ∷ next ∷ []) lower (Some upper) = IsSimpleOf s lower × IsSimpleOf next upper
 AreSides _ lower upper = ⊥
 
--- a call reads a hyphen range as its sides, and returns them and the rest of the text
-abbrev pub FindsSides : LowerBounds → Option (tree.RangeTree × Text)
-    → Option (Simple × Option Simple × Bor Text) → Type 0
-FindsSides lower o None = o ≡ None
-FindsSides lower o (Some found) = (x : tree.RangeTree) × (o ≡ Some (x, found.2.now))
-    × AreSides (yielded lower x) found.0 found.1
-
 -- an event that was read is this event of the list
 abbrev pub IsEventOf : list.Event → Event → Type 0
 IsEventOf (one_simple s) (event.Simple simple) = IsSimpleOf s simple
@@ -96,19 +90,19 @@ HasAfter (Some upper) after o =
 
 abbrev pub HasLeft : Grammar → Events → Option (List list.Event) → Type 0
 HasLeft d cursor o =
-    HasAfter cursor.upper (events_left d cursor.lower cursor.begins_range cursor.rest.now) o
+    HasAfter cursor.upper
+    (events_left d cursor.lower cursor.cursor.begins_range cursor.cursor.rest.now) o
+
+-- the cursor is at the beginning of a text
+abbrev pub IsBegunIn : Grammar → LowerBounds → Text → Events → Type 0
+IsBegunIn d lower t cursor = HasLeft d cursor (events d lower t)
+    × (cursor.cursor.begins_range ≡ true) × (cursor.cursor.rest.now ≡ after_blanks d t)
 
 -- an event is the first of those that are left, and a cursor after it has the others left
 abbrev pub IsFirst : Grammar → Option (List list.Event) → Event → Events → Type 0
 IsFirst d o e after =
     (x : list.Event) × (left : Option (List list.Event)) × IsEventOf x e × HasLeft d after left
     × (o ≡ put x left)
-
--- the least number of bytes by which reading an event moves the cursor: 0 for a term, since it may
--- be the upper side that the cursor holds
-abbrev pub bytes_of : Event → ℕ
-bytes_of (event.Simple simple) = 0
-bytes_of event.NextRange = 1
 
 -- a limit for the number of events that are left: two for each byte, one if a range begins, since
 -- it may be empty, and one for an upper side
@@ -120,16 +114,8 @@ abbrev pub size_at : Bool → Text → ℕ
 size_at begins_range t = 2 * length t + flag begins_range
 
 abbrev pub size_left : Events → ℕ
-size_left cursor = size_at cursor.begins_range cursor.rest.now + flag (is_some cursor.upper)
-
--- a call takes the first event of a text that is left, and moves the cursor after it. It returns
--- `None` if the text isn't in the grammar from there on
-abbrev pub TakesEvent : Grammar → LowerBounds → Bool → Text → Option Event → Events → Type 0
-TakesEvent d lower begins_range t None after = (events_left d lower begins_range t ≡ None)
-    × (after.begins_range ≡ false) × (after.upper ≡ None) × (after.rest.now ≡ t)
-TakesEvent d lower begins_range t (Some e) after =
-    IsFirst d (events_left d lower begins_range t) e after
-    × (size_left after < size_at begins_range t) × (length after.rest.now + bytes_of e ≤ length t)
+size_left cursor =
+    size_at cursor.cursor.begins_range cursor.cursor.rest.now + flag (is_some cursor.upper)
 
 -- what the cursor returns next: the first of the events that are left, `NotARange` if the rest of
 -- the text isn't in the grammar, and `None` if no event is left
@@ -138,12 +124,3 @@ abbrev pub Gives : Grammar → Option (List list.Event) → Option (Result Event
 Gives d o None after = (o ≡ Some []) × HasLeft d after o
 Gives d o (Some (Ok e)) after = IsFirst d o e after
 Gives d o (Some (Err e)) after = (o ≡ None) × (e ≡ NotARange)
-
-abbrev pub given_bytes : Option (Result Event RangeError) → ℕ
-given_bytes (Some (Ok e)) = bytes_of e
-given_bytes _ = 0
-
-abbrev pub NextGives : Grammar → Events → Option (Result Event RangeError) → Events → Type 0
-NextGives d before given after =
-    ((o : Option (List list.Event)) → HasLeft d before o → Gives d o given after)
-    × (length after.rest.now + given_bytes given ≤ length before.rest.now)

@@ -7,40 +7,67 @@ ghost use Rattle.std.specs.Prelude.{◌≡◌, not};
 ghost use Rattle.semver_texts.specs.Texts.{is_empty};
 ghost use Rattle.semver_ranges.specs.RangeTree.{Simple as SimpleTree, PartialTree, qualifier};
 ghost use Rattle.semver_ranges.specs.Steps.PartialViews.{AreWritten};
-ghost use Rattle.semver_ranges.specs.Steps.CursorViews.{form_of};
+ghost use Rattle.semver_ranges.specs.Partials.{states_nothing};
+ghost use Rattle.semver_ranges.specs.Steps.CursorViews.{IsSimpleOf, form_of};
+ghost use Rattle.semver_ranges.specs.Steps.Items.{FoundTerm, IsTermOf, simple_of};
+ghost use Rattle.semver_texts.specs.declared.grammar.Grammar.TheVariants as grammar;
 ghost use Rattle.tool_ranges.specs.CargoGrammar.{is_of_cargo};
 ghost use Rattle.tool_ranges.specs.CargoMeaning.{has_wildcard, named};
-ghost use Rattle.tool_ranges.specs.Steps.CargoReading.{comparator_at, FindsComparator};
+ghost use Rattle.tool_ranges.specs.CargoMeaning.{as_read};
+ghost use Rattle.tool_ranges.specs.Steps.CargoReading.{FindsComparator};
 ghost use Rattle.tool_ranges.specs.Steps.CargoReading.{begins_with_tilde_greater};
 
 use semver_ranges::grammar::{Form, Simple, after_blanks, read_components, read_operator};
 use semver_ranges::partial::{Component, Components, Partial};
+use semver_ranges::term::{RawTerm, RawVersion};
 use semver_texts::dotted::have_no_leading_zeros;
 use semver_texts::grammar::Grammar;
 
 /// Returns the comparator at the beginning of a string, up to a comma or the end, and what follows
-/// the comma. One without an operator is returned as `^`, or as `=` if it has a wildcard.
+/// the comma.
 #[inline(always)]
-pub(crate) fn read_comparator(text: &[u8]) -> Option<(Simple<'_>, Option<&[u8]>)>
-    ensures { FindsComparator (comparator_at text.now) result }
+pub(crate) fn read_comparator(text: &[u8]) -> Option<(RawTerm<'_>, Option<&[u8]>)>
+    ensures { FindsComparator text.now result }
 {
-    let text = after_blanks(text, Grammar::Cargo);
-    if begins_with_tilde_greater(text) {
+    let from = after_blanks(text, Grammar::Cargo);
+    if begins_with_tilde_greater(from) {
         return None;
     }
-    let (form, text) = read_operator(text, Grammar::Cargo);
-    let (written, rest) = read_components(text)?;
-    if !is_read(form, &written) {
+    let (form, word) = read_operator(from, Grammar::Cargo);
+    let (components, rest) = read_components(word)?;
+    if !is_read(form, &components) {
         return None;
     }
-    let simple = Simple {
-        form: named(form, has_wildcard(&written)),
-        partial: Partial::of(&written),
+    let version = RawVersion {
+        from: word,
+        after: rest,
+        components,
+    };
+    let term = RawTerm {
+        from,
+        form,
+        version,
+        upper: None,
     };
     match after_blanks(rest, Grammar::Cargo) {
-        [] => Some((simple, None)),
-        [b',', after @ ..] => Some((simple, Some(after))),
+        [] => Some((term, None)),
+        [b',', after @ ..] => Some((term, Some(after))),
         _ => None,
+    }
+}
+
+/// Returns a comparator in plain terms. One without an operator is `^`, or `=` if it has a
+/// wildcard.
+#[inline(always)]
+pub(crate) fn simple_of<'text>(term: &RawTerm<'text>) -> Simple<'text>
+    requires { (x : FoundTerm) × IsTermOf grammar.Cargo x term.now }
+    ensures { (x : FoundTerm) → IsTermOf grammar.Cargo x term.now
+        → IsSimpleOf (as_read (simple_of x)) result }
+{
+    let components = &term.version.components;
+    Simple {
+        form: named(term.form, has_wildcard(components)),
+        partial: Partial::of(components),
     }
 }
 
@@ -74,6 +101,14 @@ pub(crate) fn has_wildcard(written: &Components<'_>) -> bool
         (_, Some(Component::Wildcard(_)), _) | (_, _, Some(Component::Wildcard(_))) => true,
         _ => false,
     }
+}
+
+/// Returns whether the first component is a wildcard, so no number is stated.
+#[inline(always)]
+pub(crate) fn begins_with_wildcard(written: &Components<'_>) -> bool
+    ensures { (p : PartialTree) → AreWritten p written.now → result ≡ states_nothing p }
+{
+    matches!(written.major, Component::Wildcard(_))
 }
 
 /// Returns whether Cargo accepts a comparator. A single wildcard is accepted; it matches every

@@ -4,12 +4,13 @@
 use crate::rattle_std::prelude::*;
 use crate::proved::range_terms::term::{Component, Operator, PartialVersion, Span, Term};
 use crate::proved::semver_ranges::RangeError;
-use crate::proved::semver_ranges::grammar::{
-    Form, after_bars, after_blanks, after_v, read_components, read_operator,
-};
-use crate::proved::semver_ranges::partial::{self, Components};
-use crate::proved::semver_texts::dotted::{strip_mark, text_of_parts};
+use crate::proved::semver_ranges::cursor::Event;
+use crate::proved::semver_ranges::grammar::Form;
+use crate::proved::semver_ranges::partial::{self, LowerBounds};
+use crate::proved::semver_ranges::term::{RawTerm, RawVersion};
+use crate::proved::semver_texts::dotted::text_of_parts;
 use crate::proved::semver_texts::grammar::Grammar;
+use crate::proved::tool_ranges::cursor::Cursor;
 use crate::proved::tool_ranges::dialect::Dialect;
 use crate::proved::tool_ranges::meaning::{Rules, check};
 use crate::proved::version_sets::PreReleases;
@@ -39,9 +40,9 @@ pub struct Terms<'text> {
     /// The length of the whole string.
     len: usize,
     grammar: Grammar,
-    /// The number of `||` before the rest.
+    /// The number of `||` before what is left.
     range: usize,
-    rest: &'text [u8],
+    cursor: Cursor<'text>,
 }
 
 impl<'text> Terms<'text> {
@@ -73,14 +74,29 @@ impl<'text> Iterator for Terms<'text> {
     type Item = Term<'text>;
 
     fn next(&mut self) -> Option<Term<'text>> {
-        let (bars, text) = after_ranges(self.rest, self.grammar);
-        let (form, word) = read_operator(text, self.grammar);
-        let (version, after) = read_version(word, self.grammar, self.len)?;
-        let (upper, rest) = read_upper(after, self.grammar, self.len);
-        self.range += bars;
-        self.rest = rest;
-        Some(term(self.range, form, self.len - text.len(), version, upper))
+        next_term(&mut self.cursor, &mut self.range, self.grammar, self.len)
     }
+}
+
+/// Returns the next term of a string with a length of `len` bytes, if there is one, and counts the
+/// `||` before it.
+fn next_term<'text>(
+    cursor: &mut Cursor<'text>,
+    range: &mut usize,
+    grammar: Grammar,
+    len: usize,
+) -> Option<Term<'text>> {
+    while let Some(event) = cursor.next_term(grammar) {
+        let Ok(event) = event else {
+            return None;
+        };
+        match event {
+            Event::Term(read) => return Some(term_of(&read, *range, len)),
+            Event::NextRange => *range += 1,
+            Event::EmptyRange => {}
+        }
+    }
+    None
 }
 
 /// Returns the terms of a range string that was checked, even if one of its numbers is too large.
@@ -90,7 +106,7 @@ pub fn of_range(range: &str, dialect: Dialect) -> Terms<'_> {
         len: range.len(),
         grammar: dialect.grammar(),
         range: 0,
-        rest: range.as_bytes(),
+        cursor: Cursor::begin(range, dialect, LowerBounds::Stated),
     }
 }
 
@@ -101,26 +117,28 @@ pub fn copy<'text>(terms: &Terms<'text>) -> Terms<'text> {
         len: terms.len,
         grammar: terms.grammar,
         range: terms.range,
-        rest: terms.rest,
+        cursor: terms.cursor,
     }
 }
 
-/// Returns the term of an operator and one version, or of the two versions of a hyphen range.
-fn term<'text>(
-    range: usize,
-    form: Form,
-    start: usize,
-    version: PartialVersion<'text>,
-    upper: Option<PartialVersion<'text>>,
-) -> Term<'text> {
+/// Returns a term of the range with an index, in a string with a length of `len` bytes.
+fn term_of<'text>(read: &RawTerm<'text>, range: usize, len: usize) -> Term<'text> {
+    let version = version_of(&read.version, len);
+    let upper = match &read.upper {
+        Some(upper) => Some(version_of(upper, len)),
+        None => None,
+    };
     let (operator, end) = match &upper {
         Some(upper) => (Operator::Hyphen, upper.span.end),
-        None => (operator_of(form), version.span.end),
+        None => (operator_of(read.form), version.span.end),
     };
     Term {
         range,
         operator,
-        span: Span { start, end },
+        span: Span {
+            start: len - read.from.len(),
+            end,
+        },
         version,
         upper,
     }
@@ -156,48 +174,26 @@ pub fn form_of(operator: Operator) -> Form {
     }
 }
 
-/// Returns how many pairs of bars are at the beginning of a string, among blanks, and what follows
-/// them and the blanks.
-fn after_ranges(text: &[u8], grammar: Grammar) -> (usize, &[u8]) {
-    let mut bars = 0;
-    let mut rest = after_blanks(text, grammar);
-    loop {
-        let Some(after) = after_bars(rest) else {
-            return (bars, rest);
-        };
-        bars += 1;
-        rest = after_blanks(after, grammar);
+/// Returns a version of a term, in a string with a length of `len` bytes.
+fn version_of<'text>(written: &RawVersion<'text>, len: usize) -> PartialVersion<'text> {
+    let components = &written.components;
+    PartialVersion {
+        span: Span {
+            start: len - written.from.len(),
+            end: len - written.after.len(),
+        },
+        has_v: begins_with_v(written.from),
+        major: component(components.major),
+        minor: component_if_written(components.minor),
+        patch: component_if_written(components.patch),
+        pre: text_of_parts(components.pre),
+        build: text_of_parts(components.build),
     }
-}
-
-/// Returns the version at the beginning of the rest of a string, and what follows it. `len` is the
-/// length of the whole string.
-fn read_version(text: &[u8], grammar: Grammar, len: usize) -> Option<(PartialVersion<'_>, &[u8])> {
-    let word = after_v(text, grammar);
-    let (written, rest) = read_components(word)?;
-    let span = Span {
-        start: len - text.len(),
-        end: len - rest.len(),
-    };
-    Some((version(span, begins_with_v(text), &written), rest))
 }
 
 /// Returns whether a string begins with `v`.
 fn begins_with_v(text: &[u8]) -> bool {
     matches!(text, [b'v', ..])
-}
-
-/// Returns the version with these components.
-fn version<'text>(span: Span, has_v: bool, written: &Components<'text>) -> PartialVersion<'text> {
-    PartialVersion {
-        span,
-        has_v,
-        major: component(written.major),
-        minor: component_if_written(written.minor),
-        patch: component_if_written(written.patch),
-        pre: text_of_parts(written.pre),
-        build: text_of_parts(written.build),
-    }
 }
 
 /// Returns a component that was read, if it is written.
@@ -213,21 +209,5 @@ fn component(read: partial::Component) -> Component {
     match read {
         partial::Component::Number(number) => Component::Number(number.unwrap_or(u64::MAX)),
         partial::Component::Wildcard(byte) => Component::Wildcard(char::from(byte)),
-    }
-}
-
-/// Returns the version after a hyphen, if what follows a version continues with one, and what is
-/// left after it, after the blanks, or after a comma.
-fn read_upper(text: &[u8], grammar: Grammar, len: usize) -> (Option<PartialVersion<'_>>, &[u8]) {
-    let gap = after_blanks(text, grammar);
-    if let Some(others) = strip_mark(gap, b',') {
-        return (None, others);
-    }
-    let Some(right) = strip_mark(gap, b'-') else {
-        return (None, gap);
-    };
-    match read_version(after_blanks(right, grammar), grammar, len) {
-        Some((version, rest)) => (Some(version), rest),
-        None => (None, gap),
     }
 }

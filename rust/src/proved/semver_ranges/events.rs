@@ -1,15 +1,13 @@
 // Made by tools/erase.py from crates/semver_ranges/src/events.rt; not edited by hand.
-//! The events of a range string, from left to right.
-//!
-//! Nothing here allocates, and a call looks at each byte a fixed number of times.
+//! The events of a range string, in plain terms: each term has one version, and the two sides of a
+//! hyphen range are terms of their own. Nothing here allocates.
 
 use crate::rattle_std::prelude::*;
-use crate::proved::semver_ranges::grammar::{
-    Form, Simple, after_bars, after_blanks, ends_range, read_right_side, read_simple,
-};
+use crate::proved::semver_ranges::cursor::{self, Cursor};
+use crate::proved::semver_ranges::grammar::{Form, Simple};
 use crate::proved::semver_ranges::partial::{LowerBounds, Partial};
 use crate::proved::semver_ranges::range_set::RangeError;
-use crate::proved::semver_texts::dotted::strip_mark;
+use crate::proved::semver_ranges::term::RawTerm;
 use crate::proved::semver_texts::grammar::Grammar;
 
 /// The next part of a range string.
@@ -23,10 +21,10 @@ pub enum Event<'input> {
 }
 
 /// A cursor over a range string that returns its events.
-#[derive(Clone, Copy)]
+#[derive(Clone, Copy, Debug)]
 pub struct Events<'input> {
-    rest: &'input [u8],
-    begins_range: bool,
+    cursor: Cursor<'input>,
+    /// The right side of a hyphen range, if it comes next.
     upper: Option<Simple<'input>>,
     lower: LowerBounds,
 }
@@ -37,8 +35,7 @@ impl<'input> Events<'input> {
     #[inline(always)]
     pub fn new(text: &'input [u8], grammar: Grammar, lower: LowerBounds) -> Events<'input> {
         Events {
-            rest: after_blanks(text, grammar),
-            begins_range: true,
+            cursor: Cursor::new(text, grammar),
             upper: None,
             lower,
         }
@@ -52,83 +49,53 @@ impl<'input> Events<'input> {
             self.upper = None;
             return Some(Ok(Event::Simple(upper)));
         }
-        if !self.begins_range && self.rest.is_empty() {
-            return None;
-        }
-        match self.read_event(grammar) {
-            Some(event) => Some(Ok(event)),
-            None => {
-                self.rest = &[];
-                Some(Err(RangeError::NotARange))
+        match self.cursor.next_in(grammar)? {
+            Ok(event) => {
+                let (event, upper) = view(&event, self.lower);
+                self.upper = upper;
+                Some(Ok(event))
             }
+            Err(error) => Some(Err(error)),
         }
     }
 
-    /// Returns the event at the beginning of the rest, and moves after it. It returns `None` if the
-    /// rest isn't in the grammar.
+    /// Returns the next term as it is written, like the cursor that this one reads with.
     #[inline(always)]
-    fn read_event(&mut self, grammar: Grammar) -> Option<Event<'input>> {
-        let begins_range = self.begins_range;
-        self.begins_range = false;
-        if !ends_range(self.rest) {
-            return self.read_in_range(begins_range, grammar);
-        }
-        if !begins_range {
-            return self.read_bars(grammar);
-        }
-        Some(Event::Simple(Simple::wildcard()))
-    }
-
-    /// Returns the event of two bars, and moves after them.
-    #[inline(always)]
-    fn read_bars(&mut self, grammar: Grammar) -> Option<Event<'input>> {
-        self.rest = after_blanks(after_bars(self.rest)?, grammar);
-        self.begins_range = true;
-        Some(Event::NextRange)
-    }
-
-    /// Returns the event of a term, and moves after it. At the beginning of a range this may be a
-    /// hyphen range, whose two sides are separate events.
-    #[inline(always)]
-    fn read_in_range(&mut self, begins_range: bool, grammar: Grammar) -> Option<Event<'input>> {
-        let (simple, rest) = read_simple(self.rest, grammar)?;
-        match strip_mark(rest, b'-') {
-            Some(after) if begins_range => self.read_sides(simple, after, grammar),
-            _ => {
-                self.rest = rest;
-                Some(Event::Simple(simple))
-            }
-        }
-    }
-
-    /// Moves after a hyphen range, whose left side and hyphen were read.
-    #[inline(always)]
-    fn read_sides(
+    pub fn next_term(
         &mut self,
-        left: Simple<'input>,
-        after: &'input [u8],
         grammar: Grammar,
-    ) -> Option<Event<'input>> {
-        let (lower, upper, rest) = read_hyphen_range(left, after, grammar, self.lower)?;
-        self.rest = rest;
-        self.upper = upper;
-        Some(Event::Simple(lower))
+    ) -> Option<Result<cursor::Event<'input>, RangeError>> {
+        self.cursor.next_in(grammar)
     }
 }
 
-/// Returns the two terms of a hyphen range, whose left side has to be bare, and what follows it.
-fn read_hyphen_range<'input>(
-    left: Simple<'input>,
-    after: &'input [u8],
-    grammar: Grammar,
+/// Returns an event in plain terms, and the right side of a hyphen range, if it comes next.
+#[inline(always)]
+fn view<'input>(
+    event: &cursor::Event<'input>,
     lower: LowerBounds,
-) -> Option<(Simple<'input>, Option<Simple<'input>>, &'input [u8])> {
-    let Form::Bare = left.form else {
-        return None;
-    };
-    let (right, rest) = read_right_side(after, grammar)?;
-    let (lower, upper) = sides(left.partial, right, lower);
-    Some((lower, upper, rest))
+) -> (Event<'input>, Option<Simple<'input>>) {
+    match event {
+        cursor::Event::Term(term) => {
+            let (first, upper) = simples(term, lower);
+            (Event::Simple(first), upper)
+        }
+        cursor::Event::EmptyRange => (Event::Simple(Simple::wildcard()), None),
+        cursor::Event::NextRange => (Event::NextRange, None),
+    }
+}
+
+/// Returns a term in plain terms: the one, or the two sides of a hyphen range.
+#[inline(always)]
+fn simples<'input>(
+    term: &RawTerm<'input>,
+    lower: LowerBounds,
+) -> (Simple<'input>, Option<Simple<'input>>) {
+    let simple = term.simple();
+    match &term.upper {
+        Some(upper) => sides(simple.partial, Partial::of(&upper.components), lower),
+        None => (simple, None),
+    }
 }
 
 /// Returns the terms of the two sides of a hyphen range. A side without a number is left out,

@@ -7,6 +7,7 @@
 use crate::rattle_std::prelude::*;
 use crate::proved::semver_ranges::npm_lengths::is_short_word;
 use crate::proved::semver_ranges::partial::{Component, Components, Partial};
+use crate::proved::semver_ranges::term::{RawTerm, RawVersion};
 use crate::proved::semver_texts::decimals;
 use crate::proved::semver_texts::dotted::{Hyphens, have_no_leading_zeros, marked_part, strip_mark};
 use crate::proved::semver_texts::grammar::Grammar;
@@ -14,7 +15,7 @@ use crate::proved::semver_texts::npm_limits::MAX_SAFE_BUILD_LENGTH;
 use crate::proved::semver_texts::white_space::is_ascii_white_space;
 
 /// The operator before a partial, if there is one.
-#[derive(Clone, Copy)]
+#[derive(Clone, Copy, Debug)]
 pub enum Form {
     /// No operator.
     Bare,
@@ -44,7 +45,7 @@ pub(crate) enum Role {
 }
 
 /// A partial and its operator.
-#[derive(Clone, Copy)]
+#[derive(Clone, Copy, Debug)]
 pub struct Simple<'input> {
     /// The operator.
     pub form: Form,
@@ -73,11 +74,11 @@ impl<'input> Simple<'input> {
 /// Returns the right side of a hyphen range, which follows the hyphen and ends with the range, and
 /// what follows it.
 #[inline(always)]
-pub(crate) fn read_right_side(after: &[u8], grammar: Grammar) -> Option<(Partial<'_>, &[u8])> {
+pub(crate) fn read_right_side(after: &[u8], grammar: Grammar) -> Option<(RawVersion<'_>, &[u8])> {
     let text = after_blank(after, grammar)?;
     let text = after_blanks(text, grammar);
-    let (right, rest) = read_partial(text, grammar, Role::AfterHyphen)?;
-    let rest = after_blanks(rest, grammar);
+    let right = read_version(text, grammar, Role::AfterHyphen)?;
+    let rest = after_blanks(right.after, grammar);
     if ends_range(rest) {
         Some((right, rest))
     } else {
@@ -86,12 +87,18 @@ pub(crate) fn read_right_side(after: &[u8], grammar: Grammar) -> Option<(Partial
 }
 
 /// Returns the term at the beginning of a string, and what follows it and the blanks after it. It
-/// returns `None` if there is no term.
+/// returns `None` if there is no term. It doesn't look for the right side of a hyphen range.
 #[inline(always)]
-pub(crate) fn read_simple(text: &[u8], grammar: Grammar) -> Option<(Simple<'_>, &[u8])> {
-    let (form, rest) = read_operator(text, grammar);
-    let (partial, rest) = read_partial(rest, grammar, Role::AfterForm(form))?;
-    Some((Simple { form, partial }, after_blanks(rest, grammar)))
+pub(crate) fn read_term(text: &[u8], grammar: Grammar) -> Option<(RawTerm<'_>, &[u8])> {
+    let (form, word) = read_operator(text, grammar);
+    let version = read_version(word, grammar, Role::AfterForm(form))?;
+    let term = RawTerm {
+        from: text,
+        form,
+        version,
+        upper: None,
+    };
+    Some((term, after_blanks(version.after, grammar)))
 }
 
 /// Returns the operator at the beginning of a string, and what follows it and its blanks.
@@ -111,12 +118,16 @@ pub fn read_operator(text: &[u8], grammar: Grammar) -> (Form, &[u8]) {
     (form, after_blanks(rest, grammar))
 }
 
-/// Returns the partial at the beginning of a string, which ends with its word, and what follows it.
+/// Returns the version at the beginning of a string, which ends with its word.
 #[inline(always)]
-fn read_partial(text: &[u8], grammar: Grammar, role: Role) -> Option<(Partial<'_>, &[u8])> {
-    let (written, rest) = read_components(after_v(text, grammar))?;
-    if ends_word(rest, grammar) && takes(text, rest, &written, grammar, role) {
-        Some((Partial::of(&written), rest))
+fn read_version(text: &[u8], grammar: Grammar, role: Role) -> Option<RawVersion<'_>> {
+    let (components, after) = read_components(after_v(text, grammar))?;
+    if ends_word(after, grammar) && takes(text, after, &components, grammar, role) {
+        Some(RawVersion {
+            from: text,
+            after,
+            components,
+        })
     } else {
         None
     }
@@ -124,7 +135,7 @@ fn read_partial(text: &[u8], grammar: Grammar, role: Role) -> Option<(Partial<'_
 
 /// Returns what follows one `v`, which only npm allows.
 #[inline(always)]
-pub fn after_v(text: &[u8], grammar: Grammar) -> &[u8] {
+pub(crate) fn after_v(text: &[u8], grammar: Grammar) -> &[u8] {
     match (grammar, text) {
         (Grammar::Npm, [b'v', rest @ ..]) => rest,
         _ => text,
@@ -271,7 +282,7 @@ fn after_blank(text: &[u8], grammar: Grammar) -> Option<&[u8]> {
 
 /// Returns what follows two bars, if the string begins with them.
 #[inline(always)]
-pub fn after_bars(text: &[u8]) -> Option<&[u8]> {
+pub(crate) fn after_bars(text: &[u8]) -> Option<&[u8]> {
     match text {
         [b'|', b'|', rest @ ..] => Some(rest),
         _ => None,

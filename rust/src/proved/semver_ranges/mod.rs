@@ -1,15 +1,16 @@
 // Made by tools/erase.py from crates/semver_ranges/src/lib.rt; not edited by hand.
 //! Range strings as plain data: a `RangeSet` of plain comparators.
 //!
-//! Hints for speed: the functions that read a byte of most strings, and the table, are
-//! `inline(always)`, with one copy for each loop, so what they read stays in registers. Without the
-//! hints in one of `grammar`, `partial`, `desugaring` and `events`, range sets took 13 to 27 % more
-//! instructions, and single terms up to 20 %. Functions that few strings need are `inline(never)`,
-//! since they would make those copies larger: for reading pre-releases this was 1 %. Other hints
-//! made no difference, so there are none.
+//! Hints for speed: the functions that read a byte of most strings, those that make a term, and the
+//! table, are `inline(always)`, with one copy for each loop, so what they read stays in registers.
+//! Without the hints in one of `grammar`, `partial`, `desugaring` and `events`, range sets took 13
+//! to 27 % more instructions, and single terms up to 20 %. Functions that few strings need are
+//! `inline(never)`, since they would make those copies larger: for reading pre-releases this was
+//! 1 %. Other hints made no difference, so there are none.
 
 use crate::rattle_std::prelude::*;
 pub mod comparing;
+pub mod cursor;
 mod desugared_texts;
 mod desugaring;
 pub mod events;
@@ -18,6 +19,7 @@ mod npm_lengths;
 pub mod partial;
 mod range;
 mod range_set;
+pub mod term;
 
 pub use range::{Comparator, Compat, Identifier, Op, Range};
 pub use range_set::{RangeError, RangeSet};

@@ -31,7 +31,7 @@ pub struct Components<'input> {
 }
 
 /// The number of numbers in a partial.
-#[derive(Clone, Copy)]
+#[derive(Clone, Copy, Debug)]
 pub enum PartialKind {
     /// None: it begins with a wildcard.
     XRangeOnly,
@@ -61,7 +61,7 @@ pub enum RaisedBounds {
 }
 
 /// How a lower bound that begins with a partial is written.
-#[derive(Clone, Copy)]
+#[derive(Clone, Copy, Debug)]
 pub enum LowerBounds {
     /// As it is in the string, such as `>=1.2.0`.
     Stated,
@@ -71,7 +71,7 @@ pub enum LowerBounds {
 
 /// The numbers of a partial, with zeros for the missing ones, and its pre-release after three
 /// numbers, as a slice of the string.
-#[derive(Clone, Copy)]
+#[derive(Clone, Copy, Debug)]
 pub struct Partial<'input> {
     major: u64,
     minor: u64,

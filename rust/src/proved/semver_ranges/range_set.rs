@@ -4,7 +4,7 @@
 use crate::rattle_std::prelude::*;
 use crate::proved::semver_ranges::desugared_texts::read_in_two_runs;
 use crate::proved::semver_ranges::desugaring::{Desugared, rewritten};
-use crate::proved::semver_ranges::grammar::read_simple;
+use crate::proved::semver_ranges::grammar::read_term;
 use crate::proved::semver_ranges::partial::{Partial, RaisedBounds};
 use crate::proved::semver_ranges::range::{Compat, Range};
 use crate::proved::semver_texts::grammar::Grammar;
@@ -184,10 +184,11 @@ fn read_only_simple(text: &[u8], compat: Compat) -> Option<(Partial<'_>, Desugar
     if text.len() > LONGEST_ONLY_SIMPLE {
         return None;
     }
-    let (simple, rest) = read_simple(text, Grammar::Crate)?;
+    let (term, rest) = read_term(text, Grammar::Crate)?;
     if !rest.is_empty() {
         return None;
     }
+    let simple = term.simple();
     let bounds = rewritten(&simple, compat);
     if bounds.fits(&simple.partial) {
         Some((simple.partial, bounds))

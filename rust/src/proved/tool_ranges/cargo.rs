@@ -6,7 +6,7 @@ mod grammar;
 
 use crate::proved::tool_ranges::dialect::Dialect;
 use crate::proved::tool_ranges::printing;
-pub(crate) use grammar::{has_wildcard, named, read_comparator};
+pub(crate) use grammar::{begins_with_wildcard, has_wildcard, named, read_comparator, simple_of};
 use crate::proved::semver_ranges::partial::LowerBounds;
 use crate::proved::semver_ranges::{Compat, RangeError, RangeSet};
 

@@ -5,7 +5,7 @@
 use crate::rattle_std::prelude::*;
 pub mod cargo;
 mod checked;
-mod cursor;
+pub mod cursor;
 pub mod dialect;
 pub mod highest;
 mod matching;

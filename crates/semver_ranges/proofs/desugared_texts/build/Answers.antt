@@ -13,14 +13,14 @@ pub push-requires : goal.push-requires
 push-requires c =
     let so_far = c.loop-event.invariant in
     let first = next_simple Crate so_far.1 c.in-Simple.simple c.next_in.new.self
-    (rw (c.in-Ok.is, c.in-Simple.is) at (c.in-Some.ensures.gives.0 _ so_far.3)) in
+    (rw (c.in-Ok.is, c.in-Simple.is) at (c.in-Some.ensures.gives _ so_far.3)) in
     (first.s, first.is, (and_parts _ _ (rw first.whole at so_far.4)).0)
 
 pub loop-event-preserved-in-Continue-branch-3 : goal.loop-event-preserved-in-Continue-branch-3
 loop-event-preserved-in-Continue-branch-3 c =
     let so_far = c.loop-event.invariant in
     let first = next_simple Crate so_far.1 c.in-Simple.simple c.next_in.new.self
-    (rw (c.in-Ok.is, c.in-Simple.is) at (c.in-Some.ensures.gives.0 _ so_far.3)) in
+    (rw (c.in-Ok.is, c.in-Simple.is) at (c.in-Some.ensures.gives _ so_far.3)) in
     let fit = and_parts _ _ (rw first.whole at so_far.4) in (
       so_far.0,
       first.after,
@@ -35,7 +35,7 @@ loop-event-preserved-in-Continue-branch-3 c =
 pub loop-event-preserved : goal.loop-event-preserved
 loop-event-preserved c =
     let so_far = c.loop-event.invariant in
-    let next = next_bars Crate so_far.1 c.next_in.new.self (rw (c.in-Ok.is, c.in-NextRange.is) at (c.in-Some.ensures.gives.0 _ so_far.3)) in (
+    let next = next_bars Crate so_far.1 c.next_in.new.self (rw (c.in-Ok.is, c.in-NextRange.is) at (c.in-Some.ensures.gives _ so_far.3)) in (
       so_far.0,
       next.0,
       so_far.2,
@@ -48,7 +48,7 @@ loop-event-preserved c =
 pub returns : goal.returns
 returns c = λ es is.
     let so_far = c.loop-event.invariant in
-    let end = c.in_default.ensures.gives.0 _ so_far.3 in
+    let end = c.in_default.ensures.gives _ so_far.3 in
     let none_left : so_far.1 ≡ [] = cc end.0 in
     let same : so_far.0 ≡ es = cc so_far.2 in
     rw (c.in_ok-push.ensures.items, map_push) (rw none_left at so_far.5 ∙ rw same)

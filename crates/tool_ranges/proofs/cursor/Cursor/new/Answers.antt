@@ -1,51 +1,53 @@
-use Rattle.std.proofs.Common.{true, ◌≤◌, ◌+◌, ◌*◌, refl, sym, ◌∙◌, subst, arith, length, inl, inr}
+use Rattle.std.proofs.Common.{◌≡◌, true, ◌≤◌, ◌+◌, ◌*◌, refl, sym, ◌∙◌, subst, arith, length}
+use Rattle.std.specs.List.{list_all}
 use Rattle.std.specs.Prelude.{is_some}
+use Rattle.std.specs.Str.{chars}
 use Rattle.semver_texts.specs.Texts.{Text}
-use Rattle.semver_texts.specs.declared.grammar.Grammar.TheVariants.{Crate, Npm}
+use Rattle.semver_texts.specs.declared.grammar.Grammar.TheVariants as grammar
+use Rattle.semver_ranges.specs.RangeTree.{is_blank}
 use Rattle.semver_ranges.specs.declared.events.Events.{Events}
+use Rattle.semver_ranges.specs.declared.partial.LowerBounds.{LowerBounds}
 use Rattle.semver_ranges.specs.Steps.CursorViews.{HasLeft, size_left}
-use Rattle.semver_ranges.specs.Steps.Reading.{read}
+use Rattle.semver_ranges.specs.Steps.Reading.{after_blanks, read}
 use Rattle.semver_ranges.proofs.FoundEvents.{flag_small}
+use Rattle.semver_ranges.proofs.ReadingSteps.{back_shorter}
+use Rattle.semver_texts.specs.declared.grammar.Grammar.{Grammar}
+use Rattle.tool_ranges.specs.Dialects.{grammar_of}
+use Rattle.tool_ranges.specs.NpmGrammar.{may_stand}
+use Rattle.tool_ranges.specs.declared.cursor.Cursor.{Cursor}
+use Rattle.tool_ranges.specs.declared.cursor.Cursor.TheVariants.{Requirement, Ranges}
+use Rattle.tool_ranges.specs.declared.dialect.Dialect.{Dialect}
+use Rattle.tool_ranges.specs.declared.dialect.Dialect.TheVariants.{Cargo, Npm, CrateCargo, CrateNpm}
+use Rattle.tool_ranges.specs.Steps.Cursors.{HasLeftIn, IsBegun, comparators_from, size_of, text_events}
 use Rattle.tool_ranges.proofs.Comparators.{requirement_events, same_events}
 use Rattle.tool_ranges.proofs.cursor.Cursor.new.Goals as goal
-use Rattle.tool_ranges.specs.Steps.Cursors.{comparators_from}
+use Rattle.tool_ranges.proofs.cursor.Cursor.new.Goals.{in_default-via-in-Npm+else-not-may_stand, in_default-via-in_default}
 
-small : (events : Events) (t : Text) → length events.rest.now ≤ length t → size_left events ≤ 2 * length t + 34
-small events t short =
-    let begins = flag_small events.begins_range in
+small : (d : Grammar) (events : Events) (t : Text) → events.cursor.rest.now ≡ after_blanks d t → size_left events ≤ 2 * length t + 34
+small d events t rest =
+    let short : length events.cursor.rest.now ≤ length t = rw rest (back_shorter (is_blank d) t) in
+    let begins = flag_small events.cursor.begins_range in
     let upper = flag_small (is_some events.upper) in
     omega (arith, short, begins, upper)
 
-pub returns-then-not-may_stand : goal.returns-then-not-may_stand
-returns-then-not-may_stand c = (refl, rw c.in-Npm.is (rw (sym c.may_stand.ensures ∙ c.if-not-may_stand.true) refl))
+begun_left : (dialect : Dialect) (lower : LowerBounds) (t : Text) (cursor : Cursor) → (dialect ≡ Npm → list_all may_stand (chars t) ≡ true)
+    → IsBegun dialect lower t cursor
+    → HasLeftIn (grammar_of dialect) cursor (text_events lower dialect t) × (size_of cursor ≤ 2 * length t + 34)
+begun_left Cargo lower t (Requirement c) may (more, first, rest, some, same) =
+    rw (more, first, some, same) (requirement_events lower (comparators_from 32 true t), omega arith)
+begun_left Cargo lower t (Ranges events) may is = absurd is
+begun_left Npm lower t (Requirement c) may is = absurd is
+begun_left Npm lower t (Ranges events) may is =
+    (rw (may refl) (subst (HasLeft grammar.Npm events) (same_events lower (read grammar.Npm t)) is.0), small grammar.Npm events t is.2)
+begun_left CrateCargo lower t (Requirement c) may is = absurd is
+begun_left CrateCargo lower t (Ranges events) may is =
+    (subst (HasLeft grammar.Crate events) (same_events lower (read grammar.Crate t)) is.0, small grammar.Crate events t is.2)
+begun_left CrateNpm lower t (Requirement c) may is = absurd is
+begun_left CrateNpm lower t (Ranges events) may is =
+    (subst (HasLeft grammar.Crate events) (same_events lower (read grammar.Crate t)) is.0, small grammar.Crate events t is.2)
 
-pub returns-in-Cargo : goal.returns-in-Cargo
-returns-in-Cargo c = (
-  rw c.in-Cargo.is (rw c.as_bytes-bytes.ensures.value (requirement_events c.args.lower (comparators_from 32 true c.args.text.now))),
-  omega arith,
-)
-
-pub returns-else-not-may_stand : goal.returns-else-not-may_stand
-returns-else-not-may_stand c =
-    let t = c.args.text.now in
-    let same = c.as_bytes-bytes.ensures.value in
-    let all = rw same at c.new.ensures.all in
-    let short = rw same at c.new.ensures.short in (
-      rw c.in-Npm.is (rw (sym c.may_stand.ensures ∙ c.if-not-may_stand.false)
-          (subst (HasLeft Npm c.new.result) (same_events c.args.lower (read Npm t)) all)),
-      small c.new.result t short,
-    )
-
-pub returns-in-CrateCargo : goal.returns-in-CrateCargo
-returns-in-CrateCargo c =
-    let t = c.args.text.now in
-    let same = c.as_bytes-bytes.ensures.value in
-    let all = rw same at c.new-in-CrateCargo.ensures.all in
-    let short = rw same at c.new-in-CrateCargo.ensures.short in
-    let has = subst (HasLeft Crate c.new-in-CrateCargo.result) (same_events c.args.lower (read Crate t)) all in (
-      elim c.in-CrateCargo.is [
-        | inl e ↦ rw e has
-        | inr e ↦ rw e has
-      ],
-      small c.new-in-CrateCargo.result t short,
-    )
+pub returns-in_default : goal.returns-in_default
+returns-in_default c = begun_left c.args.dialect c.args.lower c.args.text.now c.begin.result (λ is. elim c.in_default.branch [
+  | in_default-via-in-Npm+else-not-may_stand w ↦ sym w.may_stand.ensures ∙ w.if-not-may_stand.false
+  | in_default-via-in_default w ↦ absurd (w.in_default.not-Npm is)
+]) c.begin.ensures

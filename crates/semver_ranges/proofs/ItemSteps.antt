@@ -1,0 +1,82 @@
+-- The items that are left of a text, without the count that bounds the recursion.
+use Rattle.std.proofs.Common.{◌≡◌, ℕ, zero, suc, ◌<◌, ◌≤◌, ◌*◌, Bool, true, false, List, [], ◌∷◌, length, refl, ap, ◌∙◌, ◌&&◌}
+use Rattle.std.proofs.Common.{Option, Some, None, arith, if◌then◌else◌}
+use Rattle.std.specs.Prelude.{option_map}
+use Rattle.semver_texts.specs.Texts.{Text, begins_with}
+use Rattle.semver_texts.specs.declared.grammar.Grammar.{Grammar}
+use Rattle.semver_texts.proofs.Lists.{by_test}
+use Rattle.semver_ranges.specs.RangeTree.{RangeTree, Simple, after_form, is_blank}
+use Rattle.semver_ranges.specs.Steps.CursorViews.{size_at}
+use Rattle.semver_ranges.specs.Steps.Items.{FoundWord, Item, after_item, begins_after, empty_range, item, items_left, some_items, two_bars}
+use Rattle.semver_ranges.specs.Steps.Items.{upper_word, with_simple, with_upper, word_at}
+use Rattle.semver_ranges.specs.Steps.Reading.{after_bars, after_blanks, ends_range, operator, right_side, simple, with_right}
+use Rattle.semver_ranges.proofs.ReadingSteps.{back_shorter, shorter_bars, shorter_right, shorter_simple}
+
+-- if an item was found, what is left after it is smaller than `m`
+abbrev IsSmaller : ℕ → Option (Item × Text) → Type 0
+IsSmaller m None = Unit {0}
+IsSmaller m (Some found) = size_at (begins_after found.0) found.1 < m
+
+module _ (d : Grammar) where
+  bars_smaller : (t : Text) (o : Option Text) → after_bars t ≡ o
+      → IsSmaller (size_at false t) (option_map (λ u. (two_bars, after_blanks d u)) o)
+  bars_smaller t None e = tt
+  bars_smaller t (Some u) e =
+      let less = shorter_bars t u e in
+      let short = back_shorter (is_blank d) u in
+      omega (arith, less, short)
+
+  upper_smaller : (m : ℕ) (t u : Text) (v : FoundWord) (s : Simple) (o : Option (RangeTree × Text)) (w : Option FoundWord)
+      → with_right s (right_side d u) ≡ o → 2 * length u < m → IsSmaller m (with_upper t v o w)
+  upper_smaller m t u v s None w e h = tt
+  upper_smaller m t u v s (Some found) None e h = tt
+  upper_smaller m t u v s (Some (r, rest)) (Some w) e h = let short = shorter_right d s u rest r e in omega (arith, h, short)
+
+  simple_smaller : (begins : Bool) (t : Text) (o : Option (Simple × Text)) (w : Option FoundWord) → simple d t ≡ o
+      → IsSmaller (size_at begins t) (with_simple d begins t o w)
+  simple_smaller begins t None w e = tt
+  simple_smaller begins t (Some found) None e = tt
+  simple_smaller begins t (Some (s, u)) (Some w) e =
+      let less = shorter_simple d t u s e in
+      by_test (begins && begins_with 45 u)
+      (λ y. rw y (upper_smaller (size_at begins t) t u w s _ (upper_word d u) refl (omega (arith, less))))
+      (λ n. rw n (omega (arith, less)))
+
+  item_smaller : (begins : Bool) (t : Text) → IsSmaller (size_at begins t) (item d begins t)
+  item_smaller begins t = by_test (ends_range t)
+      (λ y. rw y (at_end begins))
+      (λ n. rw n (simple_smaller begins t (simple d t) (word_at d (after_form (operator d t).0) (operator d t).1) refl))
+    where
+      at_end : (begins : Bool)
+          → IsSmaller (size_at begins t) (if begins then Some (empty_range, t) else option_map (λ u. (two_bars, after_blanks d u)) (after_bars t))
+      at_end true = omega arith
+      at_end false = bars_smaller t (after_bars t) refl
+
+  same_others : (f g : Bool → Text → List Item) (m : ℕ) (o : Option (Item × Text))
+      → ((begins : Bool) (t : Text) → size_at begins t < m → f begins t ≡ g begins t)
+      → IsSmaller m o → after_item f o ≡ after_item g o
+  same_others f g m None same h = refl
+  same_others f g m (Some found) same h = ap (λ xs. found.0 ∷ xs) (same (begins_after found.0) found.1 h)
+
+  -- any count that is at least the size of the text gives the same items
+  same_count : (m m' : ℕ) (begins : Bool) (t : Text) → size_at begins t ≤ m → size_at begins t ≤ m'
+      → some_items d m begins t ≡ some_items d m' begins t
+  same_count zero zero begins t h h' = refl
+  same_count zero (suc m') true t h h' = absurd (omega (arith, h))
+  same_count zero (suc m') false [] h h' = refl
+  same_count zero (suc m') false (b ∷ t) h h' = absurd (omega (arith, h))
+  same_count (suc m) zero true t h h' = absurd (omega (arith, h'))
+  same_count (suc m) zero false [] h h' = refl
+  same_count (suc m) zero false (b ∷ t) h h' = absurd (omega (arith, h'))
+  same_count (suc m) (suc m') begins t h h' = same_others (some_items d m) (some_items d m') (size_at begins t) (item d begins t)
+      (λ b t' less. same_count m m' b t' (omega (arith, h, less)) (omega (arith, h', less)))
+      (item_smaller begins t)
+
+  -- the items that are left are the next one and those after it
+  pub left_next : (begins : Bool) (t : Text) (o : Option (Item × Text)) → item d begins t ≡ o
+      → items_left d begins t ≡ after_item (items_left d) o
+  left_next begins t o e = same_count (size_at begins t) (suc (size_at begins t)) begins t (omega arith) (omega arith)
+      ∙ same_others (some_items d (size_at begins t)) (items_left d) (size_at begins t) (item d begins t)
+      (λ b t' less. same_count (size_at begins t) (size_at b t') b t' (omega (arith, less)) (omega arith))
+      (item_smaller begins t)
+      ∙ ap (after_item (items_left d)) e
