@@ -17,7 +17,8 @@ FILES = {
     'rust/src/proved/mod.rs': '''// Made by tools/erase.py from crates.txt; not edited by hand.
 //! What is proved, as plain Rust: each crate of `crates/` without its contracts.
 #![allow(clippy::complexity, clippy::style, missing_docs, private_bounds, unused)]
-#![allow(clippy::large_const_arrays, clippy::manual_unwrap_or_default)]
+#![allow(clippy::large_const_arrays, clippy::large_enum_variant)]
+#![allow(clippy::manual_unwrap_or_default)]
 
 pub mod first;
 pub mod second;

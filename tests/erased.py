@@ -159,6 +159,8 @@ def plants(top):
         name, match = found[len(found) // 2]
         text = match.string[:match.start()] + match.expand(instead) + match.string[match.end():]
         yield what, name, {f'{base}/{name}': text}
+    # Without the only file of a crate, it's mod.rs that is rejected, since it names the crate.
+    name = next(name for name, _ in found[len(found) // 2:] if not name.endswith('/mod.rs'))
     yield 'a file removed', name, {f'{base}/{name}': None}
     yield 'a file added', 'planted.rs', {f'{base}/planted.rs': ''}
     yield 'a crate dropped', 'mod.rs', {
