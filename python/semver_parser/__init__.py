@@ -7,7 +7,7 @@
     >>> npm.highest(["1.3.0", "1.10.0", "2.0.0", "latest"], invalid="skip")
     '1.10.0'
     >>> str(compare_ranges("^1.2.0", ">=1.4.0", dialect="cargo").lost)
-    '>=1.2.0 <1.4.0'
+    '>=1.2.0, <1.4.0'
     >>> Version.parse("1.2.3-rc.1", dialect="cargo").pre
     ('rc', 1)
 

@@ -314,11 +314,16 @@ class Range(Printed):
 
     def __str__(self) -> str:
         """Returns the string that the range was made of. For a combined range, it returns the
-        releases, and then `pre-releases` and the pre-releases, if there are any. No dialect can
-        read that."""
+        releases in the syntax of the dialect, and then `pre-releases` and the pre-releases, if
+        there are any. This is for people; `to_requirement` returns a string that reads back.
+
+        >>> str(Range("^1.2", dialect="cargo") - Range("1.4", dialect="cargo"))
+        '>=1.2.0, <1.4.0'
+        """
         if isinstance(self._origin, str):
             return self._origin
-        releases, pre_releases = self.printed_releases, self.printed_pre_releases
+        both = self.printed_releases, self.printed_pre_releases
+        releases, pre_releases = map(self._in_dialect, both)
         if pre_releases == _NOTHING:
             return releases
         return f"{'' if releases == _NOTHING else releases + ', '}pre-releases {pre_releases}"
@@ -326,20 +331,16 @@ class Range(Printed):
     def __repr__(self) -> str:
         """Returns an expression for the range. If a combined range has none, it returns a
         description between `<` and `>`."""
-        string = str(self)
-        if self.string is None and self._dialect is Dialect.CARGO:
-            string = string.replace(" ", ", ")
-        if self.string is not None or self._is_range_of(string):
-            return f"Range({string!r}, {_options_text(self)})"
-        return f"<Range {str(self)!r}, {_options_text(self)}>"
+        string = self.to_requirement() if self.string is None else self.string
+        if string is None:
+            return f"<Range {str(self)!r}, {_options_text(self)}>"
+        return f"Range({string!r}, {_options_text(self)})"
 
-    def _is_range_of(self, string: str) -> bool:
-        """Returns whether a string has the same range with the same options."""
-        try:
-            made = Range(string, dialect=self._dialect, pre_releases=self._pre_releases)
-        except RangeError:
-            return False
-        return made == self
+    def _in_dialect(self, printed: str) -> str:
+        """Returns a range in npm's syntax in that of the dialect. Cargo's has commas."""
+        if self._dialect is not Dialect.CARGO:
+            return printed
+        return " || ".join(it.replace(" ", ", ") for it in printed.split(" || "))
 
     def __copy__(self) -> "Range":
         return self

@@ -220,6 +220,10 @@ class Printing(unittest.TestCase):
         self.assertEqual(str(one & one), "pre-releases =1.2.3-a")
         self.assertEqual(str(one - one), "<0.0.0-0")
         self.assertIsNone((one & one).string)
+        # The comparators of Cargo's dialect are separated by commas.
+        one, other = Range("^1.2.3-b", dialect="cargo"), Range("1.4.2", dialect="cargo")
+        self.assertEqual(str(one & one), ">=1.2.3, <2.0.0, pre-releases >=1.2.3-b, <1.2.3")
+        self.assertEqual(str(Range("*", dialect="cargo") - other), "<1.4.2 || >=2.0.0")
 
     def test_formats(self) -> None:
         one = Range("^1.2", dialect="npm")
@@ -258,8 +262,10 @@ class Printing(unittest.TestCase):
         one, other = Range("^1.2.0", dialect="cargo"), Range(">=1.4.0", dialect="cargo")
         self.assertEqual(repr(one & other), "Range('>=1.4.0, <2.0.0', dialect='cargo')")
         one = Range("=1.2.3-a", dialect="npm")
-        wanted = "<Range 'pre-releases =1.2.3-a', dialect='npm'>"
-        self.assertEqual(repr(one & one), wanted)
+        self.assertEqual(repr(one & one), "Range('=1.2.3-a', dialect='npm')")
+        one, other = Range("^1", dialect="cargo"), Range("=1.5.0", dialect="cargo")
+        wanted = "<Range '>=1.0.0, <1.5.0 || >=1.5.1, <2.0.0', dialect='cargo'>"
+        self.assertEqual(repr(one - other), wanted)
 
     def test_comparators(self) -> None:
         """The comparators of a combined range are those of its releases."""

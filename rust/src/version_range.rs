@@ -73,7 +73,7 @@ pub fn comparators(range: &str, dialect: Dialect) -> Result<RangeSet, Error> {
 /// let old = VersionRange::parse("^1.2", Dialect::Cargo)?;
 /// let new = VersionRange::parse(">=1.2.1, <1.9", Dialect::Cargo)?;
 /// assert!(new.is_subset(&old)? && old.contains("1.2.0")?);
-/// assert_eq!((&old - &new).to_string(), "=1.2.0 || >=1.9.0 <2.0.0");
+/// assert_eq!((&old - &new).to_string(), "=1.2.0 || >=1.9.0, <2.0.0");
 /// # Ok::<(), semver_parser::Error>(())
 /// ```
 #[derive(PartialEq, Eq)]
@@ -349,10 +349,15 @@ impl VersionRange {
 }
 
 impl Display for VersionRange {
-    /// Writes the range in npm's syntax. First come the releases that it contains, or `<0.0.0-0` if
+    /// Writes the range in the syntax of its dialect: a comma separates the comparators of Cargo's,
+    /// and a space those of the others. First come the releases that it contains, or `<0.0.0-0` if
     /// it contains no version. If it contains pre-releases, they follow after `, pre-releases `, as
     /// a range that is to be compared by precedence. If it contains only pre-releases, the first
     /// comma is missing.
+    ///
+    /// This is for people. It doesn't read back if the range contains pre-releases, or if there is
+    /// `||` in Cargo's dialect. To write a range into a manifest, use
+    /// [`to_requirement`](VersionRange::to_requirement).
     ///
     /// ```
     /// use semver_parser::{Dialect, VersionRange};
@@ -360,6 +365,9 @@ impl Display for VersionRange {
     /// let shown = |range| VersionRange::parse(range, Dialect::Npm).unwrap().to_string();
     /// assert_eq!(shown("1.2.0 || ~1.9"), "=1.2.0 || >=1.9.0 <1.10.0");
     /// assert_eq!(shown("^1.2.3-b"), ">=1.2.3 <2.0.0, pre-releases >=1.2.3-b <1.2.3");
+    /// let cargo = VersionRange::parse("1.2", Dialect::Cargo)?;
+    /// assert_eq!(cargo.to_string(), ">=1.2.0, <2.0.0");
+    /// # Ok::<(), semver_parser::Error>(())
     /// ```
     fn fmt(&self, f: &mut Formatter<'_>) -> fmt::Result {
         Display::fmt(&self.0, f)

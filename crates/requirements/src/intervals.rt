@@ -12,15 +12,6 @@ pub(crate) struct Interval<'set> {
     pub(crate) upper: Option<&'set Comparator>,
 }
 
-/// What separates the comparators of an interval.
-#[derive(Clone, Copy)]
-pub(crate) enum Joint {
-    /// A comma and a space.
-    Comma,
-    /// A space.
-    Space,
-}
-
 /// Returns the interval of a range.
 fn interval_of(range: &Range) -> Interval<'_> {
     let mut interval = Interval {
@@ -157,7 +148,7 @@ fn is_at_same_place(one: Option<&Comparator>, other: Option<&Comparator>) -> boo
 pub(crate) fn write(
     alloc: Global,
     all: &[Interval<'_>],
-    joint: Joint,
+    joint: &str,
 ) -> Result<String, AllocError> {
     let mut text = String::new(alloc);
     if all.is_empty() {
@@ -176,15 +167,12 @@ pub(crate) fn write(
 fn write_interval(
     text: &mut String,
     interval: &Interval<'_>,
-    joint: Joint,
+    joint: &str,
 ) -> Result<(), AllocError> {
     match (interval.lower, interval.upper) {
         (Some(lower), Some(upper)) => {
             write!(text, "{lower}")?;
-            text.push_str(match joint {
-                Joint::Comma => ", ",
-                Joint::Space => " ",
-            })?;
+            text.push_str(joint)?;
             if is_equal(interval.upper) {
                 text.push_str("<")?;
             }

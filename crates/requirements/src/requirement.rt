@@ -3,10 +3,9 @@
 ghost use Rattle.std.specs.Prelude.{◌≡◌, IfOk, IfSome, string_bytes, true};
 ghost use Rattle.requirements.specs.Requirements.{IsRequirementOf};
 
-use crate::intervals::{Interval, Joint, intervals, joined, paired, write};
+use crate::intervals::{Interval, intervals, joined, paired, write};
 use semver_ranges::{Range, RangeError};
 use std::alloc::{AllocError, Global};
-use tool_ranges::dialect::Dialect;
 use tool_ranges::version_range::VersionRange;
 
 /// What is tried, in this order.
@@ -77,15 +76,7 @@ fn written(
         Way::Paired => paired(alloc, releases, pre_releases)?,
         Way::Nothing => Vec::new(alloc),
     };
-    write(alloc, all.as_slice(), joint(range.meaning().dialect))
-}
-
-/// Returns what separates the comparators of an interval in a dialect.
-fn joint(dialect: Dialect) -> Joint {
-    match dialect {
-        Dialect::Cargo => Joint::Comma,
-        _ => Joint::Space,
-    }
+    write(alloc, all.as_slice(), range.meaning().dialect.joint())
 }
 
 /// Returns whether a string reads back as a range that contains the same versions.

@@ -19,6 +19,11 @@ name_of Npm = codes "npm"
 name_of CrateCargo = codes "crate-cargo"
 name_of CrateNpm = codes "crate-npm"
 
+-- what separates the comparators of an interval
+abbrev pub joint_of : Dialect → Text
+joint_of Cargo = codes ", "
+joint_of dialect = codes " "
+
 -- the highest number in a version or a range, also for a bound that is raised
 abbrev pub limit : Dialect → ℕ
 limit Npm = 2 ^ 53 - 1

@@ -10,7 +10,7 @@ ghost use Rattle.semver_ranges.specs.RangeViews.{set_of};
 ghost use Rattle.semver_ranges.specs.RewritingTable.{fits, rewritten};
 ghost use Rattle.tool_ranges.specs.Dialects.{IsRewrittenAs, RefusesAs, SpellsAs};
 ghost use Rattle.tool_ranges.specs.Dialects.{grammar_of, means_release, mode_of};
-ghost use Rattle.tool_ranges.specs.DialectTable.{name_of, number_of};
+ghost use Rattle.tool_ranges.specs.DialectTable.{joint_of, name_of, number_of};
 ghost use Rattle.tool_ranges.specs.declared.dialect.Dialect.{Dialect as SomeDialect};
 
 use crate::{cargo, npm};
@@ -102,6 +102,18 @@ impl Dialect {
             Dialect::Npm => "npm",
             Dialect::CrateCargo => "crate-cargo",
             Dialect::CrateNpm => "crate-npm",
+        }
+    }
+
+    // Determined by: equation.
+    /// Returns what separates the comparators of an interval when a range is printed.
+    #[must_use]
+    pub fn joint(self) -> &'static str
+        ensures { result.now ≡ joint_of self }
+    {
+        match self {
+            Dialect::Cargo => ", ",
+            Dialect::Npm | Dialect::CrateCargo | Dialect::CrateNpm => " ",
         }
     }
 }

@@ -33,7 +33,7 @@ use version_sets::{OperationError, VersionSet};
 ///
 /// let old = VersionRange::parse("^1.2", Dialect::Cargo)?;
 /// let new = VersionRange::parse(">=1.2.1, <1.9", Dialect::Cargo)?;
-/// assert_eq!((&old - &new).to_string(), "=1.2.0 || >=1.9.0 <2.0.0");
+/// assert_eq!((&old - &new).to_string(), "=1.2.0 || >=1.9.0, <2.0.0");
 /// assert_eq!(new.is_subset(&old), Ok(true));
 /// assert_eq!(old.contains("1.2.0"), Ok(true));
 /// # Ok::<(), semver_parser::Error>(())
@@ -217,10 +217,12 @@ impl VersionRange {
 impl fmt::Display for VersionRange {
     ghost use Rattle.std.specs.Prelude.{Some};
     ghost use Rattle.version_sets.specs.SetRanges.{kinds_text};
+    ghost use Rattle.tool_ranges.specs.DialectTable.{joint_of};
 
-    ghost output = { λ range. Some (kinds_text range.versions) };
+    ghost output = { λ range. Some (kinds_text (joint_of range.meaning.dialect) range.versions) };
 
-    /// Writes the range in npm's syntax. First come the releases that it contains, or `<0.0.0-0` if
+    /// Writes the range in the syntax of its dialect: a comma separates the comparators of Cargo's,
+    /// and a space those of the others. First come the releases that it contains, or `<0.0.0-0` if
     /// it contains no version. If it contains pre-releases, they follow after `, pre-releases `, as
     /// a range that is to be compared by precedence. If it contains only pre-releases, the first
     /// comma is missing. It does not allocate, and its only error is the writer's.
@@ -231,9 +233,11 @@ impl fmt::Display for VersionRange {
     /// let shown = |range| VersionRange::parse(range, Dialect::Npm).unwrap().to_string();
     /// assert_eq!(shown("1.2.0 || ~1.9"), "=1.2.0 || >=1.9.0 <1.10.0");
     /// assert_eq!(shown("^1.2.3-b"), ">=1.2.3 <2.0.0, pre-releases >=1.2.3-b <1.2.3");
+    /// let cargo = VersionRange::parse("1.2", Dialect::Cargo)?;
+    /// assert_eq!(cargo.to_string(), ">=1.2.0, <2.0.0");
+    /// # Ok::<(), semver_parser::Error>(())
     /// ```
     fn fmt<W: fmt::Write>(&self, f: &mut fmt::Formatter<W>) -> fmt::Result {
-        let versions = &self.versions;
-        write!(f, "{versions}")
+        self.versions.write_joined(f, self.meaning.dialect.joint())
     }
 }

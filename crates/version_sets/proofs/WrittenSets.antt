@@ -6,14 +6,13 @@ use Rattle.semver_texts.proofs.LargeNumbers.{number_numeral}
 use Rattle.semver_texts.proofs.Lists.{by_test}
 use Rattle.semver_texts.specs.Digits.{any_size, identifiers_by}
 use Rattle.semver_texts.specs.PrintedText.{identifier_text}
-use Rattle.semver_texts.specs.Texts.{is_empty, is_large, is_number}
+use Rattle.semver_texts.specs.Texts.{Text, is_empty, is_large, is_number, joined}
 use Rattle.semver_texts.specs.Versions.{IdentifierValue, numeric, alphanumeric}
 use Rattle.semver_texts.specs.declared.grammar.Digits.{Digits}
 use Rattle.semver_texts.specs.declared.grammar.Digits.TheVariants.{Kept, AnySize}
-use Rattle.semver_ranges.specs.PrintedRanges.{range_text, set_text}
 use Rattle.semver_ranges.specs.RewritingTable.{PlainRange}
 use Rattle.version_sets.specs.SetRanges.{is_whole, kinds_text, npm_set, pre_release_ranges}
-use Rattle.version_sets.specs.SetRanges.{ranges_text, release_ranges}
+use Rattle.version_sets.specs.SetRanges.{range_text_by, ranges_text_by, release_ranges}
 use Rattle.version_sets.specs.VersionSets.{SetValue}
 use Rattle.version_sets.specs.Steps.ComparatorRefs.{others_text}
 
@@ -38,21 +37,23 @@ le_refl : (n : ℕ) → n ≤ n
 le_refl n = omega arith
 
 -- the text of a set is that of its first range, and then that of each other range after ` || `
-pub first_and_others : (r : PlainRange) (rs : List PlainRange) → range_text r ++ others_text rs ≡ set_text (npm_set (r ∷ rs))
-first_and_others r rs =
-    ap (λ l. range_text r ++ others_text l) (sym (take_all (length rs) rs (le_refl (length rs))))
-    ∙ joined_all range_text (codes " || ") (r ∷ rs) r rs (length rs) refl (le_refl (length rs))
+pub first_and_others : (t : Text) (r : PlainRange) (rs : List PlainRange)
+    → range_text_by t r ++ others_text t rs ≡ joined (codes " || ") (map (range_text_by t) (r ∷ rs))
+first_and_others t r rs =
+    ap (λ l. range_text_by t r ++ others_text t l) (sym (take_all (length rs) rs (le_refl (length rs))))
+    ∙ joined_all (range_text_by t) (codes " || ") (r ∷ rs) r rs (length rs) refl (le_refl (length rs))
 
 -- if there is a range, and not just the one of every version of a kind, the text of the ranges is
 -- that of the set
-pub not_whole : (r : PlainRange) (rs : List PlainRange) → is_whole (r ∷ rs) ≡ false → set_text (npm_set (r ∷ rs)) ≡ ranges_text (npm_set (r ∷ rs))
-not_whole r rs e = sym (ap (λ w. cond w (codes "*") (set_text (npm_set (r ∷ rs)))) e)
+pub not_whole : (t : Text) (r : PlainRange) (rs : List PlainRange) → is_whole (r ∷ rs) ≡ false
+    → joined (codes " || ") (map (range_text_by t) (r ∷ rs)) ≡ ranges_text_by t (npm_set (r ∷ rs))
+not_whole t r rs e = sym (ap (λ w. cond w (codes "*") (joined (codes " || ") (map (range_text_by t) (r ∷ rs)))) e)
 
 -- the text of a set that has both releases and pre-releases
-pub both_kinds : (set : SetValue) → is_empty set.releases ≡ false → is_empty set.pre_releases ≡ false
-    → ranges_text (release_ranges set) ++ (codes ", pre-releases " ++ ranges_text (pre_release_ranges set)) ≡ kinds_text set
-both_kinds set e f =
-    let rs = ranges_text (release_ranges set) in
-    let ps = ranges_text (pre_release_ranges set) in
+pub both_kinds : (t : Text) (set : SetValue) → is_empty set.releases ≡ false → is_empty set.pre_releases ≡ false
+    → ranges_text_by t (release_ranges set) ++ (codes ", pre-releases " ++ ranges_text_by t (pre_release_ranges set)) ≡ kinds_text t set
+both_kinds t set e f =
+    let rs = ranges_text_by t (release_ranges set) in
+    let ps = ranges_text_by t (pre_release_ranges set) in
     sym (ap (λ b. cond b rs (cond (is_empty set.releases) (codes "pre-releases " ++ ps) (rs ++ (codes ", pre-releases " ++ ps)))) f
     ∙ ap (λ b. cond b (codes "pre-releases " ++ ps) (rs ++ (codes ", pre-releases " ++ ps))) e)

@@ -1,12 +1,12 @@
 -- The versions of one kind in a set as ranges of plain comparators, one for each interval, and the
 -- text of these ranges.
 use Rattle.std.specs.Prelude.{◌≡◌, ◌+◌, ◌==◌, Bool, true, false, ◌&&◌, if◌then◌else◌, IsTrue}
-use Rattle.std.specs.Prelude.{Option, Some, None, List, [], ◌∷◌, ◌++◌, codes, option_map}
+use Rattle.std.specs.Prelude.{Option, Some, None, List, [], ◌∷◌, ◌++◌, codes, map, option_map}
 use Rattle.std.specs.Ordering.{is_eq}
 use Rattle.semver_ranges.specs.declared.range.Op.{Op}
 use Rattle.semver_ranges.specs.declared.range.Op.TheVariants.{Lt, Gte, Eq}
 use Rattle.semver_ranges.specs.declared.range.Compat.TheVariants.{Npm}
-use Rattle.semver_texts.specs.Texts.{Text, is_empty}
+use Rattle.semver_texts.specs.Texts.{Text, is_empty, joined}
 use Rattle.semver_texts.specs.Versions.{IdentifierValue, numeric, PlainVersion}
 use Rattle.semver_texts.specs.Precedence.{precedence}
 use Rattle.semver_ranges.specs.Partials.{fits_u64}
@@ -14,7 +14,7 @@ use Rattle.semver_ranges.specs.RangeTree.{SetTree, Spells}
 use Rattle.semver_ranges.specs.RewritingTable.{PlainComparator, PlainRange, PlainSet, comparator}
 use Rattle.semver_ranges.specs.RewritingTable.{fits, rewritten}
 use Rattle.semver_ranges.specs.SatisfiedComparators.{meets_set}
-use Rattle.semver_ranges.specs.PrintedRanges.{set_text}
+use Rattle.semver_ranges.specs.PrintedRanges.{comparator_text, set_text}
 use Rattle.version_sets.specs.VersionSets.{SetValue, contains}
 
 -- the release right above a release, if there is one: 1.2.4 above 1.2.3, and none above the highest
@@ -138,15 +138,27 @@ ranges_text set =
     if is_empty set.ranges then codes "<0.0.0-0"
     else (if is_whole set.ranges then codes "*" else set_text set)
 
+-- the text of a range whose comparators are separated by a text: a space in npm's syntax
+abbrev pub range_text_by : Text → PlainRange → Text
+range_text_by joint range = joined joint (map comparator_text range.comparators)
+
+-- the text of ranges whose comparators are separated by a text
+abbrev pub ranges_text_by : Text → PlainSet → Text
+ranges_text_by joint set =
+    if is_empty set.ranges then codes "<0.0.0-0"
+    else (if is_whole set.ranges then codes "*"
+    else joined (codes " || ") (map (range_text_by joint) set.ranges))
+
 -- the text of a set: its releases, and if it has pre-releases, `, pre-releases ` and these. If it
--- has only pre-releases, the text begins with `pre-releases `
-abbrev pub kinds_text : SetValue → Text
-kinds_text set =
-    if is_empty set.pre_releases then ranges_text (release_ranges set)
+-- has only pre-releases, the text begins with `pre-releases `. Its comparators are separated by a
+-- text
+abbrev pub kinds_text : Text → SetValue → Text
+kinds_text joint set =
+    if is_empty set.pre_releases then ranges_text_by joint (release_ranges set)
     else (if is_empty set.releases
-    then codes "pre-releases " ++ ranges_text (pre_release_ranges set)
-    else (ranges_text (release_ranges set)
-    ++ (codes ", pre-releases " ++ ranges_text (pre_release_ranges set))))
+    then codes "pre-releases " ++ ranges_text_by joint (pre_release_ranges set)
+    else (ranges_text_by joint (release_ranges set)
+    ++ (codes ", pre-releases " ++ ranges_text_by joint (pre_release_ranges set))))
 
 -- the text is a range of the crate's npm mode, and a version of a kind satisfies its comparators if
 -- and only if the version is in the set

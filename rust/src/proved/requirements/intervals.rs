@@ -14,15 +14,6 @@ pub(crate) struct Interval<'set> {
     pub(crate) upper: Option<&'set Comparator>,
 }
 
-/// What separates the comparators of an interval.
-#[derive(Clone, Copy)]
-pub(crate) enum Joint {
-    /// A comma and a space.
-    Comma,
-    /// A space.
-    Space,
-}
-
 /// Returns the interval of a range.
 fn interval_of(range: &Range) -> Interval<'_> {
     let mut interval = Interval {
@@ -155,7 +146,7 @@ fn is_at_same_place(one: Option<&Comparator>, other: Option<&Comparator>) -> boo
 /// Writes intervals, with `||` between them. No interval is written as `<0.0.0-0`.
 pub(crate) fn write(
     all: &[Interval<'_>],
-    joint: Joint,
+    joint: &str,
 ) -> Result<String, AllocError> {
     let mut text = String::new();
     if all.is_empty() {
@@ -174,15 +165,12 @@ pub(crate) fn write(
 fn write_interval(
     text: &mut String,
     interval: &Interval<'_>,
-    joint: Joint,
+    joint: &str,
 ) -> Result<(), AllocError> {
     match (interval.lower, interval.upper) {
         (Some(lower), Some(upper)) => {
             write!(text, "{lower}")?;
-            text.fallible_push_str(match joint {
-                Joint::Comma => ", ",
-                Joint::Space => " ",
-            })?;
+            text.fallible_push_str(joint)?;
             if is_equal(interval.upper) {
                 text.fallible_push_str("<")?;
             }

@@ -2,10 +2,9 @@
 //! Writes a range as a requirement.
 
 use crate::rattle_std::prelude::*;
-use crate::proved::requirements::intervals::{Interval, Joint, intervals, joined, paired, write};
+use crate::proved::requirements::intervals::{Interval, intervals, joined, paired, write};
 use crate::proved::semver_ranges::{Range, RangeError};
 use crate::rattle_std::AllocError;
-use crate::proved::tool_ranges::dialect::Dialect;
 use crate::proved::tool_ranges::version_range::VersionRange;
 
 /// What is tried, in this order.
@@ -70,15 +69,7 @@ fn written(
         Way::Paired => paired(releases, pre_releases)?,
         Way::Nothing => Vec::new(),
     };
-    write(all.as_slice(), joint(range.meaning().dialect))
-}
-
-/// Returns what separates the comparators of an interval in a dialect.
-fn joint(dialect: Dialect) -> Joint {
-    match dialect {
-        Dialect::Cargo => Joint::Comma,
-        _ => Joint::Space,
-    }
+    write(all.as_slice(), range.meaning().dialect.joint())
 }
 
 /// Returns whether a string reads back as a range that contains the same versions.

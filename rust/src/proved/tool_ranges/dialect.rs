@@ -80,6 +80,15 @@ impl Dialect {
             Dialect::CrateNpm => "crate-npm",
         }
     }
+
+    /// Returns what separates the comparators of an interval when a range is printed.
+    #[must_use]
+    pub(crate) fn joint(self) -> &'static str {
+        match self {
+            Dialect::Cargo => ", ",
+            Dialect::Npm | Dialect::CrateCargo | Dialect::CrateNpm => " ",
+        }
+    }
 }
 
 /// Rewrites a range in a dialect into plain comparators with exact bounds.

@@ -18,41 +18,39 @@ impl fmt::Display for ComparatorRef<'_> {
     }
 }
 
-impl fmt::Display for IntervalComparators<'_> {
-    /// Writes the comparators with a space between them.
+impl fmt::Display for VersionSet {
+    /// Writes the set in npm's syntax, in which a space separates the comparators.
     fn fmt(&self, f: &mut fmt::Formatter<'_>) -> fmt::Result {
-        let first = &self.first;
-        match &self.second {
-            None => write!(f, "{first}"),
-            Some(second) => write!(f, "{first} {second}"),
-        }
+        self.write_joined(f, " ")
     }
 }
 
-impl fmt::Display for VersionSet {
-    /// Writes the set in npm's syntax. First come its releases as a range, or `<0.0.0-0` if the set
-    /// is empty. If it contains pre-releases, they follow after `, pre-releases `, as a range that
-    /// is to be compared by precedence. If it contains only pre-releases, the first comma is
-    /// missing. It does not allocate, and its only error is the writer's.
-    fn fmt(&self, f: &mut fmt::Formatter<'_>) -> fmt::Result {
+impl VersionSet {
+    /// Writes the set, with a string between the comparators of an interval. First come its releases
+    /// as a range, or `<0.0.0-0` if the set is empty. If it contains pre-releases, they follow after
+    /// `, pre-releases `, as a range that is to be compared by precedence. If it contains only
+    /// pre-releases, the first comma is missing. It does not allocate, and its only error is the
+    /// writer's.
+    pub fn write_joined(&self, f: &mut fmt::Formatter<'_>, joint: &str) -> fmt::Result {
         if self.pre_releases.is_empty() {
-            return write_ranges(f, &self.releases);
+            return write_ranges(f, &self.releases, joint);
         }
         if self.releases.is_empty() {
             f.write_str("pre-releases ")?;
-            return write_ranges(f, &self.pre_releases);
+            return write_ranges(f, &self.pre_releases, joint);
         }
-        write_ranges(f, &self.releases)?;
+        write_ranges(f, &self.releases, joint)?;
         f.write_str(", pre-releases ")?;
-        write_ranges(f, &self.pre_releases)
+        write_ranges(f, &self.pre_releases, joint)
     }
 }
 
-/// Writes the intervals of increasing boundaries as a range in npm mode, separated by ` || `: `*`
-/// if they contain all versions of the kind, and `<0.0.0-0` if they contain none.
+/// Writes the intervals of increasing boundaries, separated by ` || `: `*` if they contain all
+/// versions of the kind, and `<0.0.0-0` if they contain none.
 fn write_ranges<T: Boundary>(
     f: &mut fmt::Formatter<'_>,
     boundaries: &[T],
+    joint: &str,
 ) -> fmt::Result {
     if is_whole(boundaries) {
         return f.write_str("*");
@@ -60,21 +58,36 @@ fn write_ranges<T: Boundary>(
     let Some((first, others)) = first_interval(boundaries) else {
         return f.write_str("<0.0.0-0");
     };
-    write!(f, "{first}")?;
-    write_others(f, others)
+    write_interval(f, &first, joint)?;
+    write_others(f, others, joint)
 }
 
 /// Writes intervals, each after ` || `.
 fn write_others<T: Boundary>(
     f: &mut fmt::Formatter<'_>,
     boundaries: &[T],
+    joint: &str,
 ) -> fmt::Result {
     let mut left = boundaries;
     while let Some((next, others)) = first_interval(left) {
-        write!(f, " || {next}")?;
+        f.write_str(" || ")?;
+        write_interval(f, &next, joint)?;
         left = others;
     }
     Ok(())
+}
+
+/// Writes the comparators of an interval, with a string between them.
+fn write_interval(
+    f: &mut fmt::Formatter<'_>,
+    interval: &IntervalComparators<'_>,
+    joint: &str,
+) -> fmt::Result {
+    let first = &interval.first;
+    match &interval.second {
+        None => write!(f, "{first}"),
+        Some(second) => write!(f, "{first}{joint}{second}"),
+    }
 }
 
 /// Returns whether the intervals contain all versions of a kind. The last release of all has no

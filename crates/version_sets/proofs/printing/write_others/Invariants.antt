@@ -12,7 +12,7 @@ invariant-loop-next g l =
     let place = g.T.Boundary.place in
     let kind = g.T.Boundary.kind in
     IsPlainFormatter l.initial.f → (text : Text) × HasWritten g.W.Write.write_str_gives l.initial.f text l.f
-    × (text ++ others_text (intervals kind (map place l.left)) ≡ others_text (intervals kind (map place l.boundaries)))
+    × (text ++ others_text l.joint (intervals kind (map place l.left)) ≡ others_text l.joint (intervals kind (map place l.boundaries)))
 
 abbrev pub decreases-loop-next : goal.decreases-loop-next
 decreases-loop-next g l = length l.left
