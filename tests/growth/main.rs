@@ -20,7 +20,7 @@ use proved::release_filter::{LineOptions, Lines};
 use proved::semver_versions::version::read;
 use proved::tool_ranges::meaning;
 use semver_parser::filters::{filter_text, release_meets};
-use semver_parser::{comparators, satisfies, terms, version};
+use semver_parser::{comparators, satisfies, terms, upgrade, version};
 use semver_parser::{lexer::Lexer, parser::Parser};
 use semver_parser::{Compat, Dialect, RangeSet, Version, VersionRange, VersionRef};
 use shared::{explain_version, read_ref_in, version_at, PreReleases, Rules};
@@ -68,7 +68,7 @@ type Call<T> = (&'static str, fn(&str, T));
 type NamedCall = (String, Box<dyn Fn(&str)>);
 
 /// The calls in a dialect.
-const OF_DIALECT: [Call<Dialect>; 13] = [
+const OF_DIALECT: [Call<Dialect>; 16] = [
     ("Version::parse", |text, dialect| show(Version::parse(text, dialect))),
     ("explain_version", |text, dialect| {
         let not_utf8: Vec<u8> = text.bytes().map(|byte| byte ^ 0x80).collect();
@@ -101,6 +101,11 @@ const OF_DIALECT: [Call<Dialect>; 13] = [
     ("VersionRange::min_version", |text, dialect| {
         show(VersionRange::parse(text, dialect).map(|it| it.min_version()));
     }),
+    ("VersionRange::to_requirement", |text, dialect| {
+        show(VersionRange::parse(text, dialect).map(|it| it.to_requirement()));
+    }),
+    ("upgrade, a range", |text, dialect| show(upgrade(text, "99.1.2", dialect))),
+    ("upgrade, a version", |text, dialect| show(upgrade("~1.2", text, dialect))),
     ("terms", |text, dialect| show(terms(text, dialect).map(|it| it.map(black_box).count()))),
     ("version_at, with_version", |text, dialect| {
         let own = rules_of(dialect).dialect;
