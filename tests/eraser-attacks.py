@@ -73,7 +73,7 @@ def by_rows(each, work):
             file.write(text.replace(old, new))
         program = name.split('/')[0].removesuffix('_main').replace('_', '-')
     subprocess.run(['cargo', 'build', '--quiet', '--offline', '--bin', program, '--manifest-path',
-                    f'{work}/rust/Cargo.toml', '--target-dir', f'{work}/target'], check=True)
+                    f'{work}/rust/programs/Cargo.toml', '--target-dir', f'{work}/target'], check=True)
     done = subprocess.run([f'{TOP}/tests/runs.py', '--cargo', program,
                            f'{work}/target/debug/{program}'], capture_output=True, text=True,
                           check=False)
