@@ -60,7 +60,7 @@ KNOWN = {
     'Split as IntoIterator': 'into_iter', 'Split as Iterator': 'enumerate next',
     'Stderr as IsTerminal': 'is_terminal',
     'String': 'as_bytes as_str clear is_empty new truncate', 'String as Deref': 'deref',
-    'T as Fn': 'call', 'T as IntoIterator': 'into_iter', 'T as Iterator': 'next',
+    'T as Fn': 'call',
     'T as PartialOrd': 'ge', 'T as Read': 'read', 'T as Write': 'flush write write_all write_fmt',
     'TakeWhile as Iterator': 'count', 'Utf8Error': 'valid_up_to',
     # `extend` is from `fallible_vec!`, which has allocated.

@@ -35,17 +35,6 @@ const VERSIONS: [&[u8]; 7] = [
     b"1.2",
 ];
 
-/// The same versions as one string.
-const LIST: [&[u8]; 7] = [
-    b"0.1.0",
-    b"1.2.3-a.1",
-    b"1.2.3",
-    b"1.9.0",
-    b"2.0.0-0",
-    b"2.0.0",
-    b"1.2",
-];
-
 /// A range with which others are combined.
 const OTHER: &str = ">=1.2.3-a <1.9.0";
 
@@ -147,8 +136,8 @@ fn add_index(index: Option<usize>, sum: &mut Checksum) {
     }
 }
 
-/// Asks whether a range contains versions, which are given in each form, and finds the highest and
-/// the lowest one, in each dialect and by each rule.
+/// Asks whether a range contains versions, which are given in each form, in each dialect and by each
+/// rule.
 pub fn add_members(alloc: Global, bytes: &[u8], sum: &mut Checksum) -> io::Result<()> {
     let Ok(text) = str::from_utf8(bytes) else {
         return Ok(());
@@ -162,10 +151,6 @@ pub fn add_members(alloc: Global, bytes: &[u8], sum: &mut Checksum) -> io::Resul
             let Ok(range) = VersionRange::parse(alloc, text, meaning) else {
                 continue;
             };
-            for which in [Extreme::Highest, Extreme::Lowest] {
-                let found = range.extreme_index(which, &LIST).map(|at| LIST[at]);
-                sum.add_bytes(found.unwrap_or(b""));
-            }
             for version in VERSIONS {
                 add_member(alloc, &range, version, sum)?;
             }
