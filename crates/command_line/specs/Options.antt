@@ -1,8 +1,8 @@
 -- What the options for the dialect and for pre-releases mean.
 use Rattle.std.specs.Prelude.{◌≡◌, ◌⊎◌, ◌++◌, ⊤, Bool, true, false, if◌then◌else◌, codes}
 use Rattle.std.specs.Prelude.{Option, Some, None, Result, Ok, Err, MatchResult, string_bytes}
-use Rattle.std.specs.declared.io.kind.ErrorKind.{ErrorKind}
-use Rattle.std.specs.declared.io.kind.ErrorKind.TheVariants as kind
+use Rattle.std.specs.declared.io.ErrorKind.{ErrorKind}
+use Rattle.std.specs.declared.io.ErrorKind.TheVariants as kind
 use Rattle.semver_parser.specs.Texts.{Text}
 use Rattle.version_sets.specs.declared.PreReleases.{PreReleases}
 use Rattle.version_sets.specs.declared.PreReleases.TheVariants.{Excluded, ByDialect, Included}
