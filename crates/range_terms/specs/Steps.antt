@@ -1,5 +1,5 @@
--- A means of proof, which no public clause cites: the functions on lists that describe the iterator
--- of terms, from left to right.
+-- A means of proof, which only the view of `Terms` cites: the functions on lists that describe the
+-- iterator of terms, from left to right.
 use Prim.Native.Char.{code}
 use Rattle.std.specs.Iterator.{YieldsFirstBy}
 use Rattle.std.specs.Prelude.{ℕ, suc, ◌-◌, Option, Some, None, option_map, List, [], ◌∷◌}

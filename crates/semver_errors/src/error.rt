@@ -142,8 +142,8 @@ impl Error {
 
     // Determined by: equation.
     /// Returns the byte offset of the first character that isn't allowed there, or the length of
-    /// the string if something is missing at its end. If a number is too large, it is the offset
-    /// of the first such number.
+    /// the string if something is missing at its end. If a number is too large, or a bound that is
+    /// raised by one, it is the offset of that number.
     ///
     /// ```
     /// use semver_parser::Version;

@@ -225,7 +225,8 @@ impl fmt::Display for VersionRange {
     /// and a space those of the others. First come the releases that it contains, or `<0.0.0-0` if
     /// it contains no version. If it contains pre-releases, they follow after `, pre-releases `, as
     /// a range that is to be compared by precedence. If it contains only pre-releases, the first
-    /// comma is missing. It does not allocate, and its only error is the writer's.
+    /// comma is missing. Not every such string can be read again: Cargo has no `||`, for example.
+    /// It does not allocate, and its only error is the writer's.
     ///
     /// ```
     /// use semver_parser::{Dialect, VersionRange};
