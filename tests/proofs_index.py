@@ -57,7 +57,7 @@ files in `specs/`. Proofs import lemmas, which the tables name by their files in
 In the tables:
 
 - A star after a clause says that it cites `specs/Steps`. The files there describe what the code does step by step. They are a
-  means of proof between the crates, so no call for users has such a clause, except the views of `Lexer`, `VersionSet`,
+  means of proof between the crates, so no call for users has such a clause, except the views of `Lexer`, `VersionSet`, `VersionRef`,
   `Terms` and `Lines`.
 - `requires` marks a premise.
 - The word "one" stands for a premise or a clause without a name, which is the only one of the call.
