@@ -88,7 +88,7 @@ fi
 version() { dpkg-query --show --showformat '`${Package}` ${Version}' "$1"; }
 
 cd tools/bench
-cargo build --quiet --release --offline --manifest-path ../../rust/Cargo.toml --target-dir target/crate
+cargo build --quiet --release --offline --manifest-path ../../rust/programs/Cargo.toml --target-dir target/crate
 (cd ../.. && build_bench)
 case ${1-} in
 '' | seed)
