@@ -579,7 +579,7 @@ semver_parser_status semver_parser_replace_version(
  * and 2.3.4 give `^2.3`, and `~1.2 || ^2.0.0` and 3.1.0 give `~1.2 || ^2.0.0 || ^3.1.0`. The
  * string is null if the range has a version at or above the newer one, so nothing is ever lowered.
  * The terms after the last `||` are raised; operators, the number of components, wildcards, spaces
- * and lower bounds stay. The error of the version, whose index is 1, comes before that of the
+ * and lower bounds stay, except that a pre-release is written after three numbers. The error of the version, whose index is 1, comes before that of the
  * range. semver_parser_free frees the string. Errors: INVALID_VERSION, INVALID_RANGE,
  * NUMBER_TOO_LARGE, CANNOT_UPGRADE. */
 SEMVER_PARSER_CHECKED(4)
