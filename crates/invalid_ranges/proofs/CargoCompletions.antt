@@ -17,8 +17,8 @@ use Rattle.invalid_strings.proofs.Completions as prefixes
 use Rattle.invalid_strings.proofs.Cores.{Marked, marked_from, marked_to}
 use Rattle.invalid_strings.proofs.Leaves.{IsBuild, IsPre}
 use Rattle.invalid_strings.proofs.VersionPrefixes.{all_true, parts_from, parts_to}
-use Rattle.tool_ranges.specs.CargoGrammar.{SpellsComparator, SpellsComparators, SpellsRequirement}
-use Rattle.tool_ranges.specs.CargoGrammar.{is_of_cargo, is_every, is_one, is_partial_of_cargo, sign, stands_alone, wildcards_are_last}
+use Rattle.semver_ranges.specs.CargoGrammar.{SpellsComparator, SpellsComparators, SpellsRequirement}
+use Rattle.semver_ranges.specs.CargoGrammar.{is_of_cargo, is_every, is_one, is_partial_of_cargo, sign, stands_alone, wildcards_are_last}
 use Rattle.invalid_ranges.proofs.RangeLeaves.{blanks, blanks_append, closed, nothing, number_prefix, part, wildcard_prefix}
 use Rattle.invalid_ranges.proofs.PartialCompletions.{Partial, build_mark, cases, components_of_three, one_text, partial, pre_mark, spelled_one}
 use Rattle.invalid_ranges.proofs.PartialCompletions.{spelled_three, spelled_two, three_is, three_text, two_text}

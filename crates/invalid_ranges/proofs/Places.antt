@@ -15,7 +15,7 @@ use Rattle.invalid_strings.proofs.LongestPrefixes.{ascii_utf8}
 use Rattle.tool_ranges.specs.declared.dialect.Dialect.{Dialect}
 use Rattle.tool_ranges.specs.declared.dialect.Dialect.TheVariants.{Cargo, Npm}
 use Rattle.invalid_ranges.specs.Prefixes.{BeginsAs}
-use Rattle.tool_ranges.specs.CargoGrammar.{SpellsRequirement}
+use Rattle.semver_ranges.specs.CargoGrammar.{SpellsRequirement}
 use Rattle.tool_ranges.specs.Dialects.{IsTextAs}
 use Rattle.invalid_ranges.specs.Steps.Places.{range_completions}
 use Rattle.invalid_ranges.specs.TooLarge.{IsLimitOffset}

@@ -10,7 +10,7 @@ use Rattle.semver_ranges.specs.RangeTree.{AreBlanks, Form, Simple, bare, is_blan
 use Rattle.semver_ranges.specs.Steps.Reading.{after_blanks}
 use Rattle.semver_ranges.proofs.ReadingPieces.{component_word, is_word_byte, partial_starts, starts, starts-append}
 use Rattle.semver_ranges.proofs.WrittenPieces.{blanks_after, no_blank}
-use Rattle.tool_ranges.specs.CargoGrammar.{sign, SpellsComparator, SpellsComparators}
+use Rattle.semver_ranges.specs.CargoGrammar.{sign, SpellsComparator, SpellsComparators}
 use Rattle.tool_ranges.proofs.ComparatorReading.{bare_form, found_comparator, is_bare_form, signs_stop}
 use Rattle.tool_ranges.proofs.Comparators.{found_items}
 use Rattle.range_terms.specs.Steps.{terms_of, written_term}

@@ -6,10 +6,11 @@ use Rattle.std.proofs.lemmas.Bool.{and_from, and_parts, not_from_false}
 use Rattle.std.proofs.lemmas.List.Folds.{list_all-append}
 use Rattle.semver_texts.specs.Texts.{Text, begins_with}
 use Rattle.semver_texts.specs.declared.grammar.Grammar.{Grammar}
+use Rattle.semver_ranges.specs.CargoGrammar.{is_cargo}
 use Rattle.semver_ranges.specs.RangeTree.{AreBlanks, PartialTree, after_form, after_hyphen, bare, is_blank}
 use Rattle.semver_ranges.specs.RangeTree.{RangeTree, SetTree, Simple, empty, hyphen, simples}
 use Rattle.semver_ranges.specs.RangeTree.{SpellsSimple, SpellsSimples, SpellsRange, SpellsPadded, SpellsRangeIn, SpellsForm, SpellsWord}
-use Rattle.semver_ranges.specs.Steps.Items.{empty_range, item, items_left, one_term, two_bars, upper_word, word_at as found_at}
+use Rattle.semver_ranges.specs.Steps.FoundItems.{empty_range, item, items_left, one_term, two_bars, upper_word, word_at as found_at}
 use Rattle.semver_ranges.specs.Steps.Reading.{after_blanks, ends_range, ends_word, operator}
 use Rattle.semver_ranges.proofs.ReadingComplete.{blanks_end, end_no_hyphen, end_stops, gap_ends, right_read}
 use Rattle.semver_ranges.proofs.ReadingComplete.{simple_no_end, simple_no_hyphen, simple_starts, simple_stops, simples_start}
@@ -36,7 +37,7 @@ module _ (d : Grammar) where
       rw whole (simp append_assoc (no_blank d (l ++ (gap ++ (45 ∷ (gap' ++ (r ++ u)))))
       (starts-append is_word_byte l _ (word_starts d (after_form bare) left l spelled))))
 
-  module _ (n k : ℕ) where
+  module _ (ranges : is_cargo d ≡ false) (n k : ℕ) where
     -- a term that is followed by blanks, and then by text without a blank or a hyphen at its
     -- beginning
     simple_found : (o : ℕ) (begins : Bool) (s : Simple) (t gap u : Text) (spelled : SpellsSimple d s t) → AreBlanks d gap
@@ -61,6 +62,7 @@ module _ (d : Grammar) where
           }),
           u,
         ) = rw (
+          ranges,
           simple_no_end (t ++ rest) (simple_starts d s t rest here),
           simple_read d s t gap u here g ends stop,
           text,
@@ -130,6 +132,7 @@ module _ (d : Grammar) where
           }),
           u,
         ) = rw (
+          ranges,
           simple_no_end (l ++ (gap ++ after)) (simple_starts d s l (gap ++ after) here),
           simple_read d s l gap after here g.1 (gap_ends d gap after g) (not_from_false _ (no_blank_byte d 45 refl)),
           term_word s [] l (gap ++ after) refl spelled (gap_ends d gap after g),
@@ -148,7 +151,7 @@ module _ (d : Grammar) where
         let all : AreBlanks d (before ++ blanks) = list_all-append (is_blank d) before blanks ∙ and_from _ _ h b in
         let text : before ++ (t ++ (blanks ++ u)) ≡ (before ++ blanks) ++ u = rw spelled (sym (append_assoc before blanks u)) in
         let end : after_blanks d (before ++ (t ++ (blanks ++ u))) ≡ u = rw text (blanks_after d (before ++ blanks) u all (end_stops d u e)) in
-        rw end (ap (terms_of n k) (left_next d true u (Some (empty_range, u)) (rw e refl)))
+        rw end (ap (terms_of n k) (left_next d true u (Some (empty_range, u)) (rw (ranges, e) refl)))
     range_found o (hyphen left right) before t blanks u spelled h b e at_o =
         rw (blanks_after d before (t ++ (blanks ++ u)) h (hyphen_stops left right t (blanks ++ u) spelled))
         (hyphen_found o left right t blanks u spelled b e at_o)
@@ -166,18 +169,18 @@ module _ (d : Grammar) where
         rw text (range_found (o + length before) r before inner blanks u spelled h b e within)
 
   -- the terms of ranges that are separated by `||`
-  pub ranges_found : (n k o : ℕ) (tree : SetTree) (t : Text) (spelled : SpellsRangeIn d tree t) → n ≡ o + length t
+  pub ranges_found : is_cargo d ≡ false → (n k o : ℕ) (tree : SetTree) (t : Text) (spelled : SpellsRangeIn d tree t) → n ≡ o + length t
       → terms_of n k (items_left d true (after_blanks d t)) ≡ ranges_at d k o tree t spelled
-  ranges_found n k o [] t spelled h = absurd spelled
-  ranges_found n k o (r ∷ []) t spelled h =
+  ranges_found ranges n k o [] t spelled h = absurd spelled
+  ranges_found ranges n k o (r ∷ []) t spelled h =
       ap (λ t. terms_of n k (items_left d true (after_blanks d t))) (sym (append-nil t))
-      ∙ padded_found n k o r t [] spelled refl (rw append-nil h) ∙ append-nil _
-  ranges_found n k o (r ∷ next ∷ others) t (head, tail, spelled, more, whole) h =
+      ∙ padded_found ranges n k o r t [] spelled refl (rw append-nil h) ∙ append-nil _
+  ranges_found ranges n k o (r ∷ next ∷ others) t (head, tail, spelled, more, whole) h =
       let rest = 124 ∷ 124 ∷ tail in
       let text : t ≡ head ++ rest = whole ∙ append_assoc head (codes "||") tail in
       let within : n ≡ (o + length head + 2) + length tail = omega (arith, h, ap length text, length-append head rest) in
       ap (λ t. terms_of n k (items_left d true (after_blanks d t))) text
-      ∙ padded_found n k o r head rest spelled refl (rw (← text) h)
+      ∙ padded_found ranges n k o r head rest spelled refl (rw (← text) h)
       ∙ ap (λ xs. padded_at d k o r head spelled ++ xs)
-      (ap (terms_of n k) (left_next d false rest (Some (two_bars, after_blanks d tail)) refl)
-      ∙ ranges_found n (suc k) (o + length head + 2) (next ∷ others) tail more within)
+      (ap (terms_of n k) (left_next d false rest (Some (two_bars, after_blanks d tail)) (rw ranges refl))
+      ∙ ranges_found ranges n (suc k) (o + length head + 2) (next ∷ others) tail more within)

@@ -15,7 +15,7 @@ use Rattle.semver_texts.specs.declared.grammar.Grammar.TheVariants as grammar
 use Rattle.semver_texts.proofs.Lists.{all_more}
 use Rattle.semver_texts.specs.declared.grammar.Grammar.{Grammar}
 use Rattle.semver_ranges.specs.RangeTree.{PartialTree, Role, SetTree, Simple, SpellsRangeIn, SpellsWord, simples}
-use Rattle.tool_ranges.specs.CargoGrammar.{SpellsRequirement, comparators_of, stands_alone}
+use Rattle.semver_ranges.specs.CargoGrammar.{SpellsRequirement, comparators_of, stands_alone}
 use Rattle.tool_ranges.specs.Dialects.{IsTextAs, SpellsAs}
 use Rattle.tool_ranges.specs.NpmGrammar.{may_stand}
 use Rattle.tool_ranges.specs.declared.dialect.Dialect.{Dialect}

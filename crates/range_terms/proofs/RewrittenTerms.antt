@@ -25,7 +25,7 @@ use Rattle.semver_ranges.specs.RangeTree.{one, pre_parts, qualifier, states_thre
 use Rattle.semver_ranges.proofs.LongWords.{some_component}
 use Rattle.semver_ranges.proofs.ReadingPieces.{is_component_byte, partial_starts, starts}
 use Rattle.semver_versions.specs.VersionRefs.{VersionRefValue, IsVersionRefIn}
-use Rattle.tool_ranges.specs.CargoGrammar.{comparators_of, is_partial_of_cargo, wildcards_are_last}
+use Rattle.semver_ranges.specs.CargoGrammar.{comparators_of, is_partial_of_cargo, wildcards_are_last}
 use Rattle.tool_ranges.specs.Dialects.{SpellsAs, grammar_of}
 use Rattle.tool_ranges.specs.declared.dialect.Dialect.{Dialect}
 use Rattle.tool_ranges.specs.declared.dialect.Dialect.TheVariants.{Cargo, Npm}

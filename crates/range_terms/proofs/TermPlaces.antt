@@ -15,7 +15,7 @@ use Rattle.semver_ranges.specs.RangeTree.{Form, PartialTree, RangeTree, Role, Se
 use Rattle.semver_ranges.specs.RangeTree.{equal, less, at_most, greater, at_least, tilde, caret, empty, hyphen, simples}
 use Rattle.semver_ranges.specs.RangeTree.{SpellsPartial, SpellsWord, SpellsSimple, SpellsSimples, SpellsRange, SpellsPadded, SpellsRangeIn}
 use Rattle.semver_ranges.proofs.ReadingPieces.{component_word, is_component_byte, is_word_byte, partial_starts, starts, word_starts}
-use Rattle.tool_ranges.specs.CargoGrammar.{SpellsComparator, SpellsComparators, is_every, is_partial_of_cargo, sign}
+use Rattle.semver_ranges.specs.CargoGrammar.{SpellsComparator, SpellsComparators, is_every, is_partial_of_cargo, sign}
 use Rattle.tool_ranges.specs.Dialects.{SpellsAs}
 use Rattle.tool_ranges.specs.FittingTerms.{read_in, terms_as, terms_of}
 use Rattle.tool_ranges.specs.declared.dialect.Dialect.{Dialect}

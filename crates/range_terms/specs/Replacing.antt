@@ -6,7 +6,7 @@ use Rattle.semver_ranges.specs.Partials.{states_nothing}
 use Rattle.semver_ranges.specs.RangeTree.{PartialTree, Role, SpellsPartial, SpellsWord, after_form}
 use Rattle.semver_ranges.specs.RangeTree.{after_hyphen, at_least, at_most, bare, caret, equal}
 use Rattle.semver_ranges.specs.RangeTree.{greater, less, tilde}
-use Rattle.tool_ranges.specs.CargoGrammar.{is_partial_of_cargo}
+use Rattle.semver_ranges.specs.CargoGrammar.{is_partial_of_cargo}
 use Rattle.tool_ranges.specs.Dialects.{IsTextAs}
 use Rattle.tool_ranges.specs.declared.dialect.Dialect.{Dialect}
 use Rattle.tool_ranges.specs.declared.dialect.Dialect.TheVariants as dialect

@@ -7,10 +7,9 @@ use Rattle.std.specs.Prelude.{length}
 use Rattle.semver_texts.specs.Texts.{begins_with}
 use Rattle.semver_texts.specs.declared.grammar.Grammar.{Grammar}
 use Rattle.semver_ranges.specs.RangeTree.{Form}
-use Rattle.semver_ranges.specs.Steps.Items.{FoundTerm, FoundWord, Item, empty_range, one_term}
-use Rattle.semver_ranges.specs.Steps.Items.{two_bars}
-use Rattle.tool_ranges.specs.Steps.Cursors.{items_in}
-use Rattle.tool_ranges.specs.declared.cursor.Cursor.{Cursor}
+use Rattle.semver_ranges.specs.Steps.FoundItems.{FoundTerm, FoundWord, Item, empty_range}
+use Rattle.semver_ranges.specs.Steps.FoundItems.{items_left, one_term, two_bars}
+use Rattle.semver_ranges.specs.declared.cursor.Cursor.{Cursor}
 use Rattle.range_terms.specs.declared.term.Operator.{Operator}
 use Rattle.range_terms.specs.declared.term.Operator.TheVariants.{Hyphen}
 use Rattle.range_terms.specs.declared.term.Term.{Term}
@@ -57,7 +56,8 @@ terms_of n k (empty_range ∷ xs) = terms_of n k xs
 terms_of n k (two_bars ∷ xs) = terms_of n (suc k) xs
 
 abbrev pub terms_left : Grammar → ℕ → ℕ → Cursor → List WrittenTerm
-terms_left d n k cursor = terms_of n k (items_in d cursor)
+terms_left d n k cursor =
+    terms_of n k (items_left d cursor.begins_range cursor.rest.now)
 
 -- a term is the first that the cursor has left, and the others are left after it
 abbrev pub YieldsTerm : Grammar → ℕ → ℕ → Cursor → Option Term → ℕ → Cursor → Type 0

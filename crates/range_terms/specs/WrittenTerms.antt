@@ -15,8 +15,8 @@ use Rattle.semver_ranges.specs.RangeTree.{build_parts, is_wildcard, pre_parts}
 use Rattle.semver_ranges.specs.RangeTree.{SpellsSimple, SpellsSimples, SpellsRange, SpellsPadded}
 use Rattle.semver_ranges.specs.RangeTree.{SpellsRangeIn}
 use Rattle.semver_ranges.specs.Partials.{fits_u64}
-use Rattle.tool_ranges.specs.CargoGrammar.{comparators_of, sign, SpellsComparator}
-use Rattle.tool_ranges.specs.CargoGrammar.{SpellsComparators}
+use Rattle.semver_ranges.specs.CargoGrammar.{comparators_of, sign, SpellsComparator}
+use Rattle.semver_ranges.specs.CargoGrammar.{SpellsComparators}
 use Rattle.tool_ranges.specs.Dialects.{SpellsAs}
 use Rattle.tool_ranges.specs.declared.dialect.Dialect.{Dialect}
 use Rattle.tool_ranges.specs.declared.dialect.Dialect.TheVariants as dialect

@@ -6,10 +6,10 @@ ghost use Rattle.semver_texts.specs.Texts.{Text, begins_with};
 ghost use Rattle.semver_texts.specs.declared.grammar.Grammar as some;
 ghost use Rattle.semver_ranges.specs.RangeTree.{SetTree};
 ghost use Rattle.semver_ranges.specs.Steps.CursorViews.{form_of};
-ghost use Rattle.semver_ranges.specs.Steps.Items.{FoundTerm, FoundWord, IsTermOf, IsWordOf};
+ghost use Rattle.semver_ranges.specs.Steps.FoundItems.{FoundTerm, FoundWord};
+ghost use Rattle.semver_ranges.specs.Steps.Items.{IsTermOf, IsWordOf};
 ghost use Rattle.semver_ranges.specs.Steps.PartialViews.{IsComponentOf, IsWrittenAs};
 ghost use Rattle.tool_ranges.specs.Dialects.{RefusesAs, SpellsAs};
-ghost use Rattle.tool_ranges.specs.Steps.Cursors.{bytes_in};
 ghost use Rattle.range_terms.specs.WrittenTerms.{component_of, operator_of, term_value, terms_in};
 ghost use Rattle.range_terms.specs.WrittenTerms.{version_value};
 ghost use Rattle.range_terms.specs.Replacing.{IsReplaceable};
@@ -19,15 +19,13 @@ ghost use Rattle.range_terms.specs.Steps.{YieldsTerm, version_at};
 ghost use Rattle.range_terms.specs.Steps.{written_term};
 
 use crate::term::{Component, Operator, PartialVersion, Span, Term};
-use semver_ranges::RangeError;
-use semver_ranges::cursor::Event;
+use semver_ranges::cursor::{Cursor, Event};
 use semver_ranges::grammar::Form;
-use semver_ranges::partial::{self, LowerBounds};
 use semver_ranges::term::{RawTerm, RawVersion};
+use semver_ranges::{RangeError, partial};
 use semver_texts::dotted::text_of_parts;
 use semver_texts::grammar::Grammar;
 use std::marker::Model;
-use tool_ranges::cursor::Cursor;
 use tool_ranges::dialect::Dialect;
 use tool_ranges::meaning::{Rules, check};
 use version_sets::PreReleases;
@@ -63,16 +61,15 @@ pub struct Terms<'text> {
 }
 
 impl<'text> Model for Terms<'text> {
-    ghost use Rattle.std.specs.Prelude.{List, ◌≤◌, ◌+◌};
+    ghost use Rattle.std.specs.Prelude.{List, ◌≤◌, ◌+◌, length};
     ghost use Rattle.range_terms.specs.WrittenTerms.{WrittenTerm};
     ghost use Rattle.range_terms.specs.Steps.{terms_left};
-    ghost use Rattle.tool_ranges.specs.Steps.Cursors.{bytes_in};
 
     ghost Value = { List WrittenTerm };
 
     ghost view = { λ s. terms_left s.grammar s.len s.range s.cursor };
 
-    ghost invariant = { λ s. s.range + bytes_in s.cursor ≤ s.len };
+    ghost invariant = { λ s. s.range + length s.cursor.rest.now ≤ s.len };
 }
 
 impl<'text> Terms<'text> {
@@ -142,11 +139,11 @@ fn next_term<'text>(
     grammar: Grammar,
     len: usize,
 ) -> Option<Term<'text>>
-    requires { range.old + bytes_in cursor.old ≤ len }
+    requires { range.old + length cursor.old.rest.now ≤ len }
     ensures value { YieldsTerm grammar len range.old cursor.old result range.new cursor.new }
-    ensures within { range.new + bytes_in cursor.new ≤ len }
+    ensures within { range.new + length cursor.new.rest.now ≤ len }
 {
-    while let Some(event) = cursor.next_term(grammar) {
+    while let Some(event) = cursor.next_in(grammar) {
         let Ok(event) = event else {
             return None;
         };
@@ -166,11 +163,12 @@ pub fn of_range(range: &str, dialect: Dialect) -> Terms<'_>
     ensures { (tree : SetTree) (spelled : SpellsAs dialect tree range.now)
         → result ≡ terms_in dialect tree range.now spelled }
 {
+    let grammar = dialect.grammar();
     Terms {
         len: range.len(),
-        grammar: dialect.grammar(),
+        grammar,
         range: 0,
-        cursor: Cursor::begin(range, dialect, LowerBounds::Stated),
+        cursor: Cursor::new(range.as_bytes(), grammar),
     }
 }
 

@@ -1,5 +1,4 @@
--- Equations for the events that are left of a text (`events_left`), one for each step of the
--- cursor.
+-- Equations for the events that are left of a text of ranges, one for each step of the cursor.
 use Rattle.std.proofs.Common.{◌≡◌, ◌<◌, Bool, true, false, List, [], ◌∷◌, Option, Some, None, length, refl, sym, ap, ◌∙◌, arith}
 use Rattle.semver_texts.specs.declared.grammar.Grammar.{Grammar}
 use Rattle.semver_ranges.specs.declared.partial.LowerBounds.{LowerBounds}
@@ -10,7 +9,7 @@ use Rattle.semver_texts.specs.Texts.{begins_with}
 use Rattle.semver_ranges.specs.Steps.Reading.{with_right, with_others, after_bars, onto, more_ranges}
 use Rattle.semver_ranges.specs.Steps.Reading.{after_range, after_blanks, read}
 use Rattle.semver_ranges.specs.Steps.RangeEvents.{Event, one_simple, next_range, wildcard, yielded, in_front, events_of, put, put_simples}
-use Rattle.semver_ranges.specs.Steps.RangeEvents.{set_events, events, at_bars, others_left, simples_left, events_left}
+use Rattle.semver_ranges.specs.Steps.RangeEvents.{set_events, at_bars, others_left, simples_left, ranges_left}
 use Rattle.semver_ranges.proofs.ReadingSound.{read_sound}
 use Rattle.semver_ranges.proofs.ReadingSteps.{simples_end, simples_step, read_step}
 
@@ -39,19 +38,19 @@ module _ (d : Grammar) (lower : LowerBounds) where
     at (Some t) = onto_events r t (read d t) refl
 
   -- at the beginning of a text
-  pub begin_left : (t u : Text) → u ≡ after_blanks d t → events d lower t ≡ events_left d lower true u
+  pub begin_left : (t u : Text) → u ≡ after_blanks d t → set_events lower (read d t) ≡ ranges_left d lower true u
   begin_left t u e = ap (set_events lower) (read_step d t) ∙ rw e
 
   -- at the end of a range; if the range has only begun, it is empty, and gives a wildcard
-  pub end_left : (t : Text) → ends_range t ≡ true → events_left d lower false t ≡ others_left d lower t
+  pub end_left : (t : Text) → ends_range t ≡ true → ranges_left d lower false t ≡ others_left d lower t
   end_left t e = rw (simples_end d t e)
 
   pub bars_left : (t : Text) (o : Option Text) → 0 < length t → ends_range t ≡ true → after_bars t ≡ o
-      → events_left d lower false t ≡ at_bars d lower o
+      → ranges_left d lower false t ≡ at_bars d lower o
   bars_left [] o some ends e = absurd (omega arith)
   bars_left (b ∷ t) o some ends e = end_left (b ∷ t) ends ∙ rw e
 
-  pub empty_left : (t : Text) → ends_range t ≡ true → events_left d lower true t ≡ put (one_simple wildcard) (events_left d lower false t)
+  pub empty_left : (t : Text) → ends_range t ≡ true → ranges_left d lower true t ≡ put (one_simple wildcard) (ranges_left d lower false t)
   empty_left t e = rw (end_left t e, e) (range_events empty t)
 
   -- if the range doesn't end, the next event is a term
@@ -67,12 +66,12 @@ module _ (d : Grammar) (lower : LowerBounds) where
 
   pub simple_left : (begins_range : Bool) (t u : Text) (s : Simple) → ends_range t ≡ false → simple d t ≡ Some (s, u)
       → (begins_range ≡ true → begins_with 45 u ≡ false)
-      → events_left d lower begins_range t ≡ put (one_simple s) (events_left d lower false u)
+      → ranges_left d lower begins_range t ≡ put (one_simple s) (ranges_left d lower false u)
   simple_left true t u s on e other = rw (on, e, other refl) (others_events s (all_simples d u))
   simple_left false t u s on e other = rw (simples_step d t on, e) (before_left s (all_simples d u))
 
   -- or the sides of a hyphen range
   pub hyphen_left : (t u w v : Text) (s : Simple) (x : RangeTree) → ends_range t ≡ false → simple d t ≡ Some (s, u) → u ≡ 45 ∷ w
       → with_right s (right_side d (45 ∷ w)) ≡ Some (x, v)
-      → events_left d lower true t ≡ put_simples (yielded lower x) (others_left d lower v)
+      → ranges_left d lower true t ≡ put_simples (yielded lower x) (others_left d lower v)
   hyphen_left t u w v s x on e dash found = rw (on, e, dash, found) (range_events x v)

@@ -1,6 +1,8 @@
 -- The events that were left begin with the event that was read.
 use Rattle.std.proofs.Common.{◌≡◌, ℕ, ◌≤◌, Bool, true, false, arith, List, [], ◌∷◌, Option, Some, None, length, refl}
 use Rattle.semver_texts.specs.declared.grammar.Grammar.{Grammar}
+use Rattle.semver_texts.proofs.Lists.{by_test}
+use Rattle.semver_ranges.specs.CargoGrammar.{is_cargo, read_in}
 use Rattle.semver_ranges.specs.declared.events.Events.{Events}
 use Rattle.semver_ranges.specs.declared.grammar.Simple as read
 use Rattle.semver_ranges.specs.declared.events.Event.TheVariants as event
@@ -9,12 +11,15 @@ use Rattle.semver_ranges.specs.declared.partial.LowerBounds.{LowerBounds}
 use Rattle.semver_ranges.specs.declared.term.RawTerm as written
 use Rattle.semver_ranges.specs.declared.term.RawVersion.{RawVersion}
 use Rattle.semver_texts.specs.Texts.{Text}
-use Rattle.semver_ranges.specs.Steps.Items.{FoundTerm, FoundWord, IsItemOf, IsTermAt, IsTermOf, IsUpperOf, IsViewOf, IsWordOf, Item}
-use Rattle.semver_ranges.specs.Steps.Items.{empty_range, one_term, simple_of, simples_of}
+use Rattle.semver_ranges.specs.Steps.FoundItems.{FoundTerm, FoundWord, Item}
+use Rattle.semver_ranges.specs.Steps.Items.{IsItemOf, IsTermAt, IsTermOf, IsUpperOf, IsViewOf, IsWordOf}
+use Rattle.semver_ranges.specs.Steps.FoundItems.{empty_range, one_term, simple_of}
+use Rattle.semver_ranges.specs.Steps.Items.{simples_of}
 use Rattle.semver_ranges.specs.RangeTree.{Simple}
 use Rattle.semver_ranges.specs.Steps.Reading.{simple}
 use Rattle.semver_ranges.specs.Steps.RangeEvents.{Event, one_simple, next_range, put, put_simples, wildcard}
-use Rattle.semver_ranges.specs.Steps.CursorViews.{IsSimpleOf, AreSides, IsEventOf, HasAfter, HasLeft, IsFirst, flag, form_of}
+use Rattle.semver_ranges.specs.Steps.FoundItems.{flag}
+use Rattle.semver_ranges.specs.Steps.CursorViews.{IsSimpleOf, AreSides, IsEventOf, HasAfter, HasLeft, IsFirst, form_of}
 
 -- the events of a hyphen range begin with its first side, and the other side, if there is one, is
 -- left
@@ -72,6 +77,14 @@ module _ (d : Grammar) where
   found_upper t None v is = absurd is
   found_upper t (Some u) v is = (u, refl, is.0, is.1)
 
+  pub no_upper : (t : Text) (x : Option FoundWord) → IsUpperOf d t x None → x ≡ None
+  no_upper t None is = refl
+  no_upper t (Some u) is = absurd is
+
+  -- the operator that is read doesn't change the version
+  pub same_partial : (s : Simple) → (read_in d s).partial ≡ s.partial
+  same_partial s = by_test (is_cargo d) (λ y. rw y refl) (λ n. rw n refl)
+
   -- a term that was read, without a right side
   pub term_here : (t : Text) (term : written.RawTerm) (u : Text) → IsTermAt d t term u
       → (x : FoundTerm) × IsTermOf d x term × (simple d t ≡ Some (simple_of x, u))
@@ -82,14 +95,14 @@ module _ (d : Grammar) where
   )
 
   -- the view of an event in plain terms
-  pub view_term : (lower : LowerBounds) (n : ℕ) (x : Item) (term : written.RawTerm) (first : read.Simple) (upper : Option read.Simple)
-      → IsItemOf d n x (Term term) → ((y : FoundTerm) → IsTermOf d y term → AreSides (simples_of lower y) first upper)
-      → IsViewOf lower x true (event.Simple first) upper
-  view_term lower n (one_term y) term first upper is sides =
-      (λ o. sides_first (simples_of lower y) first upper o (sides y is.0), flag_small _)
-  view_term lower n _ term first upper is sides = absurd is
+  pub view_term : (g : Grammar) (lower : LowerBounds) (n : ℕ) (x : Item) (term : written.RawTerm) (first : read.Simple) (upper : Option read.Simple)
+      → IsItemOf d n x (Term term) → ((y : FoundTerm) → IsTermOf d y term → AreSides (simples_of g lower y) first upper)
+      → IsViewOf g lower x true (event.Simple first) upper
+  view_term g lower n (one_term y) term first upper is sides =
+      (λ o. sides_first (simples_of g lower y) first upper o (sides y is.0), flag_small _)
+  view_term g lower n _ term first upper is sides = absurd is
 
-  pub view_empty : (lower : LowerBounds) (n : ℕ) (x : Item) (simple : read.Simple) → IsItemOf d n x EmptyRange
-      → IsSimpleOf wildcard simple → IsViewOf lower x false (event.Simple simple) None
-  view_empty lower n empty_range simple is one = (λ o. (one_simple wildcard, o, one, refl, refl), omega arith)
-  view_empty lower n _ simple is one = absurd is
+  pub view_empty : (g : Grammar) (lower : LowerBounds) (n : ℕ) (x : Item) (simple : read.Simple) → IsItemOf d n x EmptyRange
+      → IsSimpleOf wildcard simple → IsViewOf g lower x false (event.Simple simple) None
+  view_empty g lower n empty_range simple is one = (λ o. (one_simple wildcard, o, one, refl, refl), omega arith)
+  view_empty g lower n _ simple is one = absurd is

@@ -1,6 +1,7 @@
 pub mod ResultLaws
 pub mod AnsweredLaws
 pub mod CaretPlaces
+pub mod ComparatorSteps
 pub mod ComponentSteps
 pub mod CursorSteps
 pub mod EventLists
@@ -26,4 +27,5 @@ pub mod StatedNumbers
 pub mod TableRows
 pub mod Tables
 pub mod Tests
+pub mod WordBytes
 pub mod WrittenPieces

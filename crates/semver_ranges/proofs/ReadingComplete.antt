@@ -69,7 +69,7 @@ module _ (d : Grammar) where
   -- a word ends before any blanks at the end of its range, and before one or more blanks
   pub blanks_end : (blanks t : Text) → AreBlanks d blanks → ends_range t ≡ true → ends_word d (blanks ++ t) ≡ true
   blanks_end [] [] h e = refl
-  blanks_end [] (b ∷ t) h e = or_right _ _ e
+  blanks_end [] (b ∷ t) h e = or_right _ _ (or_left _ _ e)
   blanks_end (b ∷ blanks) t h e = grind arith
 
   pub gap_ends : (gap t : Text) → AreSomeBlanks d gap → ends_word d (gap ++ t) ≡ true

@@ -16,7 +16,7 @@ use Rattle.semver_ranges.specs.RangeTree.{PartialTree, one, two, three, Form, Si
 use Rattle.semver_ranges.specs.RangeTree.{AreBlanks, SpellsPartial, SpellsWord, IsSignAndBlanks, SpellsForm, SpellsSimple}
 use Rattle.semver_ranges.specs.RangeTree.{Role, after_form, is_word_of_npm}
 use Rattle.semver_texts.specs.Texts.{is_part}
-use Rattle.semver_texts.specs.Texts.{Text, is_empty, marked, is_dot}
+use Rattle.semver_texts.specs.Texts.{Text, begins_with, is_empty, marked, is_dot}
 use Rattle.semver_ranges.specs.Steps.Reading.{front, back, after_blanks, ends_range, ends_word, component, parts}
 use Rattle.semver_texts.specs.Texts.{is_dotted_byte}
 use Rattle.semver_ranges.specs.Steps.Reading.{with_build, after_pre, with_pre, after_three, with_third, after_two, with_second}
@@ -275,9 +275,9 @@ module _ (d : Grammar) where
       (λ e. rw (eqb-true b 94 e) (signed (codes "^") t))
       (λ n5. rw (n1, n2, n3, n4, n5) ([], refl, refl))))))
 
-  -- the blanks after a term: at least one, unless the range ends after them
+  -- the blanks after a term: at least one, unless the range ends after them, or a comma follows
   abbrev pub IsGap : Text → Text → Type 0
-  IsGap gap t = AreBlanks d gap × ((is_empty gap ≡ false) ⊎ (ends_range t ≡ true))
+  IsGap gap t = AreBlanks d gap × ((is_empty gap ≡ false) ⊎ ((ends_range t || begins_with 44 t) ≡ true))
 
   gap_parts : (t : Text) → ends_word d t ≡ true → IsGap (front (is_blank d) t) (after_blanks d t)
   gap_parts [] e = (refl, inr refl)

@@ -1,15 +1,16 @@
 -- The tree that the reader finds spells the text.
-use Rattle.std.proofs.Common.{◌≡◌, ℕ, zero, suc, true, false, ◌&&◌, ◌==◌, List, [], ◌∷◌, ◌++◌, codes, length, refl, ◌∙◌}
+use Rattle.std.proofs.Common.{◌≡◌, ℕ, zero, suc, true, false, ◌&&◌, ◌==◌, List, [], ◌∷◌, ◌++◌, codes, length, refl, sym, ◌∙◌}
 use Rattle.std.proofs.Common.{Option, Some, None, append_assoc, append-nil, subst}
 use Rattle.std.proofs.lemmas.Bool.{and_parts, and_from, eqb-true}
 use Rattle.std.proofs.Common.{arith}
 use Rattle.std.proofs.lemmas.Bool.Decides.{nat_tests}
 use Rattle.semver_texts.specs.declared.grammar.Grammar.{Grammar}
+use Rattle.semver_texts.specs.declared.grammar.Grammar.TheVariants.{Crate, Cargo, Npm}
 use Rattle.semver_ranges.specs.RangeTree.{PartialTree, Form, bare, Simple, RangeTree, after_form, after_hyphen, is_bare}
 use Rattle.semver_ranges.specs.RangeTree.{SetTree, is_blank, AreBlanks, AreSomeBlanks, SpellsWord, SpellsForm, SpellsSimple, SpellsSimples}
 use Rattle.semver_ranges.specs.RangeTree.{SpellsRange, SpellsPadded, SpellsRangeIn}
 use Rattle.semver_texts.specs.Texts.{Text}
-use Rattle.semver_ranges.specs.Steps.Reading.{front, after_blanks, ends_range, put_before}
+use Rattle.semver_ranges.specs.Steps.Reading.{front, after_blanks, ends_range, put_before, simple}
 use Rattle.semver_texts.specs.Texts.{begins_with}
 use Rattle.semver_ranges.specs.Steps.Reading.{after_simple, some_simples, range_end, right_side, with_right}
 use Rattle.semver_ranges.specs.Steps.Reading.{with_others, after_first, range_here, after_bars, onto, more_ranges, after_range}
@@ -27,6 +28,17 @@ bare_partial : (d : Grammar) (s : Simple) (w : Text) → is_bare s.form ≡ true
 bare_partial d s w e (sign, text, form, spelled, whole) =
     let nothing : sign ≡ [] = subst (λ f. SpellsForm d f sign) (form_bare s.form e) form in
     rw (whole, nothing) (subst (λ f. SpellsWord d (after_form f) s.partial text) (form_bare s.form e) spelled)
+
+-- no term begins with a comma
+no_comma : (d : Grammar) (t : Text) → begins_with 44 t ≡ true → simple d t ≡ None
+no_comma d [] e = cc
+no_comma Crate (b ∷ t) e = rw (eqb-true b 44 e) refl
+no_comma Cargo (b ∷ t) e = rw (eqb-true b 44 e) refl
+no_comma Npm (b ∷ t) e = rw (eqb-true b 44 e) refl
+
+hyphen_no_comma : (t : Text) → begins_with 45 t ≡ true → begins_with 44 t ≡ false
+hyphen_no_comma [] e = cc
+hyphen_no_comma (b ∷ t) e = grind (arith, nat_tests)
 
 -- a range doesn't end at a hyphen
 no_end : (t : Text) → begins_with 45 t ≡ true → ends_range t ≡ false
@@ -52,8 +64,8 @@ module _ (d : Grammar) where
       (inner : Text) × (after : Text) × SpellsSimples d s found.0 inner × AreBlanks d after × (t ≡ inner ++ (after ++ found.1))
 
   -- the gap between two terms has at least one blank
-  some_blanks : (gap t : Text) → IsGap d gap t → ends_range t ≡ false → AreSomeBlanks d gap
-  some_blanks gap t h e = grind arith
+  some_blanks : (gap t : Text) → IsGap d gap t → ends_range t ≡ false → begins_with 44 t ≡ false → AreSomeBlanks d gap
+  some_blanks gap t h e n = grind arith
 
   put_sound : (s next : Simple) (w gap t : Text) (o : Option (List Simple × Text)) → SpellsSimple d s w → AreSomeBlanks d gap
       → SimplesAt next t o → SimplesAt s (w ++ (gap ++ t)) (put_before next o)
@@ -63,17 +75,19 @@ module _ (d : Grammar) where
 
   next_sound : (s : Simple) (w gap t : Text) (f : Text → Option (List Simple × Text)) (o : Option (Simple × Text))
       → ((s : Simple) (w gap t : Text) → SpellsSimple d s w → IsGap d gap t → SimplesAt s (w ++ (gap ++ t)) (f t))
-      → SpellsSimple d s w → AreSomeBlanks d gap → SimpleAt d t o → SimplesAt s (w ++ (gap ++ t)) (after_simple f o)
-  next_sound s w gap t f None h spelled blanks found = tt
-  next_sound s w gap t f (Some (next, u)) h spelled blanks (w', gap', spelled', parts, text) =
-      put_sound s next w gap t (f u) spelled blanks (rw text (h next w' gap' u spelled' parts))
+      → SpellsSimple d s w → IsGap d gap t → ends_range t ≡ false → simple d t ≡ o → SimpleAt d t o
+      → SimplesAt s (w ++ (gap ++ t)) (after_simple f o)
+  next_sound s w gap t f None h spelled parts on is found = tt
+  next_sound s w gap t f (Some (next, u)) h spelled parts on is (w', gap', spelled', parts', text) = by_test (begins_with 44 t)
+      (λ y. let no : None ≡ Some (next, u) = sym (no_comma d t y) ∙ is in cc)
+      (λ n. put_sound s next w gap t (f u) spelled (some_blanks gap t parts on n) (rw text (h next w' gap' u spelled' parts')))
 
   simples_sound : (n : ℕ) (s : Simple) (w gap t : Text) → SpellsSimple d s w → IsGap d gap t
       → SimplesAt s (w ++ (gap ++ t)) (some_simples d n t)
   simples_sound zero s w gap t spelled parts = tt
   simples_sound (suc n) s w gap t spelled parts = by_test (ends_range t)
       (λ e. rw e (w, gap, spelled, parts.0, refl))
-      (λ e. rw e (next_sound s w gap t _ _ (simples_sound n) spelled (some_blanks gap t parts e) (simple_sound d t)))
+      (λ e. rw e (next_sound s w gap t _ _ (simples_sound n) spelled parts e refl (simple_sound d t)))
 
   -- a range that is found is spelled at the beginning of the text, with blanks after it
   abbrev RangeAt : Text → Option (RangeTree × Text) → Type 0
@@ -132,7 +146,7 @@ module _ (d : Grammar) where
   first_sound : (t : Text) (o : Option (Simple × Text)) → SimpleAt d t o → RangeAt t (after_first d o)
   first_sound t None h = tt
   first_sound t (Some (s, u)) (w, gap, spelled, parts, text) = by_test (begins_with 45 u)
-      (λ e. rw (text, e) (hyphen_sound s w gap u _ spelled (some_blanks gap u parts (no_end u e)) (right_sound u)))
+      (λ e. rw (text, e) (hyphen_sound s w gap u _ spelled (some_blanks gap u parts (no_end u e) (hyphen_no_comma u e)) (right_sound u)))
       (λ e. rw (text, e) (others_sound s _ _ (simples_sound (suc (length u)) s w gap u spelled parts)))
 
   range_here_sound : (t : Text) → RangeAt t (range_here d t)

@@ -1,6 +1,7 @@
 pub mod NpmLengths
 pub mod RangeTree
 pub mod Partials
+pub mod CargoGrammar
 pub mod Terms
 pub mod CrateMeaning
 pub mod RewritingTable

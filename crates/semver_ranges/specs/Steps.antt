@@ -1,4 +1,5 @@
 pub mod Reading
+pub mod FoundItems
 pub mod RangeEvents
 pub mod Answers
 pub mod PartialViews

@@ -3,9 +3,11 @@
 //! Nothing here allocates, and a call looks at each byte a fixed number of times.
 
 ghost use Rattle.std.specs.Prelude.{◌≡◌, ◌<◌, ◌++◌, true, false, length, codes};
+ghost use Rattle.semver_ranges.specs.CargoGrammar.{is_cargo};
 ghost use Rattle.semver_ranges.specs.Steps.Reading.{after_blanks, ends_range};
 ghost use Rattle.semver_ranges.specs.Steps.Items.{GivesItem, IsTermAt, TakesItem};
 
+use crate::cargo::next_comparator;
 use crate::grammar::{Form, after_bars, after_blanks, ends_range, read_right_side, read_term};
 use crate::range_set::RangeError;
 use crate::term::RawTerm;
@@ -75,6 +77,32 @@ impl<'text> Cursor<'text> {
     {
         let begins_range = self.begins_range;
         self.begins_range = false;
+        match grammar {
+            Grammar::Cargo => self.read_comparator(begins_range),
+            Grammar::Crate | Grammar::Npm => self.read_in_ranges(begins_range, grammar),
+        }
+    }
+
+    /// Returns the event of a comparator of Cargo, and moves after it.
+    #[inline(always)]
+    fn read_comparator(&mut self, is_first: bool) -> Option<Event<'text>>
+        requires begun { self.old.begins_range ≡ false }
+        requires some { is_first ≡ false → 0 < length self.old.rest.now }
+        ensures { TakesItem Grammar.Cargo is_first self.old.rest.now result self.new }
+    {
+        let (term, rest) = next_comparator(self.rest, is_first)?;
+        self.rest = rest;
+        Some(Event::Term(term))
+    }
+
+    /// Returns the event of ranges at the beginning of the rest, and moves after it.
+    #[inline(always)]
+    fn read_in_ranges(&mut self, begins_range: bool, grammar: Grammar) -> Option<Event<'text>>
+        requires ranges { is_cargo grammar ≡ false }
+        requires begun { self.old.begins_range ≡ false }
+        requires some { begins_range ≡ false → 0 < length self.old.rest.now }
+        ensures { TakesItem grammar begins_range self.old.rest.now result self.new }
+    {
         if !ends_range(self.rest) {
             return self.read_in_range(begins_range, grammar);
         }
@@ -87,6 +115,7 @@ impl<'text> Cursor<'text> {
     /// Returns the event of two bars, and moves after them.
     #[inline(always)]
     fn read_bars(&mut self, grammar: Grammar) -> Option<Event<'text>>
+        requires ranges { is_cargo grammar ≡ false }
         requires begun { self.old.begins_range ≡ false }
         requires some { 0 < length self.old.rest.now }
         requires ends { ends_range self.old.rest.now ≡ true }
@@ -101,6 +130,7 @@ impl<'text> Cursor<'text> {
     /// hyphen range.
     #[inline(always)]
     fn read_in_range(&mut self, begins_range: bool, grammar: Grammar) -> Option<Event<'text>>
+        requires ranges { is_cargo grammar ≡ false }
         requires begun { self.old.begins_range ≡ false }
         requires goes_on { ends_range self.old.rest.now ≡ false }
         ensures { TakesItem grammar begins_range self.old.rest.now result self.new }
@@ -124,6 +154,7 @@ impl<'text> Cursor<'text> {
         after: &'text [u8],
         grammar: Grammar,
     ) -> Option<Event<'text>>
+        requires ranges { is_cargo grammar ≡ false }
         requires begun { self.old.begins_range ≡ false }
         requires goes_on { ends_range self.old.rest.now ≡ false }
         requires left { IsTermAt grammar self.old.rest.now left (codes "-" ++ after.now) }

@@ -2,13 +2,13 @@
 //! hyphen range are terms of their own. Nothing here allocates.
 
 ghost use Rattle.std.specs.Prelude.{◌≡◌, ◌<◌, Some, [], Err, IfSome, List, Option, ℕ};
-ghost use Rattle.semver_texts.specs.declared.grammar.Grammar.{Grammar};
+ghost use Rattle.semver_texts.specs.declared.grammar.Grammar.{Grammar as SomeGrammar};
 ghost use Rattle.semver_ranges.specs.RangeTree.{PartialTree, hyphen};
 ghost use Rattle.semver_ranges.specs.Steps.PartialViews.{IsPartialOf};
 ghost use Rattle.semver_ranges.specs.Steps.RangeEvents as list;
 ghost use Rattle.semver_ranges.specs.Steps.RangeEvents.{yielded};
-ghost use Rattle.semver_ranges.specs.Steps.Items.{FoundTerm, IsItemOf, IsTermOf, Item, is_term};
-ghost use Rattle.semver_ranges.specs.Steps.Items.{GivesItem, IsViewOf, simples_of};
+ghost use Rattle.semver_ranges.specs.Steps.FoundItems.{FoundTerm, Item};
+ghost use Rattle.semver_ranges.specs.Steps.Items.{IsItemOf, IsTermOf, IsViewOf, is_term, simples_of};
 ghost use Rattle.semver_ranges.specs.Steps.CursorViews.{AreSides, Gives, HasLeft, IsBegunIn};
 ghost use Rattle.semver_ranges.specs.Steps.CursorViews.{size_left};
 
@@ -70,24 +70,12 @@ impl<'input> Events<'input> {
         }
         match self.cursor.next_in(grammar)? {
             Ok(event) => {
-                let (event, upper) = view(&event, self.lower);
+                let (event, upper) = view(&event, self.lower, grammar);
                 self.upper = upper;
                 Some(Ok(event))
             }
             Err(error) => Some(Err(error)),
         }
-    }
-
-    // Determined by: equation.
-    /// Returns the next term as it is written, like the cursor that this one reads with.
-    #[inline(always)]
-    pub fn next_term(
-        &mut self,
-        grammar: Grammar,
-    ) -> Option<Result<cursor::Event<'input>, RangeError>>
-        ensures { GivesItem grammar self.old.cursor result self.new.cursor }
-    {
-        self.cursor.next_in(grammar)
     }
 }
 
@@ -96,14 +84,15 @@ impl<'input> Events<'input> {
 fn view<'input>(
     event: &cursor::Event<'input>,
     lower: LowerBounds,
+    grammar: Grammar,
 ) -> (Event<'input>, Option<Simple<'input>>)
-    requires { (d : Grammar) × (n : ℕ) × (x : Item) × IsItemOf d n x event.now }
-    ensures { (d : Grammar) (n : ℕ) (x : Item) → IsItemOf d n x event.now
-        → IsViewOf lower x (is_term event.now) result.0 result.1 }
+    requires { (d : SomeGrammar) × (n : ℕ) × (x : Item) × IsItemOf d n x event.now }
+    ensures { (d : SomeGrammar) (n : ℕ) (x : Item) → IsItemOf d n x event.now
+        → IsViewOf grammar lower x (is_term event.now) result.0 result.1 }
 {
     match event {
         cursor::Event::Term(term) => {
-            let (first, upper) = simples(term, lower);
+            let (first, upper) = simples(term, lower, grammar);
             (Event::Simple(first), upper)
         }
         cursor::Event::EmptyRange => (Event::Simple(Simple::wildcard()), None),
@@ -116,12 +105,13 @@ fn view<'input>(
 fn simples<'input>(
     term: &RawTerm<'input>,
     lower: LowerBounds,
+    grammar: Grammar,
 ) -> (Simple<'input>, Option<Simple<'input>>)
-    requires { (d : Grammar) × (x : FoundTerm) × IsTermOf d x term.now }
-    ensures { (d : Grammar) (x : FoundTerm) → IsTermOf d x term.now
-        → AreSides (simples_of lower x) result.0 result.1 }
+    requires { (d : SomeGrammar) × (x : FoundTerm) × IsTermOf d x term.now }
+    ensures { (d : SomeGrammar) (x : FoundTerm) → IsTermOf d x term.now
+        → AreSides (simples_of grammar lower x) result.0 result.1 }
 {
-    let simple = term.simple();
+    let simple = term.simple(grammar);
     match &term.upper {
         Some(upper) => sides(simple.partial, Partial::of(&upper.components), lower),
         None => (simple, None),

@@ -8,8 +8,11 @@ ghost use Rattle.std.specs.Prelude.{◌∷◌, length, codes, false, true};
 ghost use Rattle.std.specs.Prelude.{MatchOption};
 ghost use Rattle.std.specs.Str.Parse.{digits_value};
 ghost use Rattle.std.specs.Char.{is_ascii_digit};
-ghost use Rattle.semver_texts.specs.Texts.{Text};
+ghost use Rattle.std.specs.List.{list_all};
+ghost use Rattle.semver_texts.specs.Texts.{Text, cut_at_dots, is_part};
+ghost use Rattle.semver_ranges.specs.CargoGrammar.{read_in};
 ghost use Rattle.semver_ranges.specs.RangeTree.{one, two, three, is_blank as blank};
+ghost use Rattle.semver_ranges.specs.RangeTree.{Simple as SimpleTree};
 ghost use Rattle.semver_ranges.specs.RangeTree.{PartialTree, has_no_leading_zeros, is_short_word};
 ghost use Rattle.semver_texts.specs.declared.grammar.Grammar.TheVariants as grammar;
 ghost use Rattle.semver_ranges.specs.Steps.Reading.{after_v, takes};
@@ -25,6 +28,7 @@ ghost use Rattle.semver_ranges.specs.Steps.CursorViews.{form_of, Finds, FindsPre
 ghost use Rattle.semver_ranges.specs.Steps.CursorViews.{IsSimpleOf, role_of};
 ghost use Rattle.semver_ranges.specs.Steps.NpmLimits.{IsBefore};
 
+use crate::cargo::{has_wildcard, named};
 use crate::npm_lengths::is_short_word;
 use crate::partial::{Component, Components, Partial};
 use crate::term::{RawTerm, RawVersion};
@@ -74,6 +78,25 @@ pub struct Simple<'input> {
 }
 
 impl<'input> Simple<'input> {
+    // Determined by: equation.
+    /// Returns a term with the operator that a grammar reads. In Cargo's, none means `^`, or `=` if
+    /// there is a wildcard.
+    #[inline(always)]
+    pub fn of(form: Form, written: &Components<'input>, grammar: Grammar) -> Simple<'input>
+        requires { list_all is_part (cut_at_dots written.now.pre.now) ≡ true }
+        ensures { (s : SimpleTree) → form_of form ≡ s.form → AreWritten s.partial written.now
+            → IsSimpleOf (read_in grammar s) result }
+    {
+        let form = match grammar {
+            Grammar::Cargo => named(form, has_wildcard(written)),
+            Grammar::Crate | Grammar::Npm => form,
+        };
+        Simple {
+            form,
+            partial: Partial::of(written),
+        }
+    }
+
     /// Returns a bare wildcard.
     #[inline(always)]
     pub(crate) fn wildcard() -> Simple<'input>
@@ -127,10 +150,9 @@ pub(crate) fn read_term(text: &[u8], grammar: Grammar) -> Option<(RawTerm<'_>, &
     Some((term, after_blanks(version.after, grammar)))
 }
 
-// Determined by: equation.
 /// Returns the operator at the beginning of a string, and what follows it and its blanks.
 #[inline(always)]
-pub fn read_operator(text: &[u8], grammar: Grammar) -> (Form, &[u8])
+fn read_operator(text: &[u8], grammar: Grammar) -> (Form, &[u8])
     ensures { (form_of result.0, result.1.now) ≡ operator grammar text.now }
 {
     let (form, rest) = match text {
@@ -320,10 +342,9 @@ fn with_digit(value: Option<u64>, digit: u8) -> Option<u64>
     decimals::with_digit(value?, digit)
 }
 
-// Determined by: equation.
 /// Returns what follows the blanks at the beginning of a string.
 #[inline(always)]
-pub fn after_blanks(text: &[u8], grammar: Grammar) -> &[u8]
+pub(crate) fn after_blanks(text: &[u8], grammar: Grammar) -> &[u8]
     ensures { result.now ≡ after_blanks grammar text.now }
 {
     for at in 0..text.len() {
@@ -367,14 +388,14 @@ pub(crate) fn ends_range(text: &[u8]) -> bool
     matches!(text, [] | [b'|', ..])
 }
 
-/// Returns whether a word ends here: at the end of the string, at a blank, or at a bar.
+/// Returns whether a word ends here: at the end of the string, at a blank, a bar or a comma.
 #[inline(always)]
 fn ends_word(text: &[u8], grammar: Grammar) -> bool
     ensures { result ≡ ends_word grammar text.now }
 {
     match text {
         [] => true,
-        [first, ..] => is_blank(*first, grammar) || *first == b'|',
+        [first, ..] => is_blank(*first, grammar) || matches!(*first, b'|' | b','),
     }
 }
 

@@ -8,6 +8,7 @@
 //! 1 %. Other hints made no difference, so there are none.
 #![tactic(auto)]
 
+mod cargo;
 pub mod comparing;
 pub mod cursor;
 mod desugared_texts;

@@ -254,7 +254,7 @@ fn read_only_simple(text: &[u8], compat: Compat) -> Option<(Partial<'_>, Desugar
     if !rest.is_empty() {
         return None;
     }
-    let simple = term.simple();
+    let simple = term.simple(Grammar::Crate);
     let bounds = rewritten(&simple, compat);
     if bounds.fits(&simple.partial) {
         Some((simple.partial, bounds))

@@ -1,12 +1,15 @@
 //! A term of a range string as it is written, and where it is.
 
 ghost use Rattle.std.specs.Prelude.{◌≡◌};
-ghost use Rattle.semver_texts.specs.declared.grammar.Grammar.{Grammar};
-ghost use Rattle.semver_ranges.specs.Steps.Items.{FoundTerm, IsTermOf, simple_of};
+ghost use Rattle.semver_texts.specs.declared.grammar.Grammar.{Grammar as SomeGrammar};
+ghost use Rattle.semver_ranges.specs.CargoGrammar.{read_in};
+ghost use Rattle.semver_ranges.specs.Steps.FoundItems.{FoundTerm, simple_of};
+ghost use Rattle.semver_ranges.specs.Steps.Items.{IsTermOf};
 ghost use Rattle.semver_ranges.specs.Steps.CursorViews.{IsSimpleOf};
 
 use crate::grammar::{Form, Simple};
-use crate::partial::{Components, Partial};
+use crate::partial::Components;
+use semver_texts::grammar::Grammar;
 
 /// A version of a term as it is written.
 #[derive(Clone, Copy)]
@@ -33,16 +36,13 @@ pub struct RawTerm<'text> {
 }
 
 impl<'text> RawTerm<'text> {
-    /// Returns the operator and the numbers of its version.
+    /// Returns the operator that a grammar reads, and the numbers of its version.
     #[inline(always)]
-    pub(crate) fn simple(&self) -> Simple<'text>
-        requires { (d : Grammar) × (x : FoundTerm) × IsTermOf d x self.now }
-        ensures { (d : Grammar) (x : FoundTerm) → IsTermOf d x self.now
-            → IsSimpleOf (simple_of x) result }
+    pub(crate) fn simple(&self, grammar: Grammar) -> Simple<'text>
+        requires { (d : SomeGrammar) × (x : FoundTerm) × IsTermOf d x self.now }
+        ensures { (d : SomeGrammar) (x : FoundTerm) → IsTermOf d x self.now
+            → IsSimpleOf (read_in grammar (simple_of x)) result }
     {
-        Simple {
-            form: self.form,
-            partial: Partial::of(&self.version.components),
-        }
+        Simple::of(self.form, &self.version.components, grammar)
     }
 }

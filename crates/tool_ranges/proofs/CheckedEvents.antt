@@ -10,18 +10,21 @@ use Rattle.semver_texts.specs.declared.grammar.Grammar.TheVariants as grammar
 use Rattle.semver_ranges.specs.declared.partial.LowerBounds.{LowerBounds}
 use Rattle.semver_ranges.specs.declared.range_set.RangeError.{RangeError}
 use Rattle.semver_ranges.specs.declared.range_set.RangeError.TheVariants.{NotARange, NumberTooLarge, OutOfMemory}
+use Rattle.semver_ranges.specs.declared.events.Event as read
 use Rattle.semver_ranges.specs.Partials.{states_nothing}
+use Rattle.semver_ranges.specs.Steps.CursorViews.{IsEventOf, IsFirst}
 use Rattle.semver_ranges.specs.RangeTree.{RangeTree, SetTree, Simple, SpellsRangeIn, empty, hyphen, simples}
 use Rattle.semver_ranges.specs.Steps.PartialViews.{begun_as}
 use Rattle.semver_ranges.specs.Terms.{left_side, right_side}
 use Rattle.semver_ranges.specs.Steps.RangeEvents.{Event, event_fits, in_front, next_range, one_simple, put, yielded}
-use Rattle.tool_ranges.specs.CargoMeaning.{as_read}
+use Rattle.semver_ranges.specs.CargoGrammar.{as_read}
 use Rattle.tool_ranges.specs.declared.dialect.Dialect.{Dialect}
 use Rattle.tool_ranges.specs.declared.dialect.Dialect.TheVariants.{Cargo, Npm}
-use Rattle.tool_ranges.specs.declared.cursor.Cursor.{Cursor}
+use Rattle.semver_ranges.specs.declared.events.Events.{Events}
 use Rattle.tool_ranges.specs.Dialects.{SpellsAs, fits_as, grammar_of}
 use Rattle.tool_ranges.specs.Steps.Checked.{IsSurveyed}
-use Rattle.tool_ranges.specs.Steps.Cursors.{HasLeftIn, events_in, ranges_of, read_as, text_events}
+use Rattle.semver_ranges.specs.Steps.CursorViews.{HasLeft}
+use Rattle.tool_ranges.specs.Steps.TextEvents.{events_in, ranges_of, read_as, text_events}
 use Rattle.tool_ranges.specs.Steps.Reading.{IsRead, IsRefusedAs}
 use Rattle.tool_ranges.specs.Sides.{term_fits}
 use Rattle.tool_ranges.proofs.MatchedEvents.{ranges_fit}
@@ -79,6 +82,12 @@ module _ (d : Dialect) where
         known (Some es) e last =
             (es, refl, (let same : (fit0 && list_all (event_fits (term_fits d)) es) ≡ (fit && true) = cc in same ∙ and-true fit), λ is. (let same = last is in cc))
 
+-- an event that is the first of these
+pub next_given : (g : Grammar) (es : List Event) (e : read.Event) (after : Events) → IsFirst g (Some es) e after
+    → (x : Event) × (others : List Event) × IsEventOf x e × HasLeft g after (Some others) × (es ≡ x ∷ others)
+next_given g es e after (x, None, is, has, whole) = cc
+next_given g es e after (x, Some others, is, has, whole) = (x, others, is, has, cc)
+
 -- ---- the events of a text that was read
 
 first_yielded : (lower : LowerBounds) (r : RangeTree) (es : List Event)
@@ -128,7 +137,7 @@ module _ (d : Dialect) (lower : LowerBounds) (t : Text) where
       (first.0, first.1, read.2 ∙ first.2)
 
   -- what is known after the first term and the survey of the others
-  module _ (s : Simple) (f : Bool) (left : Option (List Event)) (after : Cursor) (first : text_events lower d t ≡ put (one_simple s) left)
+  module _ (s : Simple) (f : Bool) (left : Option (List Event)) (after : Events) (first : text_events lower d t ≡ put (one_simple s) left)
       (fits : f ≡ term_fits d s) where
     all_events : (es : List Event) (b : Bool) → left ≡ Some es → (f && list_all (event_fits (term_fits d)) es) ≡ b
         → (tree : SetTree) × (read_as d t ≡ Some tree) × (fits_as d tree ≡ b) × (one_simple s ∷ es ≡ events_in (ranges_of lower d tree))
@@ -148,7 +157,7 @@ module _ (d : Dialect) (lower : LowerBounds) (t : Text) where
 
     pub checked_as : (is_end : Bool) → IsSurveyed d f left (Ok is_end) after
         → (es : List Event) × IsRead d t (λ tree. one_simple s ∷ es ≡ events_in (ranges_of lower d tree))
-        × (is_end ≡ true → es ≡ []) × HasLeftIn (grammar_of d) after (Some [])
+        × (is_end ≡ true → es ≡ []) × HasLeft (grammar_of d) after (Some [])
     checked_as is_end (es, is, fit, end, has) = let read = all_events es true is fit in
         (es, (read.0, read.1, read.2, read.3), end, has)
 

@@ -1,32 +1,24 @@
--- The reader finds a comparator at the beginning of a requirement if and only if there is one, up
--- to its comma or the end of the text.
-use Rattle.std.proofs.Common.{◌≡◌, ℕ, Bool, true, false, ◌==◌, [], ◌∷◌, ◌++◌, refl, sym, ap, ◌∙◌, rules}
-use Rattle.std.proofs.Common.{Option, Some, None, append_assoc, append-nil, inl, inr}
-use Rattle.std.proofs.lemmas.Bool.{and_from, eqb-true}
+-- The reader finds a comparator at the beginning of a requirement if and only if there is one.
+use Rattle.std.proofs.Common.{◌≡◌, ℕ, Bool, true, false, ◌==◌, ◌&&◌, ◌||◌, not, [], ◌∷◌, ◌++◌, refl, sym, ap, ◌∙◌, rules}
+use Rattle.std.proofs.Common.{Option, Some, None, append_assoc, append-nil, inl, inr, subst}
+use Rattle.std.proofs.lemmas.Bool.{and_from, and_parts, or_left}
 use Rattle.std.proofs.lemmas.List.Folds.{list_all-append}
-use Rattle.semver_texts.specs.Texts.{Text}
+use Rattle.std.specs.Prelude.{option_map}
+use Rattle.semver_texts.specs.Texts.{Text, is_empty}
 use Rattle.semver_texts.specs.declared.grammar.Grammar.TheVariants.{Cargo}
+use Rattle.semver_ranges.specs.Partials.{states_nothing}
 use Rattle.semver_ranges.specs.RangeTree.{PartialTree, Form, bare, equal, less, at_most, greater, at_least, tilde, caret, Simple}
-use Rattle.semver_ranges.specs.RangeTree.{is_blank, AreBlanks, SpellsPartial, SpellsForm}
-use Rattle.semver_ranges.specs.Steps.Reading.{front, after_blanks, operator, with_first, component}
-use Rattle.semver_ranges.proofs.ReadingPieces.{front-back, front_all, operator_sound, first_sound, component_sound, PartialAt, FormAt}
+use Rattle.semver_ranges.specs.RangeTree.{after_form, is_blank, AreBlanks, SpellsForm}
+use Rattle.semver_ranges.specs.CargoGrammar.{sign, is_of_cargo, SpellsComparator}
+use Rattle.semver_ranges.specs.Steps.Reading.{after_blanks, ends_word, operator, partial, simple, with_form}
+use Rattle.semver_ranges.specs.Steps.FoundItems.{FoundTerm, FoundWord, Item, begins_with_tilde_greater, comparator_at, may_come, one_term}
+use Rattle.semver_ranges.specs.Steps.FoundItems.{simple_of, with_comparator}
+use Rattle.semver_ranges.proofs.ReadingPieces.{SimpleAt, simple_sound}
 use Rattle.semver_ranges.proofs.ReadingPieces.{starts, starts-append, is_word_byte, component_word, partial_starts}
-use Rattle.semver_ranges.proofs.WrittenPieces.{stops, ends_partial, first_read, operator_read, blanks_after, no_blank, no_sign}
+use Rattle.semver_ranges.proofs.WrittenPieces.{stops, operator_read, blanks_after, no_blank, no_sign, partial_read}
 use Rattle.semver_texts.proofs.Lists.{by_test}
-use Rattle.semver_ranges.specs.Steps.Items.{FoundTerm, simple_of}
-use Rattle.tool_ranges.specs.CargoGrammar.{sign, is_of_cargo, SpellsComparator}
-use Rattle.tool_ranges.specs.Steps.CargoReading.{begins_with_tilde_greater, at_end, with_operator, comparator_at}
 
 -- ---- a comparator that is found is in the text
-
--- the text is `front`, and then either ends or has a comma and the rest
-abbrev pub Follows : Text → Text → Option Text → Type 0
-Follows front t None = t ≡ front
-Follows front t (Some u) = t ≡ front ++ (44 ∷ u)
-
-abbrev pub ComparatorAt : Text → Option (FoundTerm × Option Text) → Type 0
-ComparatorAt t None = Unit {0}
-ComparatorAt t (Some found) = (front : Text) × SpellsComparator (simple_of found.0) front × Follows front t found.1
 
 -- the text before a partial version is a sign and blanks, unless it begins with `~>`
 form_signed : (f : Form) (w t : Text) → SpellsForm Cargo f w → begins_with_tilde_greater (w ++ t) ≡ false
@@ -41,54 +33,96 @@ form_signed greater w t h n = h
 form_signed at_least w t h n = h
 form_signed caret w t h n = h
 
--- the pieces of a comparator make one, if nothing or a comma follows them
-made : (x : FoundTerm) (before gap word after v t : Text) → AreBlanks Cargo before → AreBlanks Cargo gap → AreBlanks Cargo after
-    → SpellsPartial x.version.partial word
-    → is_of_cargo (simple_of x) ≡ true → t ≡ before ++ ((sign x.form ++ gap) ++ (word ++ (after ++ v))) → ComparatorAt t (at_end x v)
-made x before gap word after [] t b g a p r text = search rules
-made x before gap word after (c ∷ v) t b g a p r text = by_test (c == 44)
-    (λ e. rw e (
-      before ++ _,
+-- the term and the rest of what is found
+abbrev term_and : FoundTerm → Text → Option (Item × Text)
+term_and x u = Some (one_term x, u)
+
+abbrev term_of : FoundTerm → Option (Item × Text) → FoundTerm
+term_of other (Some (one_term x, u)) = x
+term_of other _ = other
+
+abbrev rest_of : Text → Option (Item × Text) → Text
+rest_of other (Some found) = found.1
+rest_of other None = other
+
+-- a comparator at the beginning of a text t is a term that may come
+module _ (is_first : Bool) (t : Text) where
+  abbrev Came : FoundTerm → Text → Option (Simple × Text) → Type 0
+  Came x u o = (o ≡ Some (simple_of x, u)) × (may_come is_first t (simple_of x) u ≡ true)
+
+  same_came : (f : Form) (p : PartialTree) (v : Text) (x y : FoundTerm) (w u : Text) → term_and x w ≡ term_and y u
+      → with_form Cargo f (Some (p, v)) ≡ Some (simple_of x, w) → may_come is_first t (simple_of x) w ≡ true
+      → Came y u (with_form Cargo f (Some (p, v)))
+  same_came f p v x y w u same form may =
+      let both : Came x w (with_form Cargo f (Some (p, v))) = (form, may) in
+      subst (λ u. Came y u (with_form Cargo f (Some (p, v)))) (ap (rest_of w) same)
+      (subst (λ y. Came y w (with_form Cargo f (Some (p, v)))) (ap (term_of x) same) both)
+
+  came : (f : Form) (r : Text) (q : Option (PartialTree × Text)) (x : FoundTerm) (u : Text)
+      → with_comparator is_first t (with_form Cargo f q)
+      (option_map (λ found. record { partial = found.0; from = r; after = found.1 }) q) ≡ Some (one_term x, u)
+      → Came x u (with_form Cargo f q)
+  came f r None x u e = cc
+  came f r (Some (p, v)) x u e = by_test (may_come is_first t (record { form = f; partial = p }) (after_blanks Cargo v))
+      (λ y. same_came f p v _ x (after_blanks Cargo v) u (rw y at e) refl y)
+      (λ n. let no : None ≡ Some (one_term x, u) = rw n at e in cc)
+
+  -- its text
+  pub record Comparator (x : FoundTerm) (u : Text) : Type 0 where
+    pub front : Text
+    pub spelled : SpellsComparator (simple_of x) front
+    pub whole : t ≡ front ++ u
+    pub alone : (not (states_nothing x.version.partial) || (is_first && is_empty u)) ≡ true
+
+  spelled_at : (x : FoundTerm) (u : Text) → SimpleAt Cargo t (Some (simple_of x, u)) → may_come is_first t (simple_of x) u ≡ true
+      → Comparator x u
+  spelled_at x u (w, gap, (sgn, word, form, spelled, text), parts, whole) may =
+      let rules = and_parts (not (begins_with_tilde_greater t)) _ may in
+      let accepted = and_parts (is_of_cargo (simple_of x)) _ rules.1 in
+      let all : t ≡ sgn ++ (word ++ (gap ++ u)) = whole ∙ ap (λ y. y ++ (gap ++ u)) text ∙ append_assoc sgn word (gap ++ u) in
+      let signed = form_signed x.form sgn (word ++ (gap ++ u)) form (subst (λ y. begins_with_tilde_greater y ≡ false) all (not_true _ rules.0)) in
       record {
-        before = before;
-        gap = gap;
-        word = word;
-        after = after;
-        before_is = b;
-        gap_is = g;
-        after_is = a;
-        partial = p;
-        is_read = r;
-        text = refl;
-      },
-      text ∙ ap (λ y. before ++ ((sign x.form ++ gap) ++ (word ++ (after ++ (y ∷ v))))) (eqb-true c 44 e) ∙ simp append_assoc,
-    ))
-    (λ e. rw e tt)
+        front = sign x.form ++ (signed.0 ++ (word ++ gap));
+        spelled = record {
+          before = [];
+          gap = signed.0;
+          word = word;
+          after = gap;
+          before_is = refl;
+          gap_is = signed.1;
+          after_is = parts.0;
+          partial = spelled;
+          is_read = accepted.0;
+          text = refl;
+        };
+        whole = all ∙ ap (λ y. y ++ (word ++ (gap ++ u))) signed.2 ∙ simp append_assoc;
+        alone = accepted.1;
+      }
+    where
+      not_true : (b : Bool) → not b ≡ true → b ≡ false
+      not_true true e = cc
+      not_true false e = refl
 
-partial_made : (before gap t from u : Text) (f : Form) (o : Option (PartialTree × Text)) → AreBlanks Cargo before → AreBlanks Cargo gap
-    → t ≡ before ++ ((sign f ++ gap) ++ u) → PartialAt u o → ComparatorAt t (with_operator from (f, u) o)
-partial_made before gap t from u f None b g text h = tt
-partial_made before gap t from u f (Some (p, v)) b g text (word, spelled, whole) = by_test (is_of_cargo (record { form = f; partial = p }))
-    (λ e. rw e (made _ before gap word _ (after_blanks Cargo v) t b g
-    (front_all (is_blank Cargo) v) spelled e
-    (text ∙ ap (λ x. before ++ ((sign f ++ gap) ++ x)) (whole ∙ ap (λ x. word ++ x) (front-back (is_blank Cargo) v)))))
-    (λ e. rw e tt)
+  pub comparator_sound : (x : FoundTerm) (u : Text) → comparator_at is_first t ≡ Some (one_term x, u) → Comparator x u
+  comparator_sound x u e =
+      let r = operator Cargo t in
+      let here : Came x u (simple Cargo t) = came r.0 r.1 (partial Cargo (after_form r.0) r.1) x u e in
+      spelled_at x u (subst (SimpleAt Cargo t) here.0 (simple_sound Cargo t)) here.1
 
-here_sound : (before u t : Text) (found : Form × Text) → AreBlanks Cargo before → t ≡ before ++ u
-    → begins_with_tilde_greater u ≡ false → FormAt Cargo u found → ComparatorAt t (with_operator u found (with_first (component found.1)))
-here_sound before u t found b text m (w, form, whole) =
-    let signed = form_signed found.0 w found.1 form (cc) in
-    partial_made before signed.0 t u found.1 found.0 _ b signed.1
-    (cc)
-    (first_sound found.1 (component found.1) (component_sound found.1))
-
-pub comparator_sound : (t : Text) → ComparatorAt t (comparator_at t)
-comparator_sound t =
-    let u = after_blanks Cargo t in
-    by_test (begins_with_tilde_greater u)
-    (λ e. rw e tt)
-    (λ e. rw e (here_sound _ u t _
-    (front_all (is_blank Cargo) t) (front-back (is_blank Cargo) t) e (operator_sound Cargo u)))
+-- blanks before a comparator belong to it
+pub blanks_before : (s : Simple) (before t : Text) → AreBlanks Cargo before → SpellsComparator s t → SpellsComparator s (before ++ t)
+blanks_before s before t h spelled = record {
+  before = before ++ spelled.before;
+  gap = spelled.gap;
+  word = spelled.word;
+  after = spelled.after;
+  before_is = list_all-append (is_blank Cargo) before spelled.before ∙ and_from _ _ h spelled.before_is;
+  gap_is = spelled.gap_is;
+  after_is = spelled.after_is;
+  partial = spelled.partial;
+  is_read = spelled.is_read;
+  text = ap (λ y. before ++ y) spelled.text ∙ sym (append_assoc before spelled.before _);
+}
 
 -- ---- a comparator in the text is found
 
@@ -156,9 +190,9 @@ reads f before gap x b g e = by_test (is_bare_form f)
     (λ n. rw (blanks_after Cargo before _ b (signs_stop f gap x n))
     (begins_with f gap x g e (λ is. absurd (cc))))
 
-spaces_end : (after v : Text) → AreBlanks Cargo after → ends_partial v ≡ true → ends_partial (after ++ v) ≡ true
+spaces_end : (after v : Text) → AreBlanks Cargo after → ends_word Cargo v ≡ true → ends_word Cargo (after ++ v) ≡ true
 spaces_end [] v a e = e
-spaces_end (b ∷ after) v a e = search rules
+spaces_end (b ∷ after) v a e = or_left _ _ (and_parts (is_blank Cargo b) _ a).0
 
 -- the comparator that is found in a text t, from its beginning `w`, after which `v` is left
 abbrev pub found_comparator : (s : Simple) (w v t : Text) → SpellsComparator s w → FoundTerm
@@ -169,25 +203,21 @@ found_comparator s w v t spelled = record {
   upper = None;
 }
 
-comparator_read : (s : Simple) (w v t : Text) (spelled : SpellsComparator s w) → t ≡ w ++ v → ends_partial v ≡ true
-    → stops (is_blank Cargo) v ≡ true → comparator_at t ≡ at_end (found_comparator s w v t spelled) v
-comparator_read s w v t spelled whole e n =
+pub comparator_read : (is_first : Bool) (s : Simple) (w v t : Text) (spelled : SpellsComparator s w) → t ≡ w ++ v
+    → ends_word Cargo v ≡ true → stops (is_blank Cargo) v ≡ true
+    → (not (states_nothing s.partial) || (is_first && is_empty v)) ≡ true
+    → comparator_at is_first (after_blanks Cargo t) ≡ Some (one_term (found_comparator s w v t spelled), v)
+comparator_read is_first s w v t spelled whole e n alone =
     let x = spelled.word ++ (spelled.after ++ v) in
     let text : t ≡ spelled.before ++ ((sign s.form ++ spelled.gap) ++ x) = whole ∙ ap (λ y. y ++ v) spelled.text ∙ simp append_assoc in
     let begins = starts-append is_word_byte spelled.word (spelled.after ++ v) (component_word spelled.word (partial_starts s.partial spelled.word
     spelled.partial)) in
     let read : Reads s.form (after_blanks Cargo t) x = rw text (reads s.form spelled.before spelled.gap x spelled.before_is spelled.gap_is begins) in
     rw (
-      read.0,
       read.1,
-      first_read s.partial spelled.word _ spelled.partial (spaces_end spelled.after v spelled.after_is e),
-      spelled.is_read,
+      partial_read Cargo (after_form s.form) s.partial spelled.word (spelled.after ++ v) spelled.partial (spaces_end spelled.after v spelled.after_is e),
       blanks_after Cargo spelled.after v spelled.after_is n,
+      read.0,
+      spelled.is_read,
+      alone,
     ) refl
-
-pub ended_read : (s : Simple) (t : Text) (spelled : SpellsComparator s t) → comparator_at t ≡ Some (found_comparator s t [] t spelled, None)
-ended_read s t spelled = comparator_read s t [] t spelled (sym (append-nil t)) refl refl
-
-pub parted_read : (s : Simple) (w u t : Text) (spelled : SpellsComparator s w) → t ≡ w ++ (44 ∷ u)
-    → comparator_at t ≡ Some (found_comparator s w (44 ∷ u) t spelled, Some u)
-parted_read s w u t spelled whole = comparator_read s w _ t spelled whole refl refl

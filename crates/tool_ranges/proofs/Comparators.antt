@@ -1,139 +1,45 @@
 -- Reading the comparators of a requirement one after the other gives those of its tree.
-use Rattle.std.proofs.Common.{◌≡◌, ℕ, zero, suc, ◌≤◌, Bool, true, false, not, ◌&&◌, List, [], ◌∷◌, ◌++◌, length, refl, sym, ap, ◌∙◌, subst, arith}
-use Rattle.std.proofs.Common.{Option, Some, None, map, length-append}
-use Rattle.std.proofs.Math.Bool.{and-false}
-use Rattle.std.specs.Prelude.{option_map, is_some, Result, Ok, Err}
-use Rattle.std.specs.Borrow.{Bor}
-use Rattle.std.specs.List.{list_any}
-use Rattle.semver_texts.specs.Texts.{Text}
+use Rattle.std.proofs.Common.{◌≡◌, ℕ, zero, suc, ◌+◌, ◌≤◌, Bool, true, false, not, ◌&&◌, ◌||◌, ◌==◌, ◌⊎◌, if◌then◌else◌, inl, inr, List, [], ◌∷◌, ◌++◌, length, refl, sym, ap, ◌∙◌}
+use Rattle.std.proofs.Common.{Option, Some, None, map, subst, arith, append_assoc, append-nil}
+use Rattle.std.proofs.lemmas.Bool.{and_parts, eqb-true}
+use Rattle.std.proofs.Math.Bool.{and-false, or-true}
+use Rattle.std.specs.Prelude.{option_map, nat_lt}
+use Rattle.std.specs.List.{list_all, list_any}
+use Rattle.semver_texts.specs.Texts.{Text, is_empty, is_part_byte}
+use Rattle.std.proofs.lemmas.Bool.Decides.{nat_tests}
 use Rattle.semver_texts.proofs.Lists.{by_test}
-use Rattle.semver_ranges.specs.Partials.{states_nothing}
-use Rattle.semver_ranges.specs.RangeTree.{Simple}
-use Rattle.tool_ranges.specs.CargoGrammar.{SpellsComparator, SpellsComparators, SpellsRequirement, stands_alone}
-use Rattle.tool_ranges.specs.CargoMeaning.{as_read}
-use Rattle.tool_ranges.specs.declared.dialect.Dialect.TheVariants.{Cargo}
-use Rattle.semver_texts.specs.declared.grammar.Grammar.{Grammar}
 use Rattle.semver_texts.specs.declared.grammar.Grammar.TheVariants as grammar
-use Rattle.semver_ranges.specs.declared.cursor.Event as written
-use Rattle.semver_ranges.specs.declared.cursor.Event.TheVariants as given
-use Rattle.semver_ranges.specs.declared.events.Events.{Events}
-use Rattle.semver_ranges.specs.declared.events.Event.TheVariants as event
-use Rattle.semver_ranges.specs.declared.grammar.Simple as found
-use Rattle.semver_ranges.specs.declared.range_set.RangeError.{RangeError}
-use Rattle.semver_ranges.specs.declared.term.RawTerm.{RawTerm}
-use Rattle.semver_ranges.specs.Steps.CursorViews.{IsSimpleOf}
-use Rattle.semver_ranges.specs.Steps.Items.{FoundTerm, GivesItem, IsTermOf, Item, one_term, simple_of}
-use Rattle.tool_ranges.specs.declared.cursor.Comparators as read
-use Rattle.tool_ranges.specs.declared.cursor.Cursor.TheVariants.{Requirement, Ranges}
-use Rattle.tool_ranges.specs.Steps.CargoReading.{comparator_at, after_comma}
-use Rattle.semver_ranges.specs.RangeTree.{SetTree, simples}
-use Rattle.semver_ranges.proofs.ItemSteps.{left_next as items_next}
-use Rattle.semver_ranges.specs.Steps.RangeEvents.{Event, one_simple, next_range, in_front, events_of, put, set_events, yielded}
+use Rattle.semver_ranges.specs.Partials.{states_nothing}
+use Rattle.semver_ranges.specs.RangeTree.{Form, Simple, SetTree, simples, is_blank, AreBlanks, bare, equal, less, at_most, greater, at_least}
+use Rattle.semver_ranges.specs.RangeTree.{tilde, caret}
+use Rattle.semver_ranges.specs.CargoGrammar.{as_read, sign, SpellsComparator, SpellsComparators, SpellsRequirement, stands_alone}
 use Rattle.semver_ranges.specs.declared.partial.LowerBounds.{LowerBounds}
-use Rattle.tool_ranges.specs.Steps.Cursors.{ComesFirst, GivesComparator, GivesTerm, HasLeftIn, IsGiven, IsNext, comparator_items, comparators_left, if_allowed}
-use Rattle.tool_ranges.specs.Steps.Cursors.{requirement_items, rest_length}
-use Rattle.tool_ranges.specs.Steps.Cursors.{comparators_from, events_in, ranges_of, requirement, tree_of, with_comma, with_others}
-use Rattle.tool_ranges.proofs.ComparatorReading.{ComparatorAt, Follows, comparator_sound, ended_read, found_comparator, parted_read}
-
--- ---- the next comparator
-
-module _ (n : ℕ) (is_first : Bool) (t : Text) where
-  left_next : (term : RawTerm) (after : Option (Bor Text)) (next : IsNext n is_first t term after)
-      → (comparators_from n is_first t ≡ with_comma (simple_of next.here.x) next.k after)
-      × (comparator_items n is_first t ≡ one_term next.here.x ∷ requirement_items next.k false after)
-  left_next term None next = rw (next.one, next.allowed) (refl, refl)
-  left_next term (Some rest) next = rw (next.one, next.allowed) (refl, refl)
-
-pub same_some : (o : Option (Bor Text)) → is_some (after_comma o) ≡ is_some o
-same_some None = refl
-same_some (Some rest) = refl
-
--- a comparator that is next is the first of the events that are left
-put_first : (s : Simple) (k : ℕ) (after : Option (Bor Text))
-    → option_map (λ ss. in_front (map as_read ss) []) (with_comma s k after) ≡ put (one_simple (as_read s)) (comparators_left k false after)
-put_first s k None = refl
-put_first s k (Some rest) = of (comparators_from k false rest.now) where
-  of : (o : Option (List Simple)) → option_map (λ ss. in_front (map as_read ss) []) (option_map (λ ss. s ∷ ss) o)
-      ≡ put (one_simple (as_read s)) (option_map (λ ss. in_front (map as_read ss) []) o)
-  of None = refl
-  of (Some ss) = refl
-
-module _ (d : Grammar) (o : Option (List Event)) (before after : read.Comparators) (left : HasLeftIn d (Requirement before) o) where
-  pub comes_first : (term : RawTerm) (simple : found.Simple) → GivesComparator before (Some (Ok term)) after
-      → ((x : FoundTerm) → IsTermOf grammar.Cargo x term → IsSimpleOf (as_read (simple_of x)) simple)
-      → ComesFirst d o (event.Simple simple) (Requirement after)
-  comes_first term simple (rest, was, next, more, first) is =
-      let s = simple_of next.here.x in (
-        one_simple (as_read s),
-        comparators_left next.k false after.rest,
-        is next.here.x next.here.is,
-        rw (more, first) refl,
-        left ∙ ap (comparators_left before.more before.is_first) was
-            ∙ ap (option_map (λ ss. in_front (map as_read ss) [])) (left_next before.more before.is_first rest.now term after.rest next).0
-            ∙ put_first s next.k after.rest,
-      )
-
-found_here : (x : FoundTerm) (t : Text) (after : Option Text) → comparator_at t ≡ Some (x, after)
-    → (front : Text) × SpellsComparator (simple_of x) front × Follows front t after
-found_here x t after e = let h : ComparatorAt t (Some (x, after)) = subst (ComparatorAt t) e (comparator_sound t) in h
-
--- a comparator that is allowed is at the beginning of the text
-was_allowed : (is_first : Bool) (o : Option (FoundTerm × Option Text)) (x : FoundTerm) (after : Option Text)
-    → if_allowed is_first o ≡ Some (x, after)
-    → (o ≡ Some (x, after)) × ((states_nothing x.version.partial && not (is_first && not (is_some after))) ≡ false)
-was_allowed is_first None x after e = cc
-was_allowed is_first (Some (y, rest)) x after e = by_test (states_nothing y.version.partial && not (is_first && not (is_some rest)))
-    (λ z. let no : None ≡ Some (x, after) = rw z at e in cc)
-    (λ n. let same : Some (y, rest) ≡ Some (x, after) = rw n at e in (same, allowed (y, rest) (x, after) same n))
-  where
-    allowed : (found other : FoundTerm × Option Text) → Some found ≡ Some other
-        → (states_nothing found.0.version.partial && not (is_first && not (is_some found.1))) ≡ false
-        → (states_nothing other.0.version.partial && not (is_first && not (is_some other.1))) ≡ false
-    allowed found other same n = let e : found ≡ other = cc in rw e at n
-
-comma_shorter : (t : Text) (x : FoundTerm) (after : Option (Bor Text)) → comparator_at t ≡ Some (x, after_comma after)
-    → rest_length after ≤ length t
-comma_shorter t x None e = omega arith
-comma_shorter t x (Some rest) e =
-    let here = found_here x t (Some rest.now) e in
-    omega (arith, simp length-append at (ap length here.2))
-
--- what a cursor over a requirement gives, as it is written
-module _ (d : Grammar) (before after : read.Comparators) where
-  pub comparator_given : (term : RawTerm) → GivesComparator before (Some (Ok term)) after
-      → IsGiven d (Requirement before) (given.Term term) (Requirement after)
-  comparator_given term (rest, was, next, more, first) = record {
-    grammar = grammar.Cargo;
-    x = one_term next.here.x;
-    is = (next.here.is, rw was next.here.within);
-    whole = rw (was, more, first) (left_next before.more before.is_first rest.now term after.rest next).1;
-    fewer = omega (arith, more, next.one);
-    shorter = rw was (let short = comma_shorter rest.now _ after.rest next.here.found in omega (arith, short));
-  }
-
--- what a cursor over ranges gives
-pub ranges_given : (d : Grammar) (before after : Events) (given : Option (Result written.Event RangeError))
-    → GivesItem d before.cursor given after.cursor → GivesTerm d (Ranges before) given (Ranges after)
-ranges_given d before after None (here, there) =
-    record { none_before = rw (here.0, here.1) refl; none_after = rw (there.0, there.1) refl; shorter = rw there.1 (omega arith) }
-ranges_given d before after (Some (Ok e)) taken = record {
-  grammar = d;
-  x = taken.x;
-  is = taken.is;
-  whole = taken.whole;
-  fewer = omega (arith, taken.fewer);
-  shorter = taken.shorter;
-}
-ranges_given d before after (Some (Err e)) (none, is, there, some) = record {
-  none_before = items_next d before.cursor.begins_range before.cursor.rest.now None none.found;
-  none_after = rw (there.0, there.1) refl;
-  shorter = rw there.1 (omega arith);
-}
+use Rattle.semver_ranges.specs.Steps.FoundItems.{FoundTerm, Item, comparator, comparator_at, empty_range, items_left, one_term, simple_of}
+use Rattle.semver_ranges.specs.Steps.FoundItems.{two_bars}
+use Rattle.semver_ranges.specs.Steps.Reading.{after_blanks, front}
+use Rattle.semver_ranges.specs.Steps.RangeEvents.{Event, before_others, comparators_left, events_of, in_front, next_range, set_events}
+use Rattle.semver_ranges.specs.Steps.RangeEvents.{some_comparators, yielded}
+use Rattle.semver_ranges.proofs.ComparatorSteps.{one_left}
+use Rattle.semver_ranges.proofs.ItemSteps.{left_next}
+use Rattle.semver_ranges.proofs.ReadingPieces.{front-back, front_all}
+use Rattle.semver_ranges.proofs.WordBytes.{partial_bytes}
+use Rattle.semver_texts.specs.declared.grammar.Grammar.{Grammar}
+use Rattle.semver_ranges.specs.CargoGrammar.{is_cargo}
+use Rattle.semver_ranges.specs.Steps.Reading.{read}
+use Rattle.semver_ranges.specs.Steps.RangeEvents.{events}
+use Rattle.semver_ranges.proofs.EventSteps.{begin_left}
+use Rattle.tool_ranges.specs.Dialects.{grammar_of}
+use Rattle.tool_ranges.specs.declared.dialect.Dialect.{Dialect}
+use Rattle.tool_ranges.specs.declared.dialect.Dialect.TheVariants.{Cargo, Npm, CrateCargo, CrateNpm}
+use Rattle.tool_ranges.specs.Steps.TextEvents.{commas, events_in, has_few_commas, may_be_a_range, ranges_of, read_as, requirement}
+use Rattle.tool_ranges.specs.Steps.TextEvents.{text_events, tree_of}
+use Rattle.tool_ranges.proofs.Commas.{comparators_commas}
+use Rattle.tool_ranges.proofs.ComparatorReading.{blanks_before, comparator_read, comparator_sound, found_comparator}
 
 -- ---- the tree that is read spells the text
 
-abbrev Reads : ℕ → Bool → Text → List Simple → Type 0
-Reads n is_first t tree = SpellsComparators tree t × (length tree ≤ n)
+abbrev Reads : Bool → Text → List Simple → Type 0
+Reads is_first t tree = SpellsComparators tree t
     × (is_first ≡ false → list_any (λ s. states_nothing s.partial) tree ≡ false) × (is_first ≡ true → stands_alone tree ≡ true)
 
 stands_so : (tree : List Simple) → list_any (λ s. states_nothing s.partial) tree ≡ false → stands_alone tree ≡ true
@@ -146,54 +52,69 @@ goes_on : (s : Simple) (front t u : Text) (left : List Simple) → SpellsCompara
 goes_on s front t u [] spelled text h = absurd h
 goes_on s front t u (next ∷ others) spelled text h = (front, u, spelled, h, text)
 
-pub comparators_sound : (n : ℕ) (is_first : Bool) (t : Text) (tree : List Simple) → comparators_from n is_first t ≡ Some tree
-    → Reads n is_first t tree
-comparators_sound zero is_first t tree e = cc
-comparators_sound (suc k) is_first t tree e = by (comparators_sound k false) (if_allowed is_first (comparator_at t)) refl e where
-  by : ((u : Text) (left : List Simple) → comparators_from k false u ≡ Some left → Reads k false u left)
-      → (found : Option (FoundTerm × Option Text)) → if_allowed is_first (comparator_at t) ≡ found
-      → with_others (comparators_from k false) found ≡ Some tree → Reads (suc k) is_first t tree
-  by sound None here e = cc
-  by sound (Some (x, None)) here e =
-      let allowed = was_allowed is_first (comparator_at t) x None here in
-      let spelled = found_here x t None allowed.0 in
-      let one : simple_of x ∷ [] ≡ tree = cc in
-      subst (Reads (suc k) is_first t) one (
-        subst (SpellsComparator (simple_of x)) (sym spelled.2) spelled.1,
-        omega arith,
-        λ n. by_test (states_nothing x.version.partial) (λ z. let no : true ≡ false = rw (n, z) at allowed.1 in cc) (λ m. rw m refl),
-        λ _. refl,
-      )
-  by sound (Some (x, Some u)) here e = others (comparators_from k false u) refl e
-    where
-      allowed : (comparator_at t ≡ Some (x, Some u)) × ((states_nothing x.version.partial && not (is_first && false)) ≡ false)
-      allowed = was_allowed is_first (comparator_at t) x (Some u) here
+-- a comparator that may not be the only one states a number
+states_one : (b : Bool) → (not b || false) ≡ true → b ≡ false
+states_one true e = cc
+states_one false e = refl
 
-      states : states_nothing x.version.partial ≡ false
-      states = by_test (states_nothing x.version.partial)
-          (λ z. let no : true ≡ false = rw (and-false is_first, z) at allowed.1 in cc)
-          (λ m. m)
+-- the next comparator of what is left, `r`, is at the beginning of the text t, after any blanks
+abbrev IsNextOf : Bool → Text → Text → Type 0
+IsNextOf is_first t r = (comparator is_first r ≡ comparator_at is_first (after_blanks grammar.Cargo t)) × ((not is_first && is_empty r) ≡ false)
 
-      others : (o : Option (List Simple)) → comparators_from k false u ≡ o → option_map (λ ss. simple_of x ∷ ss) o ≡ Some tree
-          → Reads (suc k) is_first t tree
-      others None is more = cc
-      others (Some left) is more =
-          let whole : simple_of x ∷ left ≡ tree = cc in
-          let rest = sound u left is in
-          let front = found_here x t (Some u) allowed.0 in
-          let none : list_any (λ s. states_nothing s.partial) (simple_of x ∷ left) ≡ false = rw (states, rest.2 refl) refl in
-          subst (Reads (suc k) is_first t) whole
-          (goes_on (simple_of x) front.0 t u left front.1 front.2 rest.0, omega (arith, rest.1), λ _. none, λ _. stands_so (simple_of x ∷ left) none)
+-- the comparators after one that was read
+others_read : (n : ℕ)
+    → ((is_first : Bool) (t r : Text) (tree : List Simple) → IsNextOf is_first t r → some_comparators n is_first r ≡ Some tree → Reads is_first t tree)
+    → (u : Text) (left : List Simple) → some_comparators n false u ≡ Some left
+    → ((u ≡ []) × (left ≡ [])) ⊎ ((v : Text) × (u ≡ 44 ∷ v) × Reads false v left)
+others_read zero sound u left e = cc
+others_read (suc n) sound [] left e = inl (refl, let same : [] ≡ left = cc in sym same)
+others_read (suc n) sound (b ∷ u) left e = by_test (b == 44)
+    (λ y. inr (u, ap (λ c. c ∷ u) (eqb-true b 44 y), sound false u (b ∷ u) left (rw y refl, refl) e))
+    (λ m. let no : None ≡ Some left = rw m at e in cc)
 
-pub requirement_sound : (t : Text) (tree : SetTree) → requirement t ≡ Some tree → SpellsRequirement tree t
-requirement_sound t tree e = by (comparators_from 32 true t) refl e where
-  by : (o : Option (List Simple)) → comparators_from 32 true t ≡ o → option_map tree_of o ≡ Some tree → SpellsRequirement tree t
+-- the comparators from the next one on, if it was read as `o`
+found_read : (n : ℕ) (is_first : Bool) (t : Text) (tree : List Simple)
+    → ((u : Text) (left : List Simple) → some_comparators n false u ≡ Some left
+    → ((u ≡ []) × (left ≡ [])) ⊎ ((v : Text) × (u ≡ 44 ∷ v) × Reads false v left))
+    → (o : Option (Item × Text)) → comparator_at is_first (after_blanks grammar.Cargo t) ≡ o
+    → before_others (some_comparators n false) o ≡ Some tree → Reads is_first t tree
+found_read n is_first t tree others None here e = cc
+found_read n is_first t tree others (Some (empty_range, u)) here e = cc
+found_read n is_first t tree others (Some (two_bars, u)) here e = cc
+found_read n is_first t tree others (Some (one_term x, u)) here e = by (some_comparators n false u) refl e where
+  s : Simple
+  s = simple_of x
+
+  before : Text
+  before = front (is_blank grammar.Cargo) t
+
+  by : (q : Option (List Simple)) → some_comparators n false u ≡ q → option_map (λ ss. s ∷ ss) q ≡ Some tree → Reads is_first t tree
   by None is e = cc
-  by (Some []) is e = absurd (comparators_sound 32 true t [] is).0
-  by (Some (first ∷ others)) is e =
-      let whole : simples first others ∷ [] ≡ tree = cc in
-      let r = comparators_sound 32 true t (first ∷ others) is in
-      subst (λ tree. SpellsRequirement tree t) whole (record { comparators = r.0; alone = r.3 refl; few = r.1 })
+  by (Some left) is e =
+      let tree_is : s ∷ left ≡ tree = cc in
+      let c = comparator_sound is_first (after_blanks grammar.Cargo t) x u here in
+      let spelled : SpellsComparator s (before ++ c.front) = blanks_before s before c.front (front_all (is_blank grammar.Cargo) t) c.spelled in
+      let whole : t ≡ (before ++ c.front) ++ u = front-back (is_blank grammar.Cargo) t ∙ ap (λ y. before ++ y) c.whole ∙ sym (append_assoc before c.front u) in
+      subst (Reads is_first t) tree_is (elim (others u left is) [
+        | inl (none, last) ↦
+            let all : t ≡ before ++ c.front = whole ∙ ap (λ y. (before ++ c.front) ++ y) none ∙ append-nil _ in
+            let alone : is_first ≡ false → states_nothing s.partial ≡ false = λ n. states_one _ (rw n at c.alone) in
+            rw last (subst (SpellsComparator s) (sym all) spelled, λ n. rw (alone n) refl, λ _. refl)
+        | inr (v, comma, rest) ↦
+            let alone : states_nothing s.partial ≡ false = states_one _ (rw (comma, and-false is_first) at c.alone) in
+            let none : list_any (λ s. states_nothing s.partial) (s ∷ left) ≡ false = rw alone (rest.1 refl) in (
+              goes_on s (before ++ c.front) t v left spelled (whole ∙ ap (λ y. (before ++ c.front) ++ y) comma) rest.0,
+              λ _. none,
+              λ _. stands_so (s ∷ left) none,
+            )
+      ])
+
+comparators_sound : (n : ℕ) (is_first : Bool) (t r : Text) (tree : List Simple) → IsNextOf is_first t r
+    → some_comparators n is_first r ≡ Some tree → Reads is_first t tree
+comparators_sound zero is_first t r tree next e = cc
+comparators_sound (suc n) is_first t r tree (here, some) e =
+    found_read n is_first t tree (others_read n (comparators_sound n)) (comparator_at is_first (after_blanks grammar.Cargo t)) refl
+    (rw (some, here) at e)
 
 -- ---- a tree that spells the text is read
 
@@ -210,27 +131,63 @@ found_items (s ∷ []) t spelled = one_term (found_comparator s t [] t spelled) 
 found_items (s ∷ next ∷ others) t (front, back, spelled, more, whole) =
     one_term (found_comparator s front (44 ∷ back) t spelled) ∷ found_items (next ∷ others) back more
 
-pub comparators_complete : (n : ℕ) (is_first : Bool) (t : Text) (tree : List Simple) (spelled : SpellsComparators tree t) → length tree ≤ n
+pub comparators_complete : (is_first : Bool) (t r : Text) (tree : List Simple) (spelled : SpellsComparators tree t) → IsNextOf is_first t r
     → (is_first ≡ false → list_any (λ s. states_nothing s.partial) tree ≡ false) → stands_alone tree ≡ true
-    → (comparators_from n is_first t ≡ Some tree) × (comparator_items n is_first t ≡ found_items tree t spelled)
-comparators_complete n is_first t [] h few all alone = absurd h
-comparators_complete zero is_first t (s ∷ tree) h few all alone = absurd (omega (arith, few))
-comparators_complete (suc k) is_first t (s ∷ []) h few all alone =
-    let may : (states_nothing s.partial && not (is_first && true)) ≡ false = by_test is_first
-    (λ y. rw y (and-false _))
+    → (comparators_left is_first r ≡ Some tree) × (items_left grammar.Cargo is_first r ≡ found_items tree t spelled)
+comparators_complete is_first t r [] h next all alone = absurd h
+comparators_complete is_first t r (s ∷ []) h (here, some) all alone =
+    let may : (not (states_nothing s.partial) || (is_first && true)) ≡ true = by_test is_first
+    (λ y. rw y (or-true _))
     (λ n. by_test (states_nothing s.partial) (λ z. let no : true ≡ false = rw z at (all n) in cc) (λ m. rw m refl)) in
-    rw (ended_read s t h, may) (refl, refl)
-comparators_complete (suc k) is_first t (s ∷ next ∷ others) (front, back, h, more, text) few all alone =
+    let found = here ∙ comparator_read is_first s t [] t h (sym (append-nil t)) refl refl may in
+    let x = found_comparator s t [] t h in
+    (one_left is_first r x [] found some, left_next grammar.Cargo is_first r (Some (one_term x, [])) found)
+comparators_complete is_first t r (s ∷ next ∷ others) (front, back, h, more, text) (here, some) all alone =
     let none = stands_first s next others alone in
     by_test (states_nothing s.partial)
     (λ y. let no : true ≡ false = rw y at none in cc)
     (λ n. let rest : list_any (λ s. states_nothing s.partial) (next ∷ others) ≡ false = rw n at none in
-    let later = comparators_complete k false back (next ∷ others) more (omega (arith, few)) (λ _. rest) (stands_so (next ∷ others) rest) in
-    rw (parted_read s front back t h text, n, later.0, later.1) (refl, refl))
+    let later = comparators_complete false back (44 ∷ back) (next ∷ others) more (refl, refl) (λ _. rest) (stands_so (next ∷ others) rest) in
+    let found = here ∙ comparator_read is_first s front (44 ∷ back) t h text refl refl (rw n refl) in
+    let x = found_comparator s front (44 ∷ back) t h in (
+      one_left is_first r x (44 ∷ back) found some ∙ ap (option_map (λ ss. s ∷ ss)) later.0,
+      left_next grammar.Cargo is_first r (Some (one_term x, 44 ∷ back)) found ∙ ap (λ xs. one_term x ∷ xs) later.1,
+    ))
 
-pub requirement_complete : (t : Text) (tree : SetTree) → SpellsRequirement tree t → requirement t ≡ Some tree
+-- ---- the tree of a requirement
+
+few_commas : (n : ℕ) → nat_lt n 32 ≡ true → suc n ≤ 32
+few_commas n e = grind (arith, nat_tests)
+
+few_comparators : (n : ℕ) → suc n ≤ 32 → nat_lt n 32 ≡ true
+few_comparators n e = grind (arith, nat_tests)
+
+pub requirement_sound : (t : Text) (tree : SetTree) → (if has_few_commas t then requirement t else None) ≡ Some tree → SpellsRequirement tree t
+requirement_sound t tree e = by_test (has_few_commas t)
+    (λ y. by y (comparators_left true (after_blanks grammar.Cargo t)) refl (rw y at e))
+    (λ n. let no : None ≡ Some tree = rw n at e in cc)
+  where
+    by : has_few_commas t ≡ true → (o : Option (List Simple)) → comparators_left true (after_blanks grammar.Cargo t) ≡ o
+        → option_map tree_of o ≡ Some tree → SpellsRequirement tree t
+    by few None is e = cc
+    by few (Some ss) is e = of ss (comparators_sound (suc (length (after_blanks grammar.Cargo t))) true t (after_blanks grammar.Cargo t) ss (refl, refl) is) e where
+      of : (ss : List Simple) → Reads true t ss → Some (tree_of ss) ≡ Some tree → SpellsRequirement tree t
+      of [] r e = absurd r.0
+      of (first ∷ others) r e =
+          let whole : simples first others ∷ [] ≡ tree = cc in
+          subst (λ tree. SpellsRequirement tree t) whole (record {
+            comparators = r.0;
+            alone = r.2 refl;
+            few = subst (λ n. n ≤ 32) (comparators_commas (first ∷ others) t r.0) (few_commas (commas t) few);
+          })
+
+pub requirement_complete : (t : Text) (tree : SetTree) → SpellsRequirement tree t
+    → (if has_few_commas t then requirement t else None) ≡ Some tree
 requirement_complete t (simples first others ∷ []) h =
-    ap (option_map tree_of) (comparators_complete 32 true t (first ∷ others) h.comparators h.few (λ e. cc) h.alone).0
+    let few : has_few_commas t ≡ true =
+    few_comparators (commas t) (subst (λ n. n ≤ 32) (sym (comparators_commas (first ∷ others) t h.comparators)) h.few) in
+    rw few (ap (option_map tree_of)
+    (comparators_complete true t (after_blanks grammar.Cargo t) (first ∷ others) h.comparators (refl, refl) (λ e. cc) h.alone).0)
 requirement_complete t _ h = absurd h.comparators
 
 -- ---- events of ranges
@@ -249,3 +206,19 @@ same_ranges lower (r ∷ next ∷ others) = ap (λ es. in_front (yielded lower r
 pub same_events : (lower : LowerBounds) (o : Option SetTree) → set_events lower o ≡ option_map (λ tree. events_in (map (yielded lower) tree)) o
 same_events lower None = refl
 same_events lower (Some tree) = ap Some (same_ranges lower tree)
+
+-- the events of a text that may be a range
+module _ (lower : LowerBounds) (t : Text) where
+  ranges_as : (g : Grammar) → is_cargo g ≡ false → events g lower t ≡ option_map (λ tree. events_in (map (yielded lower) tree)) (read g t)
+  ranges_as g other = rw other (sym (begin_left g lower t (after_blanks g t) refl)) ∙ same_events lower (read g t)
+
+  pub events_as : (d : Dialect) → may_be_a_range d t ≡ true → events (grammar_of d) lower t ≡ text_events lower d t
+  events_as Cargo may = rw may (sym (requirement_events lower (comparators_left true (after_blanks grammar.Cargo t))))
+  events_as Npm may = rw may (ranges_as grammar.Npm refl)
+  events_as CrateCargo may = ranges_as grammar.Crate refl
+  events_as CrateNpm may = ranges_as grammar.Crate refl
+
+pub not_read : (t : Text) (d : Dialect) → may_be_a_range d t ≡ false → read_as d t ≡ None
+not_read t Cargo n = rw n refl
+not_read t Npm n = rw n refl
+not_read t _ n = cc

@@ -1,6 +1,6 @@
 -- a text has one tree in each dialect, and the cursor returns its terms
 pub mod ComparatorReading
-mod FoundComparators
+mod Commas
 pub mod Comparators
 mod ReadTrees
 pub mod ReadingLaws

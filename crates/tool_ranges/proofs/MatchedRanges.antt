@@ -31,10 +31,11 @@ use Rattle.version_sets.specs.declared.rules.PreReleases.TheVariants.{ByDialect,
 use Rattle.tool_ranges.specs.declared.dialect.Dialect.{Dialect}
 use Rattle.tool_ranges.specs.declared.dialect.Dialect.TheVariants.{Cargo, Npm, CrateCargo, CrateNpm}
 use Rattle.tool_ranges.specs.declared.matching.Progress.{Progress}
-use Rattle.tool_ranges.specs.CargoMeaning.{against, as_read}
-use Rattle.tool_ranges.specs.CargoGrammar.{comparators_of}
+use Rattle.semver_ranges.specs.CargoGrammar.{as_read}
+use Rattle.tool_ranges.specs.CargoMeaning.{against}
+use Rattle.semver_ranges.specs.CargoGrammar.{comparators_of}
 use Rattle.tool_ranges.specs.CargoMeaning as cargo
-use Rattle.tool_ranges.specs.Steps.Cursors.{ranges_of}
+use Rattle.tool_ranges.specs.Steps.TextEvents.{ranges_of}
 use Rattle.tool_ranges.specs.Meanings.{meant_by}
 use Rattle.tool_ranges.specs.NpmMeaning as npm
 use Rattle.tool_ranges.specs.Steps.Matching.{Says, range_every, range_met, rule_of, is_met, takes_all, term_met}

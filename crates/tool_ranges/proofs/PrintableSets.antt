@@ -25,8 +25,8 @@ use Rattle.semver_ranges.proofs.Tables.{IsTable}
 use Rattle.version_sets.specs.Sides.{SideValue, below, at, past, above}
 use Rattle.tool_ranges.specs.declared.dialect.Dialect.{Dialect}
 use Rattle.tool_ranges.specs.declared.dialect.Dialect.TheVariants.{Cargo, Npm}
-use Rattle.tool_ranges.specs.CargoGrammar.{SpellsComparators, comparators_of}
-use Rattle.tool_ranges.specs.CargoMeaning.{as_read}
+use Rattle.semver_ranges.specs.CargoGrammar.{SpellsComparators, comparators_of}
+use Rattle.semver_ranges.specs.CargoGrammar.{as_read}
 use Rattle.tool_ranges.specs.Dialects.{fits_as, rewritten_as}
 use Rattle.tool_ranges.specs.Sides.{ends_past, may_rise, sides, term_fits}
 use Rattle.tool_ranges.specs.TermComparators.{at_side, lower_comparator, printed, printed_term, upper_comparator}

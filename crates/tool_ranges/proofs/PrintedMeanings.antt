@@ -36,7 +36,7 @@ use Rattle.tool_ranges.specs.declared.dialect.Dialect.{Dialect}
 use Rattle.tool_ranges.specs.declared.dialect.Dialect.TheVariants.{Cargo, Npm}
 use Rattle.tool_ranges.specs.TermComparators.{printed_term}
 use Rattle.tool_ranges.specs.Steps.Matching.{range_every, range_met, term_met}
-use Rattle.tool_ranges.specs.Steps.Cursors.{ranges_of}
+use Rattle.tool_ranges.specs.Steps.TextEvents.{ranges_of}
 use Rattle.tool_ranges.specs.Steps.Printed.{printed_ranges}
 use Rattle.tool_ranges.proofs.AnySizes.{asks_any, pre_any, release_set}
 use Rattle.tool_ranges.proofs.MatchedRanges.{cargo_default, included_range, npm_default}

@@ -19,7 +19,7 @@ use Rattle.semver_ranges.proofs.EventSums.{front_made}
 use Rattle.tool_ranges.specs.declared.dialect.Dialect.{Dialect}
 use Rattle.tool_ranges.specs.declared.dialect.Dialect.TheVariants.{Npm}
 use Rattle.tool_ranges.specs.Dialects.{SpellsAs, rewritten_as}
-use Rattle.tool_ranges.specs.Steps.Cursors.{events_in, ranges_of}
+use Rattle.tool_ranges.specs.Steps.TextEvents.{events_in, ranges_of}
 use Rattle.tool_ranges.specs.Steps.Printed.{printed_ranges}
 use Rattle.tool_ranges.specs.TermComparators.{printed_term}
 use Rattle.tool_ranges.proofs.MatchedEvents.{some_ranges}

@@ -18,7 +18,7 @@ use Rattle.tool_ranges.specs.declared.dialect.Dialect.{Dialect}
 use Rattle.tool_ranges.specs.declared.dialect.Dialect.TheVariants.{Cargo, Npm}
 use Rattle.tool_ranges.specs.Dialects.{RefusesAs, SpellsAs, fits_as}
 use Rattle.tool_ranges.specs.NpmGrammar.{may_stand}
-use Rattle.tool_ranges.specs.Steps.Cursors.{read_as}
+use Rattle.tool_ranges.specs.Steps.TextEvents.{read_as}
 use Rattle.tool_ranges.specs.Steps.Reading.{IsRefusedAs}
 use Rattle.tool_ranges.proofs.Comparators.{requirement_complete, requirement_sound}
 

@@ -20,7 +20,7 @@ use Rattle.semver_ranges.proofs.AnsweredLaws.{set_printable}
 use Rattle.tool_ranges.specs.declared.dialect.Dialect.{Dialect}
 use Rattle.tool_ranges.specs.declared.dialect.Dialect.TheVariants as dialect
 use Rattle.tool_ranges.specs.Dialects.{HasSetAs, IsRewrittenAs, SpellsAs, fits_as, means_release, rewritten_as}
-use Rattle.tool_ranges.specs.CargoMeaning.{as_read}
+use Rattle.semver_ranges.specs.CargoGrammar.{as_read}
 use Rattle.tool_ranges.specs.TermComparators.{printed_term}
 use Rattle.tool_ranges.specs.Steps.Printed.{IsPrintedAs, printed_ranges}
 use Rattle.tool_ranges.proofs.PrintableSets.{npm_prints, reads_back, requirement_printable}

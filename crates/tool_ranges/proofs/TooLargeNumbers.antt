@@ -9,9 +9,12 @@ use Rattle.semver_ranges.specs.declared.partial.Component.TheVariants.{Number}
 use Rattle.semver_ranges.specs.RangeTree.{PartialTree, Simple, is_wildcard, one, two, three}
 use Rattle.semver_ranges.specs.Partials.{stated, zero_filled}
 use Rattle.semver_ranges.specs.Steps.PartialViews.{AreComponentsOf, IsValue}
+use Rattle.semver_ranges.specs.CargoGrammar.{read_in as read_as_in}
+use Rattle.tool_ranges.specs.Dialects.{grammar_of}
 use Rattle.tool_ranges.specs.declared.dialect.Dialect.{Dialect}
+use Rattle.tool_ranges.specs.declared.dialect.Dialect.TheVariants.{Cargo, Npm, CrateCargo, CrateNpm}
 use Rattle.tool_ranges.specs.DialectTable.{limit}
-use Rattle.tool_ranges.specs.FittingTerms.{first_above, too_large}
+use Rattle.tool_ranges.specs.FittingTerms.{first_above, read_in, too_large}
 use Rattle.tool_ranges.specs.Sides.{raised_place, sides, term_fits}
 
 -- if no number of a term is above the limit and the term doesn't fit, the raised number is too large
@@ -48,3 +51,10 @@ module _ (most : ℕ) (patch : Option Component) (x : Option ℕ) where
   second (three a b c parts build) y is small above = by_test (is_wildcard c)
       (λ y. rw (is.0.0, is.1.0, y, small (digits_value 10 a) is.0.1, above (digits_value 10 b) is.1.1) refl)
       (λ n. rw (is.0.0, is.1.0, n, small (digits_value 10 a) is.0.1, above (digits_value 10 b) is.1.1) refl)
+
+-- a term with the operator that a dialect reads is the one with the operator of its grammar
+pub same_read_in : (d : Dialect) (s : Simple) → read_as_in (grammar_of d) s ≡ read_in d s
+same_read_in Cargo s = refl
+same_read_in Npm s = refl
+same_read_in CrateCargo s = refl
+same_read_in CrateNpm s = refl

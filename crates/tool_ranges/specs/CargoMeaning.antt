@@ -14,9 +14,8 @@ use Rattle.semver_ranges.specs.declared.range.Compat.TheVariants.{Cargo}
 use Rattle.semver_texts.specs.Precedence.{precedence}
 use Rattle.semver_texts.specs.Texts.{is_empty}
 use Rattle.semver_texts.specs.Versions.{numbers, PlainVersion}
-use Rattle.semver_ranges.specs.RangeTree.{Form, bare, equal, less, at_most, greater, at_least}
-use Rattle.semver_ranges.specs.RangeTree.{caret, PartialTree, Simple, SetTree, components}
-use Rattle.semver_ranges.specs.RangeTree.{is_wildcard}
+use Rattle.semver_ranges.specs.RangeTree.{Form, less, at_most, greater, at_least}
+use Rattle.semver_ranges.specs.RangeTree.{caret, Simple, SetTree}
 use Rattle.semver_ranges.specs.Partials.{stated}
 use Rattle.semver_ranges.specs.Terms.{of_simple}
 use Rattle.semver_ranges.specs.CrateMeaning.{agrees_past_zeros, meets_form}
@@ -24,20 +23,7 @@ use Rattle.semver_ranges.specs.StatedPreReleases.{states_pre_release_at}
 use Rattle.version_sets.specs.declared.rules.PreReleases.{PreReleases}
 use Rattle.version_sets.specs.declared.rules.PreReleases.TheVariants.{ByDialect, Included, Excluded}
 use Rattle.tool_ranges.specs.AnySize.{zero_filled_any}
-use Rattle.tool_ranges.specs.CargoGrammar.{comparators_of}
-
--- whether some component of a partial version is a wildcard
-abbrev pub has_wildcard : PartialTree → Bool
-has_wildcard p = list_any is_wildcard (components p)
-
--- the operator that Cargo reads: without one it is `^`, or `=` if there is a wildcard
-abbrev pub named : Bool → Form → Form
-named wild bare = if wild then equal else caret
-named wild form = form
-
--- a comparator with the operator that Cargo reads
-abbrev pub as_read : Simple → Simple
-as_read s = record { form = named (has_wildcard s.partial) s.form; partial = s.partial }
+use Rattle.semver_ranges.specs.CargoGrammar.{as_read, comparators_of}
 
 -- how the first numbers of a version, as many as are stated, compare with the stated numbers
 abbrev pub against : List ℕ → PlainVersion → Ordering

@@ -18,7 +18,7 @@ use Rattle.version_sets.specs.declared.rules.PreReleases.TheVariants.{ByDialect}
 use Rattle.tool_ranges.specs.declared.dialect.Dialect.{Dialect}
 use Rattle.tool_ranges.specs.declared.dialect.Dialect.TheVariants.{Cargo, Npm, CrateCargo}
 use Rattle.tool_ranges.specs.declared.dialect.Dialect.TheVariants.{CrateNpm}
-use Rattle.tool_ranges.specs.CargoGrammar.{SpellsRequirement}
+use Rattle.semver_ranges.specs.CargoGrammar.{SpellsRequirement}
 use Rattle.tool_ranges.specs.CargoMeaning.{meets_requirement}
 use Rattle.tool_ranges.specs.FittingTerms.{read_in}
 use Rattle.tool_ranges.specs.NpmGrammar.{SpellsNpmRange}

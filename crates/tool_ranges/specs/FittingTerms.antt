@@ -8,7 +8,7 @@ use Rattle.semver_ranges.specs.Partials.{stated, zero_filled}
 use Rattle.semver_ranges.specs.Terms.{left_side, right_side}
 use Rattle.tool_ranges.specs.declared.dialect.Dialect.{Dialect}
 use Rattle.tool_ranges.specs.declared.dialect.Dialect.TheVariants.{Cargo}
-use Rattle.tool_ranges.specs.CargoMeaning.{as_read}
+use Rattle.semver_ranges.specs.CargoGrammar.{as_read}
 use Rattle.tool_ranges.specs.DialectTable.{limit}
 use Rattle.tool_ranges.specs.Sides.{raised_place, sides, term_fits}
 

@@ -1,4 +1,3 @@
-pub mod CargoGrammar
 pub mod CargoMeaning
 pub mod AnySize
 pub mod NpmGrammar

@@ -1,10 +1,9 @@
-pub mod Cursors
+pub mod TextEvents
 pub mod Reading
 pub mod Checked
 pub mod Table
 pub mod Matching
 pub mod Building
-pub mod CargoReading
 pub mod NpmReading
 pub mod Printed
 pub mod SameRanges

@@ -1,6 +1,6 @@
 //! Cargo's dialect: `1.2` is `>=1.2.0 <2.0.0`, and commas separate comparators.
 
-ghost use Rattle.std.specs.Prelude.{◌≡◌, [], true, IfOk, IsTrue};
+ghost use Rattle.std.specs.Prelude.{◌≡◌, ◌≤◌, [], true, IfOk, IsTrue, length};
 ghost use Rattle.semver_ranges.specs.RangeTree.{SetTree, Spells};
 ghost use Rattle.semver_texts.specs.Versions.{PlainVersion};
 ghost use Rattle.semver_ranges.specs.RangeViews.{set_of};
@@ -9,22 +9,20 @@ ghost use Rattle.semver_ranges.specs.SatisfiedComparators.{meets_set};
 ghost use Rattle.semver_ranges.specs.PrintedRanges.{IsPrintableSet, set_text};
 ghost use Rattle.semver_ranges.specs.RewritingTable.{fits, rewritten};
 ghost use Rattle.version_sets.specs.declared.rules.PreReleases.TheVariants.{ByDialect};
-ghost use Rattle.tool_ranges.specs.CargoGrammar.{SpellsRequirement};
+ghost use Rattle.semver_ranges.specs.CargoGrammar.{SpellsRequirement};
 ghost use Rattle.tool_ranges.specs.CargoMeaning.{meets_requirement};
 ghost use Rattle.tool_ranges.specs.Dialects.{IsRewrittenAs, RefusesAs};
+ghost use Rattle.tool_ranges.specs.Steps.TextEvents.{commas, has_few_commas};
 ghost use Rattle.tool_ranges.specs.declared.dialect.Dialect.TheVariants as dialect;
-
-mod grammar;
 
 use crate::dialect::Dialect;
 use crate::printing;
-pub(crate) use grammar::{begins_with_wildcard, has_wildcard, named, read_comparator, simple_of};
 use semver_ranges::partial::LowerBounds;
 use semver_ranges::{Compat, RangeError, RangeSet};
 use std::alloc::Global;
 
 /// The maximum number of comparators in a requirement.
-pub(crate) const MOST_COMPARATORS: usize = 32;
+const MOST_COMPARATORS: usize = 32;
 
 // Determined by: law result_laws::ranges::one_cargo_rewrite.
 /// Rewrites a requirement in Cargo's dialect into plain comparators with exact bounds.
@@ -71,4 +69,26 @@ pub fn rewrite(alloc: Global, requirement: &str) -> Result<RangeSet, RangeError>
         Compat::Cargo,
         LowerBounds::Stated,
     )
+}
+
+/// Returns whether a string has fewer commas than a requirement may have comparators.
+#[inline(always)]
+pub(crate) fn has_few_commas(text: &[u8]) -> bool
+    ensures { result ≡ has_few_commas text.now }
+{
+    text.len() < MOST_COMPARATORS || commas(text) < MOST_COMPARATORS
+}
+
+/// Returns the number of commas in a string.
+fn commas(text: &[u8]) -> usize
+    ensures value { result ≡ commas text.now }
+    ensures within { result ≤ length text.now }
+{
+    let mut commas = 0;
+    for at in 0..text.len() {
+        if text[at] == b',' {
+            commas += 1;
+        }
+    }
+    commas
 }

@@ -3,20 +3,20 @@
 //! All of it is `inline(always)`, and so are the callers in `printing`: without these hints, the
 //! comparators of one term in Cargo's dialect take 12 % more instructions.
 
-ghost use Rattle.std.specs.Prelude.{◌≡◌, ◌<◌, List, Option, IfSome, MatchResult};
+ghost use Rattle.std.specs.Prelude.{◌≡◌, ◌≢◌, ◌<◌, Err, List, Option, IfSome, MatchResult};
 ghost use Rattle.semver_texts.specs.declared.grammar.Grammar.{Grammar as SomeGrammar};
+ghost use Rattle.semver_ranges.specs.Steps.CursorViews.{HasLeft};
 ghost use Rattle.semver_ranges.specs.Steps.RangeEvents.{Event as SomeEvent};
-ghost use Rattle.tool_ranges.specs.Dialects.{grammar_of};
+ghost use Rattle.tool_ranges.specs.Dialects.{RefusesAs, grammar_of};
 ghost use Rattle.tool_ranges.specs.Steps.Checked.{GivesEvent, HasEvents, IsCheckedAs, IsSurveyed};
 ghost use Rattle.tool_ranges.specs.Steps.Checked.{size_after};
-ghost use Rattle.tool_ranges.specs.Steps.Cursors.{HasLeftIn};
 ghost use Rattle.tool_ranges.specs.Steps.Reading.{IsRefusedAs};
 
-use crate::cursor::Cursor;
 use crate::dialect::Dialect;
+use crate::events::events_of;
 use crate::table::fits;
 use semver_ranges::RangeError;
-use semver_ranges::events::Event;
+use semver_ranges::events::{Event, Events};
 use semver_ranges::grammar::Simple;
 use semver_ranges::partial::LowerBounds;
 use semver_texts::grammar::Grammar;
@@ -27,7 +27,7 @@ pub(crate) struct Checked<'text> {
     /// The only term, until it is returned.
     only: Option<Simple<'text>>,
     /// The part of the string that is still to be read.
-    cursor: Cursor<'text>,
+    events: Events<'text>,
 }
 
 impl<'text> Checked<'text> {
@@ -48,23 +48,23 @@ impl<'text> Checked<'text> {
             (λ e. IsRefusedAs dialect range.now e) }
     {
         let grammar = dialect.grammar();
-        let begin = Cursor::new(range, dialect, lower)?;
-        let mut cursor = begin;
-        let Some(event) = cursor.next(grammar) else {
+        let begin = events_of(range, dialect, lower)?;
+        let mut events = begin;
+        let Some(event) = events.next_in(grammar) else {
             return Err(RangeError::NotARange);
         };
         let Event::Simple(first) = event? else {
             return Err(RangeError::NotARange);
         };
-        if survey(&mut cursor, fits(&first, dialect), dialect)? {
+        if survey(&mut events, fits(&first, dialect), dialect)? {
             return Ok(Checked {
                 only: Some(first),
-                cursor,
+                events,
             });
         }
         Ok(Checked {
             only: None,
-            cursor: begin,
+            events: begin,
         })
     }
 
@@ -79,24 +79,36 @@ impl<'text> Checked<'text> {
             self.only = None;
             return Some(Event::Simple(only));
         }
-        match self.cursor.next(grammar) {
+        match self.events.next_in(grammar) {
             Some(Ok(event)) => Some(event),
             Some(Err(_)) | None => None,
         }
     }
 }
 
+/// Checks a range string, with the errors of `Checked::new`.
+#[inline(always)]
+pub(crate) fn check(range: &str, dialect: Dialect) -> Result<(), RangeError>
+    ensures refusals { RefusesAs dialect range.now result }
+    ensures no_memory { result ≢ Err RangeError.OutOfMemory }
+{
+    match Checked::new(range, dialect, LowerBounds::Stated) {
+        Ok(_) => Ok(()),
+        Err(refusal) => Err(refusal),
+    }
+}
+
 /// Checks the rest of a range string, where `fit` says whether the terms before it fit. Returns
 /// whether nothing is left.
 #[inline(always)]
-fn survey(cursor: &mut Cursor<'_>, fit: bool, dialect: Dialect) -> Result<bool, RangeError>
-    ensures { (o : Option (List SomeEvent)) → HasLeftIn (grammar_of dialect) cursor.old o
-        → IsSurveyed dialect fit o result cursor.new }
+fn survey(events: &mut Events<'_>, fit: bool, dialect: Dialect) -> Result<bool, RangeError>
+    ensures { (o : Option (List SomeEvent)) → HasLeft (grammar_of dialect) events.old o
+        → IsSurveyed dialect fit o result events.new }
 {
     let grammar = dialect.grammar();
     let mut fit = fit;
     let mut is_end = true;
-    while let Some(event) = cursor.next(grammar) {
+    while let Some(event) = events.next_in(grammar) {
         match event? {
             Event::Simple(simple) => fit &= fits(&simple, dialect),
             Event::NextRange => {}

@@ -4,8 +4,8 @@
 
 pub mod cargo;
 mod checked;
-pub mod cursor;
 pub mod dialect;
+mod events;
 pub mod highest;
 pub mod laws;
 mod matching;

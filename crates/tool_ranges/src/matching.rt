@@ -19,8 +19,8 @@ ghost use Rattle.tool_ranges.specs.Steps.Reading.{IsRead, IsRefusedAs};
 ghost use Rattle.tool_ranges.specs.Steps.Table.{is_counted_within, is_within};
 ghost use Rattle.tool_ranges.specs.NpmMeaning.{asks_nothing_by, is_zero};
 
-use crate::cursor::Cursor;
 use crate::dialect::Dialect;
+use crate::events::events_of;
 use crate::table::{bounds, counted, fits, is_zero};
 use semver_ranges::RangeError;
 use semver_ranges::events::Event;
@@ -162,10 +162,10 @@ fn matches(
 {
     let grammar = dialect.grammar();
     let counts = counts(version, takes_all);
-    let mut cursor = Cursor::new(range, dialect, lower(dialect, takes_all))?;
+    let mut events = events_of(range, dialect, lower(dialect, takes_all))?;
     let mut fit = true;
     let mut progress = Progress::new(counts);
-    while let Some(event) = cursor.next(grammar) {
+    while let Some(event) = events.next_in(grammar) {
         match event? {
             Event::Simple(simple) => {
                 fit &= fits(&simple, dialect);

@@ -1,4 +1,7 @@
 //! The meaning of a range string: its dialect, and which pre-releases satisfy it.
+//!
+//! What reads a string is compiled once for each dialect: with one copy for all, which looks at the
+//! dialect for each term, the calls take up to a third more instructions.
 
 ghost use Rattle.std.specs.Prelude.{◌≡◌, ◌≢◌, ◌&&◌, Bool, true, Err, IfOk};
 ghost use Rattle.semver_texts.specs.Digits.{digits_in, version_by};
@@ -16,12 +19,10 @@ ghost use Rattle.version_sets.specs.PreReleaseRules.{meant_with, numbers_fit};
 ghost use Rattle.tool_ranges.specs.Dialects.{RefusesAs, SpellsAs, grammar_of};
 ghost use Rattle.tool_ranges.specs.Meanings.{MeansAs, meant_as};
 
-use crate::checked::Checked;
 use crate::dialect::Dialect;
 use crate::matching::answer;
-use crate::sets;
+use crate::{checked, sets};
 use semver_ranges::RangeError;
-use semver_ranges::partial::LowerBounds;
 use semver_versions::version::VersionRef;
 use std::alloc::Global;
 use version_sets::{PreReleases, VersionSet};
@@ -71,7 +72,13 @@ pub fn read(alloc: Global, meaning: Rules, range: &str) -> Result<VersionSet, Ra
     // It reads numeric identifiers as the dialect does.
     ensures digits { IfOk result (λ set. set.digits ≡ digits_in (grammar_of meaning.dialect)) }
 {
-    sets::read(alloc, range, meaning.dialect, meaning.pre_releases)
+    let rule = meaning.pre_releases;
+    match meaning.dialect {
+        Dialect::Cargo => sets::read(alloc, range, Dialect::Cargo, rule),
+        Dialect::Npm => sets::read(alloc, range, Dialect::Npm, rule),
+        Dialect::CrateCargo => sets::read(alloc, range, Dialect::CrateCargo, rule),
+        Dialect::CrateNpm => sets::read(alloc, range, Dialect::CrateNpm, rule),
+    }
 }
 
 // Determined by: law result_laws::sets::one_satisfies.
@@ -102,8 +109,6 @@ pub fn satisfies(version: &VersionRef<'_>, range: &str, meaning: Rules) -> Resul
 {
     let version = version.read_by(meaning.dialect.grammar().digits());
     let rule = meaning.pre_releases;
-    // `answer` is compiled once for each dialect. With one call for all, which looks at the dialect
-    // for each term, Cargo's and the crate's dialects take a quarter more instructions.
     match meaning.dialect {
         Dialect::Cargo => answer(&version, range, Dialect::Cargo, rule),
         Dialect::Npm => answer(&version, range, Dialect::Npm, rule),
@@ -122,8 +127,10 @@ pub fn check(meaning: Rules, range: &str) -> Result<(), RangeError>
     ensures refusals { RefusesAs meaning.dialect range.now result }
     ensures no_memory { result ≢ Err RangeError.OutOfMemory }
 {
-    match Checked::new(range, meaning.dialect, LowerBounds::Stated) {
-        Ok(_) => Ok(()),
-        Err(refusal) => Err(refusal),
+    match meaning.dialect {
+        Dialect::Cargo => checked::check(range, Dialect::Cargo),
+        Dialect::Npm => checked::check(range, Dialect::Npm),
+        Dialect::CrateCargo => checked::check(range, Dialect::CrateCargo),
+        Dialect::CrateNpm => checked::check(range, Dialect::CrateNpm),
     }
 }

@@ -34,6 +34,7 @@ use version_sets::{Conjunction, PreReleases, Ranges, Release, VersionSet};
 
 /// Reads a range into the set of the versions that satisfy it. The string is checked first, so
 /// nothing is allocated for an invalid one.
+#[inline(always)]
 pub(crate) fn read(
     alloc: Global,
     range: &str,
@@ -53,6 +54,7 @@ pub(crate) fn read(
 }
 
 /// Returns the set of a range that was checked. `Err` means out of memory.
+#[inline(always)]
 fn set_of(
     alloc: Global,
     mut checked: Checked<'_>,

@@ -34,7 +34,6 @@ ghost use Rattle.tool_ranges.specs.Steps.Table.{is_past_release, sides_beside};
 ghost use Rattle.tool_ranges.specs.DialectTable.{limit};
 ghost use Rattle.tool_ranges.specs.FittingTerms.{first_above, read_in, too_large};
 
-use crate::cargo::{has_wildcard, named};
 use crate::dialect::Dialect;
 use semver_ranges::grammar::{Form, Simple};
 use semver_ranges::partial::{Component, Components, Partial, PartialKind, Place};
@@ -264,10 +263,7 @@ pub fn too_large(form: Form, written: &Components<'_>, dialect: Dialect) -> Opti
         → result ≡ too_large dialect (read_in dialect s) }
     ensures small { IfSome result (λ index. index < 3) }
 {
-    let simple = Simple {
-        form: operator_in(form, written, dialect),
-        partial: Partial::of(written),
-    };
+    let simple = Simple::of(form, written, dialect.grammar());
     if fits(&simple, dialect) {
         return None;
     }
@@ -275,17 +271,6 @@ pub fn too_large(form: Form, written: &Components<'_>, dialect: Dialect) -> Opti
     match first_above(written, limit(dialect)) {
         Some(index) => Some(index),
         None => Some(raised_place(lower, upper)),
-    }
-}
-
-/// Returns the operator of a term as a dialect reads it.
-fn operator_in(form: Form, written: &Components<'_>, dialect: Dialect) -> Form
-    ensures { (s : SimpleTree) → form_of form ≡ s.form → AreWritten s.partial written.now
-        → form_of result ≡ (read_in dialect s).form }
-{
-    match dialect {
-        Dialect::Cargo => named(form, has_wildcard(written)),
-        Dialect::Npm | Dialect::CrateCargo | Dialect::CrateNpm => form,
     }
 }
 

@@ -1,6 +1,6 @@
 -- A means of proof, cited only in clauses of calls between these crates: how contracts see the
 -- results of the cursor over a range text.
-use Rattle.std.specs.Prelude.{◌≡◌, ◌+◌, ◌*◌, length, ℕ, Bool, true, false, ◌==◌}
+use Rattle.std.specs.Prelude.{◌≡◌, ◌+◌, ℕ, Bool, true, false, ◌==◌}
 use Rattle.std.specs.Prelude.{if◌then◌else◌, Option, Some, None, is_some, Result, Ok, Err, List, []}
 use Rattle.std.specs.Prelude.{◌∷◌}
 use Rattle.std.specs.Borrow.{Bor}
@@ -23,8 +23,9 @@ use Rattle.semver_texts.specs.Texts.{is_part}
 use Rattle.semver_texts.specs.Texts.{Text}
 use Rattle.semver_ranges.specs.Steps.Reading.{after_blanks, after_three, parts}
 use Rattle.semver_ranges.specs.Steps.RangeEvents as list
-use Rattle.semver_ranges.specs.Steps.RangeEvents.{one_simple, next_range, yielded, put, events}
+use Rattle.semver_ranges.specs.Steps.RangeEvents.{one_simple, next_range, put, events}
 use Rattle.semver_ranges.specs.Steps.RangeEvents.{events_left}
+use Rattle.semver_ranges.specs.Steps.FoundItems.{flag, size_at}
 use Rattle.semver_ranges.specs.Steps.PartialViews.{IsPartialOf}
 use Rattle.semver_texts.specs.Texts.{cut_at_dots}
 
@@ -104,15 +105,7 @@ IsFirst d o e after =
     (x : list.Event) × (left : Option (List list.Event)) × IsEventOf x e × HasLeft d after left
     × (o ≡ put x left)
 
--- a limit for the number of events that are left: two for each byte, one if a range begins, since
--- it may be empty, and one for an upper side
-abbrev pub flag : Bool → ℕ
-flag true = 1
-flag false = 0
-
-abbrev pub size_at : Bool → Text → ℕ
-size_at begins_range t = 2 * length t + flag begins_range
-
+-- a limit for the number of events that are left, which is one larger for an upper side
 abbrev pub size_left : Events → ℕ
 size_left cursor =
     size_at cursor.cursor.begins_range cursor.cursor.rest.now + flag (is_some cursor.upper)

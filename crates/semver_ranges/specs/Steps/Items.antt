@@ -1,14 +1,13 @@
--- A means of proof, cited only in clauses of calls between these crates: the terms of a range text
--- and where they are, from left to right, and how contracts see the cursor that yields them.
-use Prim.Native.Char.{code}
-use Rattle.std.specs.Prelude.{◌≡◌, ◌+◌, ◌<◌, ◌≤◌, ◌&&◌, length, drop, Bool, true, false}
-use Rattle.std.specs.Prelude.{if◌then◌else◌, Option, Some, None, option_map, is_some}
-use Rattle.std.specs.Prelude.{List, [], ◌∷◌, ℕ, zero, suc, Result, Ok, Err}
+-- A means of proof, cited only in clauses of calls between these crates: how contracts see the
+-- cursor over a range text, which yields its terms as they are written.
+use Rattle.std.specs.Prelude.{◌≡◌, ◌+◌, ◌<◌, ◌≤◌, length, Bool, true, false, is_some}
+use Rattle.std.specs.Prelude.{Option, Some, None, List, [], ◌∷◌, ℕ, Result, Ok, Err}
 use Rattle.std.specs.Borrow.{Bor}
-use Rattle.semver_texts.specs.Texts.{Text, begins_with}
+use Rattle.semver_texts.specs.Texts.{Text}
 use Rattle.semver_texts.specs.declared.grammar.Grammar.{Grammar}
-use Rattle.semver_ranges.specs.RangeTree.{Form, bare, PartialTree, Simple, RangeTree, hyphen, Role}
-use Rattle.semver_ranges.specs.RangeTree.{after_form, after_hyphen}
+use Rattle.semver_texts.specs.declared.grammar.Grammar.TheVariants.{Cargo}
+use Rattle.semver_ranges.specs.RangeTree.{PartialTree, Simple, hyphen, Role, after_form}
+use Rattle.semver_ranges.specs.CargoGrammar.{read_in}
 use Rattle.semver_ranges.specs.declared.cursor.Cursor.{Cursor}
 use Rattle.semver_ranges.specs.declared.cursor.Event.{Event}
 use Rattle.semver_ranges.specs.declared.cursor.Event.TheVariants.{Term, EmptyRange, NextRange}
@@ -19,107 +18,32 @@ use Rattle.semver_ranges.specs.declared.range_set.RangeError.{RangeError}
 use Rattle.semver_ranges.specs.declared.range_set.RangeError.TheVariants.{NotARange}
 use Rattle.semver_ranges.specs.declared.term.RawTerm as written
 use Rattle.semver_ranges.specs.declared.term.RawVersion.{RawVersion}
-use Rattle.semver_ranges.specs.Steps.Reading.{after_bars, after_blanks, after_v, component}
-use Rattle.semver_ranges.specs.Steps.Reading.{ends_range, operator, partial, right_side, simple}
-use Rattle.semver_ranges.specs.Steps.Reading.{with_first, with_right}
+use Rattle.semver_ranges.specs.Steps.Reading.{after_v, component, operator, partial, right_side}
+use Rattle.semver_ranges.specs.Steps.Reading.{simple, with_first}
+use Rattle.semver_ranges.specs.Steps.FoundItems.{FoundTerm, FoundWord, Item, one_term, empty_range}
+use Rattle.semver_ranges.specs.Steps.FoundItems.{two_bars, flag, item, items_left, simple_of}
+use Rattle.semver_ranges.specs.Steps.FoundItems.{size_at, upper_word, word_at}
 use Rattle.semver_ranges.specs.Steps.RangeEvents as list
 use Rattle.semver_ranges.specs.Steps.RangeEvents.{one_simple, next_range, put, put_simples}
 use Rattle.semver_ranges.specs.Steps.RangeEvents.{events_left, wildcard, yielded}
 use Rattle.semver_ranges.specs.Steps.PartialViews.{AreWritten}
-use Rattle.semver_ranges.specs.Steps.CursorViews.{HasAfter, IsEventOf, flag, form_of, size_at}
-
--- ---- what is found in a text
-
--- a partial version, the text from its word on, and what follows the word
-pub record FoundWord : Type 0 where
-  pub partial : PartialTree
-  pub from : Text
-  pub after : Text
-
--- a term: the text from its first byte on, its operator, and its word, or the two words of a hyphen
--- range
-pub record FoundTerm : Type 0 where
-  pub from : Text
-  pub form : Form
-  pub version : FoundWord
-  pub upper : Option FoundWord
-
-pub data Item : Type 0 where
-  one_term : FoundTerm → Item
-  empty_range two_bars : Item
-
--- the word at the beginning of a text, and that after the hyphen with which a text begins
-abbrev pub word_at : Grammar → Role → Text → Option FoundWord
-word_at d role t =
-    option_map (λ found. record { partial = found.0; from = t; after = found.1 }) (partial d role t)
-
-abbrev pub upper_word : Grammar → Text → Option FoundWord
-upper_word d t = word_at d after_hyphen (after_blanks d (drop 2 t))
-
--- the item at the beginning of a text, and what follows it and the blanks after it: at the
--- beginning of a range, if the flag is true, and otherwise within a range
-abbrev pub with_upper : Text → FoundWord → Option (RangeTree × Text) → Option FoundWord
-    → Option (Item × Text)
-with_upper t version (Some found) (Some upper) = Some (
-  one_term (record { from = t; form = bare; version = version; upper = Some upper }),
-  found.1,
-)
-with_upper t version _ _ = None
-
-abbrev pub with_simple : Grammar → Bool → Text → Option (Simple × Text) → Option FoundWord
-    → Option (Item × Text)
-with_simple d begins t (Some found) (Some version) =
-    if begins && begins_with (code "-") found.1
-    then with_upper t version (with_right found.0 (right_side d found.1)) (upper_word d found.1)
-    else Some (
-      one_term (record { from = t; form = found.0.form; version = version; upper = None }),
-      found.1,
-    )
-with_simple d begins t _ _ = None
-
-abbrev pub item : Grammar → Bool → Text → Option (Item × Text)
-item d begins t =
-    if ends_range t
-    then (if begins then Some (empty_range, t)
-    else option_map (λ u. (two_bars, after_blanks d u)) (after_bars t))
-    else with_simple d begins t (simple d t)
-    (word_at d (after_form (operator d t).0) (operator d t).1)
-
--- whether a range begins after an item
-abbrev pub begins_after : Item → Bool
-begins_after two_bars = true
-begins_after _ = false
-
--- the items that are left of a text, up to the first error, but at most a given number of them; and
--- below, all of them
-abbrev pub after_item : (Bool → Text → List Item) → Option (Item × Text) → List Item
-after_item others None = []
-after_item others (Some found) = found.0 ∷ others (begins_after found.0) found.1
-
-abbrev pub some_items : Grammar → ℕ → Bool → Text → List Item
-some_items d zero begins t = []
-some_items d (suc most) begins t = after_item (some_items d most) (item d begins t)
-
-abbrev pub items_left : Grammar → Bool → Text → List Item
-items_left d begins t = some_items d (size_at begins t) begins t
+use Rattle.semver_ranges.specs.Steps.CursorViews.{HasAfter, IsEventOf, form_of}
 
 -- ---- a term as plain terms
 
-abbrev pub simple_of : FoundTerm → Simple
-simple_of x = record { form = x.form; partial = x.version.partial }
+abbrev pub simples_with : Grammar → LowerBounds → Simple → Option FoundWord → List Simple
+simples_with d lower s None = read_in d s ∷ []
+simples_with d lower s (Some upper) = yielded lower (hyphen s.partial upper.partial)
 
-abbrev pub simples_with : LowerBounds → Simple → Option FoundWord → List Simple
-simples_with lower s None = s ∷ []
-simples_with lower s (Some upper) = yielded lower (hyphen s.partial upper.partial)
-
-abbrev pub simples_of : LowerBounds → FoundTerm → List Simple
-simples_of lower x = simples_with lower (simple_of x) x.upper
+abbrev pub simples_of : Grammar → LowerBounds → FoundTerm → List Simple
+simples_of d lower x = simples_with d lower (simple_of x) x.upper
 
 -- the events of an item before those that are left
-abbrev pub put_item : LowerBounds → Item → Option (List list.Event) → Option (List list.Event)
-put_item lower (one_term x) o = put_simples (simples_of lower x) o
-put_item lower empty_range o = put (one_simple wildcard) o
-put_item lower two_bars o = put next_range o
+abbrev pub put_item : Grammar → LowerBounds → Item → Option (List list.Event)
+    → Option (List list.Event)
+put_item d lower (one_term x) o = put_simples (simples_of d lower x) o
+put_item d lower empty_range o = put (one_simple wildcard) o
+put_item d lower two_bars o = put next_range o
 
 -- ---- what the cursor yields
 
@@ -174,6 +98,12 @@ abbrev pub FindsTerm : Grammar → Text → Option (written.RawTerm × Bor Text)
 FindsTerm d t None = simple d t ≡ None
 FindsTerm d t (Some found) = IsTermAt d t found.0 found.1.now
 
+-- a comparator was found, in a text of n bytes
+abbrev pub FindsItem : ℕ → Option (Item × Text) → Option (written.RawTerm × Bor Text) → Type 0
+FindsItem n o None = o ≡ None
+FindsItem n o (Some found) = (x : FoundTerm) × IsTermOf Cargo x found.0 × (x.upper ≡ None)
+    × (length x.from ≤ n) × (o ≡ Some (one_term x, found.1.now))
+
 -- the right side of a hyphen range follows the hyphen with which a text begins
 pub record IsRightAt (d : Grammar) (t : Text) (v : RawVersion) (u : Text) : Type 0 where
   pub x : FoundWord
@@ -204,7 +134,7 @@ pub record IsTaken (d : Grammar) (begins : Bool) (t : Text) (e : Event) (after :
     pub is : IsItemOf d (length t) x e
     pub whole : items_left d begins t ≡ x ∷ items_left d after.begins_range after.rest.now
     pub left : (lower : LowerBounds) → events_left d lower begins t
-        ≡ put_item lower x (events_left d lower after.begins_range after.rest.now)
+        ≡ put_item d lower x (events_left d lower after.begins_range after.rest.now)
     pub fewer : size_at after.begins_range after.rest.now + flag (is_term e) < size_at begins t
     pub shorter : length after.rest.now + bytes_of e ≤ length t
 
@@ -232,7 +162,8 @@ GivesItem d before (Some (Err e)) after =
 
 -- an event in plain terms: it is the first of those of an item, and the right side of a hyphen
 -- range, if it comes next, is put before those that are left
-abbrev pub IsViewOf : LowerBounds → Item → Bool → events.Event → Option read.Simple → Type 0
-IsViewOf lower x is_term e upper = ((o : Option (List list.Event)) → (y : list.Event)
+abbrev pub IsViewOf : Grammar → LowerBounds → Item → Bool → events.Event → Option read.Simple
+    → Type 0
+IsViewOf d lower x is_term e upper = ((o : Option (List list.Event)) → (y : list.Event)
     × (left : Option (List list.Event)) × IsEventOf y e × HasAfter upper o left
-    × (put_item lower x o ≡ put y left)) × (flag (is_some upper) ≤ flag is_term)
+    × (put_item d lower x o ≡ put y left)) × (flag (is_some upper) ≤ flag is_term)

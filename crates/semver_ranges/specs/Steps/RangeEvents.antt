@@ -1,16 +1,18 @@
 -- A means of proof, cited only in clauses of calls between these crates: the events of a range
 -- text, from left to right.
-use Rattle.std.specs.Prelude.{Bool, true, false, if◌then◌else◌, Option, Some, None, List, []}
-use Rattle.std.specs.Prelude.{◌∷◌, codes}
+use Rattle.std.specs.Prelude.{Bool, true, false, ◌&&◌, not, if◌then◌else◌, Option, Some, None}
+use Rattle.std.specs.Prelude.{option_map, List, [], ◌∷◌, map, codes, ℕ, zero, suc, length}
 use Rattle.semver_texts.specs.declared.grammar.Grammar.{Grammar}
 use Rattle.semver_ranges.specs.declared.partial.LowerBounds.{LowerBounds}
 use Rattle.semver_ranges.specs.RangeTree.{bare, one, Simple, RangeTree, empty, hyphen, simples}
 use Rattle.semver_ranges.specs.RangeTree.{SetTree}
-use Rattle.semver_texts.specs.Texts.{Text}
+use Rattle.semver_texts.specs.Texts.{Text, is_empty}
+use Rattle.semver_ranges.specs.CargoGrammar.{as_read, is_cargo}
 use Rattle.semver_ranges.specs.Partials.{states_nothing}
 use Rattle.semver_ranges.specs.Terms.{left_side, right_side}
-use Rattle.semver_ranges.specs.Steps.Reading.{all_simples, range_here, after_range, after_bars}
-use Rattle.semver_ranges.specs.Steps.Reading.{read}
+use Rattle.semver_ranges.specs.Steps.Reading.{after_bars, after_blanks, after_range}
+use Rattle.semver_ranges.specs.Steps.Reading.{all_simples, range_here, read}
+use Rattle.semver_ranges.specs.Steps.FoundItems.{Item, comparator, one_term, simple_of}
 use Rattle.semver_ranges.specs.Steps.PartialViews.{begun_as}
 
 -- an event: a term of the range, or two bars
@@ -59,18 +61,15 @@ abbrev pub put_simples : List Simple → Option (List Event) → Option (List Ev
 put_simples [] o = o
 put_simples (s ∷ ss) o = put (one_simple s) (put_simples ss o)
 
--- the events of a text: those of its set, or `None` if the text isn't in the grammar
+-- the events of a set, or `None` if there is none
 abbrev pub set_events : LowerBounds → Option SetTree → Option (List Event)
 set_events lower None = None
 set_events lower (Some tree) = Some (events_of lower tree)
 
-abbrev pub events : Grammar → LowerBounds → Text → Option (List Event)
-events d lower t = set_events lower (read d t)
-
 -- the events that are left after a range, from its end on
 abbrev pub at_bars : Grammar → LowerBounds → Option Text → Option (List Event)
 at_bars d lower None = None
-at_bars d lower (Some t) = put next_range (events d lower t)
+at_bars d lower (Some t) = put next_range (set_events lower (read d t))
 
 abbrev pub others_left : Grammar → LowerBounds → Text → Option (List Event)
 others_left d lower [] = Some []
@@ -83,6 +82,30 @@ simples_left d lower (Some (ss, end)) = put_simples ss (others_left d lower end)
 
 -- the events that are left: at the beginning of a range, after its blanks, if the flag is true, and
 -- otherwise within a range
+abbrev pub ranges_left : Grammar → LowerBounds → Bool → Text → Option (List Event)
+ranges_left d lower true t = set_events lower (after_range (read d) (range_here d t))
+ranges_left d lower false t = simples_left d lower (all_simples d t)
+
+-- the comparators of Cargo that are left. The number is a limit for the depth of the recursion
+abbrev pub before_others : (Text → Option (List Simple)) → Option (Item × Text)
+    → Option (List Simple)
+before_others others (Some (one_term x, u)) = option_map (λ ss. simple_of x ∷ ss) (others u)
+before_others others _ = None
+
+abbrev pub some_comparators : ℕ → Bool → Text → Option (List Simple)
+some_comparators zero is_first t = None
+some_comparators (suc n) is_first t = if not is_first && is_empty t then Some []
+    else before_others (some_comparators n false) (comparator is_first t)
+
+abbrev pub comparators_left : Bool → Text → Option (List Simple)
+comparators_left is_first t = some_comparators (suc (length t)) is_first t
+
+-- the events that are left in each grammar
 abbrev pub events_left : Grammar → LowerBounds → Bool → Text → Option (List Event)
-events_left d lower true t = set_events lower (after_range (read d) (range_here d t))
-events_left d lower false t = simples_left d lower (all_simples d t)
+events_left d lower begins t = if is_cargo d
+    then option_map (λ ss. in_front (map as_read ss) []) (comparators_left begins t)
+    else ranges_left d lower begins t
+
+-- the events of a text, or `None` if it isn't in the grammar
+abbrev pub events : Grammar → LowerBounds → Text → Option (List Event)
+events d lower t = events_left d lower true (after_blanks d t)

@@ -31,7 +31,7 @@ abbrev pub after_blanks : Grammar → Text → Text
 after_blanks d t = back (is_blank d) t
 
 -- whether a range or a word ends here: both end at the end of the text and at a bar, and a word
--- also at a blank
+-- also at a blank and at a comma
 abbrev pub is_bar : ℕ → Bool
 is_bar b = b == code "|"
 
@@ -41,7 +41,7 @@ ends_range (b ∷ t) = is_bar b
 
 abbrev pub ends_word : Grammar → Text → Bool
 ends_word d [] = true
-ends_word d (b ∷ t) = is_blank d b || is_bar b
+ends_word d (b ∷ t) = is_blank d b || (is_bar b || (b == code ","))
 
 -- a component: a wildcard, a zero, or digits
 abbrev pub component : Text → Option (Text × Text)

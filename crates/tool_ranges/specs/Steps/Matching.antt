@@ -28,7 +28,7 @@ use Rattle.tool_ranges.specs.declared.dialect.Dialect.{Dialect}
 use Rattle.tool_ranges.specs.declared.dialect.Dialect.TheVariants.{Cargo, Npm, CrateCargo}
 use Rattle.tool_ranges.specs.declared.dialect.Dialect.TheVariants.{CrateNpm}
 use Rattle.tool_ranges.specs.declared.matching.Progress.{Progress}
-use Rattle.tool_ranges.specs.Steps.Cursors.{ranges_of}
+use Rattle.tool_ranges.specs.Steps.TextEvents.{ranges_of}
 
 -- the version of a borrowed version, without its build metadata
 abbrev pub plain_of : VersionRefValue → PlainVersion

@@ -10,7 +10,7 @@ use Rattle.semver_ranges.specs.RangeTree.{SetTree}
 use Rattle.tool_ranges.specs.declared.dialect.Dialect.{Dialect}
 use Rattle.tool_ranges.specs.Dialects.{SpellsAs}
 use Rattle.tool_ranges.specs.TermComparators.{printed_term}
-use Rattle.tool_ranges.specs.Steps.Cursors.{ranges_of}
+use Rattle.tool_ranges.specs.Steps.TextEvents.{ranges_of}
 
 -- the comparators of the ranges of a tree
 abbrev pub printed_ranges : LowerBounds → Dialect → Compat → SetTree → List PlainRange

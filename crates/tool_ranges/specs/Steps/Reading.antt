@@ -8,7 +8,7 @@ use Rattle.semver_ranges.specs.declared.range_set.RangeError.TheVariants.{OutOfM
 use Rattle.semver_ranges.specs.RangeTree.{SetTree}
 use Rattle.tool_ranges.specs.declared.dialect.Dialect.{Dialect}
 use Rattle.tool_ranges.specs.Dialects.{fits_as}
-use Rattle.tool_ranges.specs.Steps.Cursors.{read_as}
+use Rattle.tool_ranges.specs.Steps.TextEvents.{read_as}
 
 -- a text has a tree whose numbers fit and that has some property
 abbrev pub IsRead : Dialect → Text → (SetTree → Type 0) → Type 0

@@ -3,14 +3,12 @@
 
 use crate::rattle_std::prelude::*;
 use crate::proved::range_terms::term::{Component, Operator, PartialVersion, Span, Term};
-use crate::proved::semver_ranges::RangeError;
-use crate::proved::semver_ranges::cursor::Event;
+use crate::proved::semver_ranges::cursor::{Cursor, Event};
 use crate::proved::semver_ranges::grammar::Form;
-use crate::proved::semver_ranges::partial::{self, LowerBounds};
 use crate::proved::semver_ranges::term::{RawTerm, RawVersion};
+use crate::proved::semver_ranges::{RangeError, partial};
 use crate::proved::semver_texts::dotted::text_of_parts;
 use crate::proved::semver_texts::grammar::Grammar;
-use crate::proved::tool_ranges::cursor::Cursor;
 use crate::proved::tool_ranges::dialect::Dialect;
 use crate::proved::tool_ranges::meaning::{Rules, check};
 use crate::proved::version_sets::PreReleases;
@@ -86,7 +84,7 @@ fn next_term<'text>(
     grammar: Grammar,
     len: usize,
 ) -> Option<Term<'text>> {
-    while let Some(event) = cursor.next_term(grammar) {
+    while let Some(event) = cursor.next_in(grammar) {
         let Ok(event) = event else {
             return None;
         };
@@ -102,11 +100,12 @@ fn next_term<'text>(
 /// Returns the terms of a range string that was checked, even if one of its numbers is too large.
 #[must_use]
 pub fn of_range(range: &str, dialect: Dialect) -> Terms<'_> {
+    let grammar = dialect.grammar();
     Terms {
         len: range.len(),
-        grammar: dialect.grammar(),
+        grammar,
         range: 0,
-        cursor: Cursor::begin(range, dialect, LowerBounds::Stated),
+        cursor: Cursor::new(range.as_bytes(), grammar),
     }
 }
 

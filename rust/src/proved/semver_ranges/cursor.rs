@@ -4,6 +4,7 @@
 //! Nothing here allocates, and a call looks at each byte a fixed number of times.
 
 use crate::rattle_std::prelude::*;
+use crate::proved::semver_ranges::cargo::next_comparator;
 use crate::proved::semver_ranges::grammar::{Form, after_bars, after_blanks, ends_range, read_right_side, read_term};
 use crate::proved::semver_ranges::range_set::RangeError;
 use crate::proved::semver_ranges::term::RawTerm;
@@ -63,6 +64,23 @@ impl<'text> Cursor<'text> {
     fn read_event(&mut self, grammar: Grammar) -> Option<Event<'text>> {
         let begins_range = self.begins_range;
         self.begins_range = false;
+        match grammar {
+            Grammar::Cargo => self.read_comparator(begins_range),
+            Grammar::Crate | Grammar::Npm => self.read_in_ranges(begins_range, grammar),
+        }
+    }
+
+    /// Returns the event of a comparator of Cargo, and moves after it.
+    #[inline(always)]
+    fn read_comparator(&mut self, is_first: bool) -> Option<Event<'text>> {
+        let (term, rest) = next_comparator(self.rest, is_first)?;
+        self.rest = rest;
+        Some(Event::Term(term))
+    }
+
+    /// Returns the event of ranges at the beginning of the rest, and moves after it.
+    #[inline(always)]
+    fn read_in_ranges(&mut self, begins_range: bool, grammar: Grammar) -> Option<Event<'text>> {
         if !ends_range(self.rest) {
             return self.read_in_range(begins_range, grammar);
         }

@@ -51,21 +51,12 @@ impl<'input> Events<'input> {
         }
         match self.cursor.next_in(grammar)? {
             Ok(event) => {
-                let (event, upper) = view(&event, self.lower);
+                let (event, upper) = view(&event, self.lower, grammar);
                 self.upper = upper;
                 Some(Ok(event))
             }
             Err(error) => Some(Err(error)),
         }
-    }
-
-    /// Returns the next term as it is written, like the cursor that this one reads with.
-    #[inline(always)]
-    pub fn next_term(
-        &mut self,
-        grammar: Grammar,
-    ) -> Option<Result<cursor::Event<'input>, RangeError>> {
-        self.cursor.next_in(grammar)
     }
 }
 
@@ -74,10 +65,11 @@ impl<'input> Events<'input> {
 fn view<'input>(
     event: &cursor::Event<'input>,
     lower: LowerBounds,
+    grammar: Grammar,
 ) -> (Event<'input>, Option<Simple<'input>>) {
     match event {
         cursor::Event::Term(term) => {
-            let (first, upper) = simples(term, lower);
+            let (first, upper) = simples(term, lower, grammar);
             (Event::Simple(first), upper)
         }
         cursor::Event::EmptyRange => (Event::Simple(Simple::wildcard()), None),
@@ -90,8 +82,9 @@ fn view<'input>(
 fn simples<'input>(
     term: &RawTerm<'input>,
     lower: LowerBounds,
+    grammar: Grammar,
 ) -> (Simple<'input>, Option<Simple<'input>>) {
-    let simple = term.simple();
+    let simple = term.simple(grammar);
     match &term.upper {
         Some(upper) => sides(simple.partial, Partial::of(&upper.components), lower),
         None => (simple, None),

@@ -5,6 +5,7 @@
 //! read is `None`.
 
 use crate::rattle_std::prelude::*;
+use crate::proved::semver_ranges::cargo::{has_wildcard, named};
 use crate::proved::semver_ranges::npm_lengths::is_short_word;
 use crate::proved::semver_ranges::partial::{Component, Components, Partial};
 use crate::proved::semver_ranges::term::{RawTerm, RawVersion};
@@ -54,6 +55,20 @@ pub struct Simple<'input> {
 }
 
 impl<'input> Simple<'input> {
+    /// Returns a term with the operator that a grammar reads. In Cargo's, none means `^`, or `=` if
+    /// there is a wildcard.
+    #[inline(always)]
+    pub(crate) fn of(form: Form, written: &Components<'input>, grammar: Grammar) -> Simple<'input> {
+        let form = match grammar {
+            Grammar::Cargo => named(form, has_wildcard(written)),
+            Grammar::Crate | Grammar::Npm => form,
+        };
+        Simple {
+            form,
+            partial: Partial::of(written),
+        }
+    }
+
     /// Returns a bare wildcard.
     #[inline(always)]
     pub(crate) fn wildcard() -> Simple<'input> {
@@ -103,7 +118,7 @@ pub(crate) fn read_term(text: &[u8], grammar: Grammar) -> Option<(RawTerm<'_>, &
 
 /// Returns the operator at the beginning of a string, and what follows it and its blanks.
 #[inline(always)]
-pub fn read_operator(text: &[u8], grammar: Grammar) -> (Form, &[u8]) {
+fn read_operator(text: &[u8], grammar: Grammar) -> (Form, &[u8]) {
     let (form, rest) = match text {
         [b'^', rest @ ..] => (Form::Caret, rest),
         [b'>', b'=', rest @ ..] => (Form::AtLeast, rest),
@@ -262,7 +277,7 @@ fn with_digit(value: Option<u64>, digit: u8) -> Option<u64> {
 
 /// Returns what follows the blanks at the beginning of a string.
 #[inline(always)]
-pub fn after_blanks(text: &[u8], grammar: Grammar) -> &[u8] {
+pub(crate) fn after_blanks(text: &[u8], grammar: Grammar) -> &[u8] {
     for at in 0..text.len() {
         if !is_blank(text[at], grammar) {
             return &text[at..];
@@ -295,12 +310,12 @@ pub(crate) fn ends_range(text: &[u8]) -> bool {
     matches!(text, [] | [b'|', ..])
 }
 
-/// Returns whether a word ends here: at the end of the string, at a blank, or at a bar.
+/// Returns whether a word ends here: at the end of the string, at a blank, a bar or a comma.
 #[inline(always)]
 fn ends_word(text: &[u8], grammar: Grammar) -> bool {
     match text {
         [] => true,
-        [first, ..] => is_blank(*first, grammar) || *first == b'|',
+        [first, ..] => is_blank(*first, grammar) || matches!(*first, b'|' | b','),
     }
 }
 

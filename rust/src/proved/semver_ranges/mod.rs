@@ -9,6 +9,7 @@
 //! 1 %. Other hints made no difference, so there are none.
 
 use crate::rattle_std::prelude::*;
+mod cargo;
 pub mod comparing;
 pub mod cursor;
 mod desugared_texts;

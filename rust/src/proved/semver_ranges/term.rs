@@ -3,7 +3,8 @@
 
 use crate::rattle_std::prelude::*;
 use crate::proved::semver_ranges::grammar::{Form, Simple};
-use crate::proved::semver_ranges::partial::{Components, Partial};
+use crate::proved::semver_ranges::partial::Components;
+use crate::proved::semver_texts::grammar::Grammar;
 
 /// A version of a term as it is written.
 #[derive(Clone, Copy)]
@@ -30,12 +31,9 @@ pub struct RawTerm<'text> {
 }
 
 impl<'text> RawTerm<'text> {
-    /// Returns the operator and the numbers of its version.
+    /// Returns the operator that a grammar reads, and the numbers of its version.
     #[inline(always)]
-    pub(crate) fn simple(&self) -> Simple<'text> {
-        Simple {
-            form: self.form,
-            partial: Partial::of(&self.version.components),
-        }
+    pub(crate) fn simple(&self, grammar: Grammar) -> Simple<'text> {
+        Simple::of(self.form, &self.version.components, grammar)
     }
 }

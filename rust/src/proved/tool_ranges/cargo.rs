@@ -2,16 +2,13 @@
 //! Cargo's dialect: `1.2` is `>=1.2.0 <2.0.0`, and commas separate comparators.
 
 use crate::rattle_std::prelude::*;
-mod grammar;
-
 use crate::proved::tool_ranges::dialect::Dialect;
 use crate::proved::tool_ranges::printing;
-pub(crate) use grammar::{begins_with_wildcard, has_wildcard, named, read_comparator, simple_of};
 use crate::proved::semver_ranges::partial::LowerBounds;
 use crate::proved::semver_ranges::{Compat, RangeError, RangeSet};
 
 /// The maximum number of comparators in a requirement.
-pub(crate) const MOST_COMPARATORS: usize = 32;
+const MOST_COMPARATORS: usize = 32;
 
 /// Rewrites a requirement in Cargo's dialect into plain comparators with exact bounds.
 ///
@@ -39,4 +36,21 @@ pub fn rewrite(requirement: &str) -> Result<RangeSet, RangeError> {
         Compat::Cargo,
         LowerBounds::Stated,
     )
+}
+
+/// Returns whether a string has fewer commas than a requirement may have comparators.
+#[inline(always)]
+pub(crate) fn has_few_commas(text: &[u8]) -> bool {
+    text.len() < MOST_COMPARATORS || commas(text) < MOST_COMPARATORS
+}
+
+/// Returns the number of commas in a string.
+fn commas(text: &[u8]) -> usize {
+    let mut commas = 0;
+    for at in 0..text.len() {
+        if text[at] == b',' {
+            commas += 1;
+        }
+    }
+    commas
 }

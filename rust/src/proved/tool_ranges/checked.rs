@@ -5,11 +5,11 @@
 //! comparators of one term in Cargo's dialect take 12 % more instructions.
 
 use crate::rattle_std::prelude::*;
-use crate::proved::tool_ranges::cursor::Cursor;
 use crate::proved::tool_ranges::dialect::Dialect;
+use crate::proved::tool_ranges::events::events_of;
 use crate::proved::tool_ranges::table::fits;
 use crate::proved::semver_ranges::RangeError;
-use crate::proved::semver_ranges::events::Event;
+use crate::proved::semver_ranges::events::{Event, Events};
 use crate::proved::semver_ranges::grammar::Simple;
 use crate::proved::semver_ranges::partial::LowerBounds;
 use crate::proved::semver_texts::grammar::Grammar;
@@ -20,7 +20,7 @@ pub(crate) struct Checked<'text> {
     /// The only term, until it is returned.
     only: Option<Simple<'text>>,
     /// The part of the string that is still to be read.
-    cursor: Cursor<'text>,
+    events: Events<'text>,
 }
 
 impl<'text> Checked<'text> {
@@ -37,23 +37,23 @@ impl<'text> Checked<'text> {
         lower: LowerBounds,
     ) -> Result<Checked<'text>, RangeError> {
         let grammar = dialect.grammar();
-        let begin = Cursor::new(range, dialect, lower)?;
-        let mut cursor = begin;
-        let Some(event) = cursor.next(grammar) else {
+        let begin = events_of(range, dialect, lower)?;
+        let mut events = begin;
+        let Some(event) = events.next_in(grammar) else {
             return Err(RangeError::NotARange);
         };
         let Event::Simple(first) = event? else {
             return Err(RangeError::NotARange);
         };
-        if survey(&mut cursor, fits(&first, dialect), dialect)? {
+        if survey(&mut events, fits(&first, dialect), dialect)? {
             return Ok(Checked {
                 only: Some(first),
-                cursor,
+                events,
             });
         }
         Ok(Checked {
             only: None,
-            cursor: begin,
+            events: begin,
         })
     }
 
@@ -64,21 +64,30 @@ impl<'text> Checked<'text> {
             self.only = None;
             return Some(Event::Simple(only));
         }
-        match self.cursor.next(grammar) {
+        match self.events.next_in(grammar) {
             Some(Ok(event)) => Some(event),
             Some(Err(_)) | None => None,
         }
     }
 }
 
+/// Checks a range string, with the errors of `Checked::new`.
+#[inline(always)]
+pub(crate) fn check(range: &str, dialect: Dialect) -> Result<(), RangeError> {
+    match Checked::new(range, dialect, LowerBounds::Stated) {
+        Ok(_) => Ok(()),
+        Err(refusal) => Err(refusal),
+    }
+}
+
 /// Checks the rest of a range string, where `fit` says whether the terms before it fit. Returns
 /// whether nothing is left.
 #[inline(always)]
-fn survey(cursor: &mut Cursor<'_>, fit: bool, dialect: Dialect) -> Result<bool, RangeError> {
+fn survey(events: &mut Events<'_>, fit: bool, dialect: Dialect) -> Result<bool, RangeError> {
     let grammar = dialect.grammar();
     let mut fit = fit;
     let mut is_end = true;
-    while let Some(event) = cursor.next(grammar) {
+    while let Some(event) = events.next_in(grammar) {
         match event? {
             Event::Simple(simple) => fit &= fits(&simple, dialect),
             Event::NextRange => {}

@@ -2,8 +2,8 @@
 //! Decides whether a string is a range, and whether a version satisfies it. Nothing here allocates.
 
 use crate::rattle_std::prelude::*;
-use crate::proved::tool_ranges::cursor::Cursor;
 use crate::proved::tool_ranges::dialect::Dialect;
+use crate::proved::tool_ranges::events::events_of;
 use crate::proved::tool_ranges::table::{bounds, counted, fits, is_zero};
 use crate::proved::semver_ranges::RangeError;
 use crate::proved::semver_ranges::events::Event;
@@ -119,10 +119,10 @@ fn matches(
 ) -> Result<Progress, RangeError> {
     let grammar = dialect.grammar();
     let counts = counts(version, takes_all);
-    let mut cursor = Cursor::new(range, dialect, lower(dialect, takes_all))?;
+    let mut events = events_of(range, dialect, lower(dialect, takes_all))?;
     let mut fit = true;
     let mut progress = Progress::new(counts);
-    while let Some(event) = cursor.next(grammar) {
+    while let Some(event) = events.next_in(grammar) {
         match event? {
             Event::Simple(simple) => {
                 fit &= fits(&simple, dialect);

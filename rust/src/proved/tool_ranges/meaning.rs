@@ -1,13 +1,14 @@
 // Made by tools/erase.py from crates/tool_ranges/src/meaning.rt; not edited by hand.
 //! The meaning of a range string: its dialect, and which pre-releases satisfy it.
+//!
+//! What reads a string is compiled once for each dialect: with one copy for all, which looks at the
+//! dialect for each term, the calls take up to a third more instructions.
 
 use crate::rattle_std::prelude::*;
-use crate::proved::tool_ranges::checked::Checked;
 use crate::proved::tool_ranges::dialect::Dialect;
 use crate::proved::tool_ranges::matching::answer;
-use crate::proved::tool_ranges::sets;
+use crate::proved::tool_ranges::{checked, sets};
 use crate::proved::semver_ranges::RangeError;
-use crate::proved::semver_ranges::partial::LowerBounds;
 use crate::proved::semver_versions::version::VersionRef;
 use crate::proved::version_sets::{PreReleases, VersionSet};
 
@@ -46,7 +47,13 @@ pub struct Rules {
 ///   is above 2^64 - 1, or above 2^53 - 1 in npm's dialect.
 /// - `OutOfMemory` if an allocation fails. The first two errors are returned without allocating.
 pub fn read(meaning: Rules, range: &str) -> Result<VersionSet, RangeError> {
-    sets::read(range, meaning.dialect, meaning.pre_releases)
+    let rule = meaning.pre_releases;
+    match meaning.dialect {
+        Dialect::Cargo => sets::read(range, Dialect::Cargo, rule),
+        Dialect::Npm => sets::read(range, Dialect::Npm, rule),
+        Dialect::CrateCargo => sets::read(range, Dialect::CrateCargo, rule),
+        Dialect::CrateNpm => sets::read(range, Dialect::CrateNpm, rule),
+    }
 }
 
 /// Returns whether a version satisfies a range. 1.9.0 satisfies `^1.2` in every dialect and 2.0.0
@@ -65,8 +72,6 @@ pub fn read(meaning: Rules, range: &str) -> Result<VersionSet, RangeError> {
 pub fn satisfies(version: &VersionRef<'_>, range: &str, meaning: Rules) -> Result<bool, RangeError> {
     let version = version.read_by(meaning.dialect.grammar().digits());
     let rule = meaning.pre_releases;
-    // `answer` is compiled once for each dialect. With one call for all, which looks at the dialect
-    // for each term, Cargo's and the crate's dialects take a quarter more instructions.
     match meaning.dialect {
         Dialect::Cargo => answer(&version, range, Dialect::Cargo, rule),
         Dialect::Npm => answer(&version, range, Dialect::Npm, rule),
@@ -79,8 +84,10 @@ pub fn satisfies(version: &VersionRef<'_>, range: &str, meaning: Rules) -> Resul
 /// isn't in Cargo's dialect. It does not allocate.
 #[inline(never)]
 pub fn check(meaning: Rules, range: &str) -> Result<(), RangeError> {
-    match Checked::new(range, meaning.dialect, LowerBounds::Stated) {
-        Ok(_) => Ok(()),
-        Err(refusal) => Err(refusal),
+    match meaning.dialect {
+        Dialect::Cargo => checked::check(range, Dialect::Cargo),
+        Dialect::Npm => checked::check(range, Dialect::Npm),
+        Dialect::CrateCargo => checked::check(range, Dialect::CrateCargo),
+        Dialect::CrateNpm => checked::check(range, Dialect::CrateNpm),
     }
 }

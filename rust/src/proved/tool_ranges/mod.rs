@@ -5,8 +5,8 @@
 use crate::rattle_std::prelude::*;
 pub mod cargo;
 mod checked;
-pub mod cursor;
 pub mod dialect;
+mod events;
 pub mod highest;
 mod matching;
 pub mod meaning;

@@ -15,6 +15,7 @@ use crate::proved::version_sets::{Conjunction, PreReleases, Ranges, Release, Ver
 
 /// Reads a range into the set of the versions that satisfy it. The string is checked first, so
 /// nothing is allocated for an invalid one.
+#[inline(always)]
 pub(crate) fn read(
     range: &str,
     dialect: Dialect,
@@ -28,6 +29,7 @@ pub(crate) fn read(
 }
 
 /// Returns the set of a range that was checked. `Err` means out of memory.
+#[inline(always)]
 fn set_of(
     mut checked: Checked<'_>,
     dialect: Dialect,

@@ -8,7 +8,6 @@
 //! numbers.
 
 use crate::rattle_std::prelude::*;
-use crate::proved::tool_ranges::cargo::{has_wildcard, named};
 use crate::proved::tool_ranges::dialect::Dialect;
 use crate::proved::semver_ranges::grammar::{Form, Simple};
 use crate::proved::semver_ranges::partial::{Component, Components, Partial, PartialKind, Place};
@@ -164,10 +163,7 @@ pub(crate) fn fits(simple: &Simple<'_>, dialect: Dialect) -> bool {
 /// for one of the sides and can't be. It is below 3.
 #[must_use]
 pub(crate) fn too_large(form: Form, written: &Components<'_>, dialect: Dialect) -> Option<usize> {
-    let simple = Simple {
-        form: operator_in(form, written, dialect),
-        partial: Partial::of(written),
-    };
+    let simple = Simple::of(form, written, dialect.grammar());
     if fits(&simple, dialect) {
         return None;
     }
@@ -175,14 +171,6 @@ pub(crate) fn too_large(form: Form, written: &Components<'_>, dialect: Dialect) 
     match first_above(written, limit(dialect)) {
         Some(index) => Some(index),
         None => Some(raised_place(lower, upper)),
-    }
-}
-
-/// Returns the operator of a term as a dialect reads it.
-fn operator_in(form: Form, written: &Components<'_>, dialect: Dialect) -> Form {
-    match dialect {
-        Dialect::Cargo => named(form, has_wildcard(written)),
-        Dialect::Npm | Dialect::CrateCargo | Dialect::CrateNpm => form,
     }
 }
 

@@ -1,11 +1,15 @@
-use Rattle.std.proofs.Common.{◌∙◌, arith}
-use Rattle.semver_ranges.specs.declared.partial.LowerBounds.TheVariants.{Stated}
-use Rattle.range_terms.proofs.Whole.{begun_terms, begun_within, terms_found}
+use Rattle.std.proofs.Common.{◌≤◌, length, arith}
+use Rattle.semver_ranges.specs.RangeTree.{is_blank}
+use Rattle.semver_ranges.proofs.ReadingSteps.{back_shorter}
+use Rattle.range_terms.proofs.Whole.{terms_found}
 use Rattle.range_terms.proofs.terms.of_range.Goals as goal
 
 pub invariant_of-result : goal.invariant_of-result
-invariant_of-result c = let within = begun_within Stated c.args.range.now c.args.dialect c.begin.result c.begin.ensures in omega (arith, within)
+invariant_of-result c =
+    let short : length c.new.result.rest.now ≤ length c.args.range.now = rw (c.new.ensures.rest, c.as_bytes.ensures.value)
+    (back_shorter (is_blank c.grammar-grammar.result) c.args.range.now) in
+    omega (arith, short)
 
 pub returns : goal.returns
-returns c = λ tree spelled. rw c.grammar.ensures.grammar
-    (begun_terms Stated c.args.range.now c.args.dialect c.begin.result c.begin.ensures ∙ terms_found c.args.dialect tree c.args.range.now spelled)
+returns c = λ tree spelled. rw (c.new.ensures.rest, c.new.ensures.begins, c.as_bytes.ensures.value, c.grammar-grammar.ensures.grammar)
+    (terms_found c.args.dialect tree c.args.range.now spelled)

@@ -1,11 +1,12 @@
-use Rattle.std.proofs.Common.{◌∷◌, [], ◌∙◌, map, refl, subst}
+use Rattle.std.proofs.Common.{◌∷◌, [], ◌∙◌, map, refl, subst, sym}
 use Rattle.semver_texts.specs.declared.grammar.Grammar.TheVariants.{Crate}
 use Rattle.semver_ranges.specs.declared.partial.LowerBounds.TheVariants.{Stated}
 use Rattle.semver_ranges.specs.RangeTree.{simples}
-use Rattle.semver_ranges.specs.RewritingTable.{written_set, written_simple}
-use Rattle.semver_ranges.specs.Steps.Answers.{IsAnswer}
+use Rattle.semver_ranges.specs.RewritingTable.{simple_fits, written_set, written_simple}
+use Rattle.semver_ranges.specs.Steps.Answers.{IsAnswer, IsAnswerBy}
 use Rattle.semver_ranges.specs.Steps.PartialViews.{pre_of}
 use Rattle.semver_ranges.proofs.EventLists.{range_made}
+use Rattle.semver_ranges.proofs.EventSteps.{begin_left}
 use Rattle.semver_ranges.proofs.EventSums.{answered_by}
 use Rattle.semver_ranges.proofs.Tables.{port_table}
 use Rattle.semver_ranges.proofs.OnlySimples.{one_fits, one_made}
@@ -34,4 +35,6 @@ returns-in_default c =
     subst (λ t. IsAnswer pre t mode c.read_in_two_runs.result) c.as_bytes-text.ensures.value
     (answered_by (written_simple pre mode) mode Stated (port_table pre mode) (written_set pre mode)
     (λ tree i. record { ranges = map (λ r. range_made (port_table pre mode) mode r i) tree; compat = mode })
-    Crate c.as_bytes-text.result.now _ c.read_in_two_runs.result refl c.read_in_two_runs.ensures)
+    Crate c.as_bytes-text.result.now _ c.read_in_two_runs.result refl
+    (subst (λ o. IsAnswerBy o (simple_fits mode) (written_simple pre mode) mode c.read_in_two_runs.result)
+    (sym (begin_left Crate Stated c.as_bytes-text.result.now _ refl)) c.read_in_two_runs.ensures))

@@ -1,6 +1,6 @@
 use Rattle.std.proofs.Common.{rules, ◌≡◌, length, sym, ◌∙◌}
 use Rattle.semver_texts.specs.declared.grammar.Grammar.TheVariants.{Crate}
-use Rattle.semver_ranges.specs.Steps.Items.{simple_of}
+use Rattle.semver_ranges.specs.Steps.FoundItems.{simple_of}
 use Rattle.semver_ranges.proofs.FoundEvents.{term_here}
 use Rattle.semver_ranges.proofs.OnlySimples.{only_simple}
 use Rattle.semver_ranges.proofs.range_set.read_only_simple.Goals as goal

@@ -3,7 +3,7 @@ use Rattle.semver_texts.specs.Texts.{is_empty}
 use Rattle.semver_texts.specs.Versions.{PlainVersion}
 use Rattle.semver_ranges.specs.Steps.RangeEvents.{Event}
 use Rattle.tool_ranges.specs.Dialects.{grammar_of}
-use Rattle.tool_ranges.specs.Steps.Cursors.{GivesNext, HasLeftIn}
+use Rattle.semver_ranges.specs.Steps.CursorViews.{Gives, HasLeft}
 use Rattle.tool_ranges.specs.Steps.Matching.{counts, ended, plain_of}
 use Rattle.tool_ranges.proofs.MatchedEvents.{FirstTerm, first_term, large, says, term_more, told}
 use Rattle.tool_ranges.proofs.FitCells.{read_fits}
@@ -15,12 +15,12 @@ not_counted true v = refl
 not_counted false v = refl
 
 -- the next event is a term
-first : (c : In-Simple) → FirstTerm (grammar_of c.args.dialect) c.loop-event.invariant.0 c.in-Simple.simple c.next.new.self
+first : (c : In-Simple) → FirstTerm (grammar_of c.args.dialect) c.loop-event.invariant.0 c.in-Simple.simple c.next_in.new.self
 first c =
     let so_far = c.loop-event.invariant in
-    let gives : (o : Option (List Event)) → HasLeftIn (grammar_of c.args.dialect) c.loop-event.cursor o
-    → GivesNext (grammar_of c.args.dialect) o (Some c.in-Some.event) c.next.new.self = search rules in
-    first_term (grammar_of c.args.dialect) so_far.0 c.in-Simple.simple c.next.new.self
+    let gives : (o : Option (List Event)) → HasLeft (grammar_of c.args.dialect) c.loop-event.events o
+    → Gives (grammar_of c.args.dialect) o (Some c.in-Some.event) c.next_in.new.self = search rules in
+    first_term (grammar_of c.args.dialect) so_far.0 c.in-Simple.simple c.next_in.new.self
     (rw (c.in_ok-simple.was, c.in-Simple.is) at (gives so_far.0 so_far.1))
 
 pub with_term-progress-requires : goal.with_term-progress-requires

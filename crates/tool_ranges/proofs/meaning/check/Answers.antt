@@ -1,9 +1,13 @@
-use Rattle.tool_ranges.proofs.ReadTrees.{answered_as, refused_as}
 use Rattle.tool_ranges.proofs.meaning.check.Goals as goal
 
-pub returns-in-Ok-clause-refusals : goal.returns-in-Ok-clause-refusals
-returns-in-Ok-clause-refusals c = let read = c.in-Ok.ensures in
-    answered_as c.args.meaning.dialect c.args.range.now _ read.0 read.1 read.2
+pub returns-in-Cargo-clause-refusals : goal.returns-in-Cargo-clause-refusals
+returns-in-Cargo-clause-refusals c = rw c.in-Cargo.is c.check.ensures.refusals
 
-pub returns-in-Err-clause-refusals : goal.returns-in-Err-clause-refusals
-returns-in-Err-clause-refusals c = refused_as c.args.meaning.dialect c.args.range.now c.in-Err.refusal c.in-Err.ensures
+pub returns-in-Npm-clause-refusals : goal.returns-in-Npm-clause-refusals
+returns-in-Npm-clause-refusals c = rw c.in-Npm.is c.check-in-Npm.ensures.refusals
+
+pub returns-in-CrateCargo-clause-refusals : goal.returns-in-CrateCargo-clause-refusals
+returns-in-CrateCargo-clause-refusals c = rw c.in-CrateCargo.is c.check-in-CrateCargo.ensures.refusals
+
+pub returns-in-CrateNpm-clause-refusals : goal.returns-in-CrateNpm-clause-refusals
+returns-in-CrateNpm-clause-refusals c = rw c.in-CrateNpm.is c.check-in-CrateNpm.ensures.refusals

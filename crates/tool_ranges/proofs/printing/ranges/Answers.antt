@@ -5,7 +5,7 @@ use Rattle.semver_ranges.specs.Steps.DesugaredViews.{ranges_by}
 use Rattle.semver_ranges.specs.Steps.RangeEvents.{Event}
 use Rattle.tool_ranges.specs.Dialects.{grammar_of}
 use Rattle.tool_ranges.specs.Steps.Checked.{GivesEvent, HasEvents, IsCheckedAs}
-use Rattle.tool_ranges.specs.Steps.Cursors.{events_in, ranges_of}
+use Rattle.tool_ranges.specs.Steps.TextEvents.{events_in, ranges_of}
 use Rattle.tool_ranges.specs.Steps.Printed.{printed_ranges}
 use Rattle.tool_ranges.specs.TermComparators.{printed_term}
 use Rattle.tool_ranges.proofs.LeftEvents.{FirstFits, first_fits, next_first}

@@ -9,7 +9,7 @@ use Rattle.semver_ranges.specs.RangeTree.{SetTree}
 use Rattle.tool_ranges.specs.Dialects.{SpellsAs, grammar_of}
 use Rattle.tool_ranges.specs.Steps.Building.{known, Prints}
 use Rattle.tool_ranges.specs.Steps.Checked.{HasEvents, IsCheckedAs, size_after}
-use Rattle.tool_ranges.specs.Steps.Cursors.{events_in, ranges_of}
+use Rattle.tool_ranges.specs.Steps.TextEvents.{events_in, ranges_of}
 use Rattle.tool_ranges.specs.Steps.Matching.{after, begun, counts, lower_of, takes_all}
 use Rattle.tool_ranges.specs.Sides.{term_fits}
 use Rattle.tool_ranges.proofs.sets.set_of.Given as goal

@@ -1,7 +1,7 @@
 use Rattle.std.proofs.Common.{◌≤◌, Some, false, length, arith, refl, ap, ◌∙◌}
 use Rattle.semver_ranges.specs.RangeTree.{is_blank}
 use Rattle.semver_texts.specs.Texts.{Text}
-use Rattle.semver_ranges.specs.Steps.Items.{two_bars}
+use Rattle.semver_ranges.specs.Steps.FoundItems.{two_bars}
 use Rattle.semver_ranges.specs.Steps.RangeEvents.{next_range, put}
 use Rattle.semver_ranges.proofs.ReadingSteps.{back_shorter, shorter_bars}
 use Rattle.semver_ranges.proofs.EventSteps.{begin_left, bars_left}
@@ -20,9 +20,9 @@ returns c =
       x = two_bars;
       is = tt;
       whole = left_next d false t (Some (two_bars, rest))
-          (rw (c.requires.ends, c.in_ok-after_bars.ensures, c.after_blanks-self.ensures) refl);
-      left = λ lower. bars_left d lower t (Some u) c.requires.some c.requires.ends c.in_ok-after_bars.ensures
-          ∙ ap (put next_range) (begin_left d lower u rest c.after_blanks-self.ensures);
+          (rw (c.requires.ranges, c.requires.ends, c.in_ok-after_bars.ensures, c.after_blanks-self.ensures) refl);
+      left = λ lower. rw c.requires.ranges (bars_left d lower t (Some u) c.requires.some c.requires.ends c.in_ok-after_bars.ensures
+          ∙ ap (put next_range) (begin_left d lower u rest c.after_blanks-self.ensures));
       fewer = omega (arith, short, less);
       shorter = omega (arith, short, less);
     }

@@ -3,7 +3,7 @@ use Rattle.std.proofs.Math.Bool.{and-false}
 use Rattle.semver_texts.specs.Texts.{Text, begins_with}
 use Rattle.semver_ranges.specs.RangeTree.{Simple}
 use Rattle.semver_ranges.specs.Steps.CursorViews.{form_of}
-use Rattle.semver_ranges.specs.Steps.Items.{FoundTerm, one_term}
+use Rattle.semver_ranges.specs.Steps.FoundItems.{FoundTerm, one_term}
 use Rattle.semver_ranges.proofs.ReadingSteps.{shorter_simple}
 use Rattle.semver_ranges.proofs.EventSteps.{simple_left}
 use Rattle.semver_ranges.proofs.ItemSteps.{left_next}
@@ -29,8 +29,8 @@ returns-in_default c =
         record { from = here.from; form = refl; version = here.is; within = here.within; upper = rw here.upper tt },
         omega arith,
       );
-      whole = left_next d c.args.begins_range t (Some (one_term x, u)) (rw (c.requires.goes_on, here.simple, here.word, one) refl);
-      left = λ lower. simple_left d lower c.args.begins_range t u s c.requires.goes_on here.simple (λ begins. rw begins at one);
+      whole = left_next d c.args.begins_range t (Some (one_term x, u)) (rw (c.requires.ranges, c.requires.goes_on, here.simple, here.word, one) refl);
+      left = λ lower. rw c.requires.ranges (simple_left d lower c.args.begins_range t u s c.requires.goes_on here.simple (λ begins. rw begins at one));
       fewer = omega (arith, less);
       shorter = omega (arith, less);
     })

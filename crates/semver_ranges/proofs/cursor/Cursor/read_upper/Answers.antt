@@ -3,7 +3,7 @@ use Rattle.semver_texts.specs.Texts.{Text}
 use Rattle.semver_ranges.specs.RangeTree.{Simple, RangeTree, bare, hyphen}
 use Rattle.semver_ranges.specs.Steps.Reading.{with_right}
 use Rattle.semver_ranges.specs.Steps.CursorViews.{form_of}
-use Rattle.semver_ranges.specs.Steps.Items.{FoundTerm, one_term}
+use Rattle.semver_ranges.specs.Steps.FoundItems.{FoundTerm, one_term}
 use Rattle.semver_ranges.specs.Steps.RangeEvents.{yielded, put_simples}
 use Rattle.semver_ranges.proofs.ReadingSteps.{shorter_simple, shorter_right, right_ends}
 use Rattle.semver_ranges.proofs.EventSteps.{end_left, hyphen_left}
@@ -37,9 +37,9 @@ returns c =
         },
         omega arith,
       );
-      whole = left_next d true t (Some (one_term y, v)) (rw (c.requires.goes_on, here.simple, here.word, both, right.word) refl);
-      left = λ lower. hyphen_left d lower t (45 ∷ w) w v s x c.requires.goes_on here.simple refl both
-          ∙ ap (put_simples (yielded lower x)) (sym (end_left d lower v (right_ends d s (45 ∷ w) v x both)));
+      whole = left_next d true t (Some (one_term y, v)) (rw (c.requires.ranges, c.requires.goes_on, here.simple, here.word, both, right.word) refl);
+      left = λ lower. rw c.requires.ranges (hyphen_left d lower t (45 ∷ w) w v s x c.requires.goes_on here.simple refl both
+          ∙ ap (put_simples (yielded lower x)) (sym (end_left d lower v (right_ends d s (45 ∷ w) v x both))));
       fewer = omega (arith, less, short);
       shorter = omega (arith, less, short);
     })

@@ -1,0 +1,141 @@
+//! Reads the comparators of Cargo's requirements, which commas separate. What can't be read is
+//! `None`.
+
+ghost use Rattle.std.specs.Prelude.{◌≡◌, ◌&&◌, ◌||◌, not, length, MatchOption, None, Some};
+ghost use Rattle.semver_texts.specs.Texts.{is_empty};
+ghost use Rattle.semver_ranges.specs.RangeTree.{Simple as SimpleTree, PartialTree, qualifier};
+ghost use Rattle.semver_ranges.specs.Partials.{states_nothing};
+ghost use Rattle.semver_ranges.specs.CargoGrammar.{has_wildcard, is_of_cargo, named};
+ghost use Rattle.semver_ranges.specs.Steps.CursorViews.{form_of};
+ghost use Rattle.semver_ranges.specs.Steps.FoundItems.{after_comma, begins_with_tilde_greater};
+ghost use Rattle.semver_ranges.specs.Steps.FoundItems.{comparator, comparator_at};
+ghost use Rattle.semver_ranges.specs.Steps.Items.{FindsItem};
+ghost use Rattle.semver_ranges.specs.Steps.PartialViews.{AreWritten};
+
+use crate::grammar::{Form, after_blanks, read_term};
+use crate::partial::{Component, Components};
+use crate::term::RawTerm;
+use semver_texts::dotted::have_no_leading_zeros;
+use semver_texts::grammar::Grammar;
+
+/// Returns the first comparator of a string, or the next one after a comma, and what follows it and
+/// the blanks after it.
+#[inline(always)]
+pub(crate) fn next_comparator(text: &[u8], is_first: bool) -> Option<(RawTerm<'_>, &[u8])>
+    ensures { FindsItem (length text.now) (comparator is_first text.now) result }
+{
+    if is_first {
+        return read_comparator(text, true);
+    }
+    read_comparator(after_comma(text)?, false)
+}
+
+/// Returns what follows a comma and the blanks after it, if the string begins with a comma.
+#[inline(always)]
+fn after_comma(text: &[u8]) -> Option<&[u8]>
+    ensures { MatchOption result (after_comma text.now ≡ None) (λ rest. after_comma text.now
+        ≡ Some rest.now) }
+{
+    match text {
+        [b',', rest @ ..] => Some(after_blanks(rest, Grammar::Cargo)),
+        _ => None,
+    }
+}
+
+/// Returns the comparator at the beginning of a string, and what follows it and the blanks after
+/// it.
+#[inline(always)]
+fn read_comparator(text: &[u8], is_first: bool) -> Option<(RawTerm<'_>, &[u8])>
+    ensures { FindsItem (length text.now) (comparator_at is_first text.now) result }
+{
+    let (term, rest) = read_term(text, Grammar::Cargo)?;
+    if may_come(text, &term, is_first && rest.is_empty()) {
+        Some((term, rest))
+    } else {
+        None
+    }
+}
+
+/// Returns whether a comparator may be at the beginning of a string: Cargo accepts it, and one that
+/// states no number is the only one.
+#[inline(always)]
+fn may_come(text: &[u8], term: &RawTerm<'_>, is_only: bool) -> bool
+    ensures { (s : SimpleTree) → form_of term.now.form ≡ s.form
+        → AreWritten s.partial term.now.version.components
+        → result ≡ (not (begins_with_tilde_greater text.now)
+        && (is_of_cargo s && (not (states_nothing s.partial) || is_only))) }
+{
+    let written = &term.version.components;
+    !begins_with_tilde_greater(text)
+        && is_of_cargo(term.form, written)
+        && (!begins_with_wildcard(written) || is_only)
+}
+
+/// Returns whether a string begins with `~>`, which Cargo doesn't have.
+#[inline(always)]
+fn begins_with_tilde_greater(text: &[u8]) -> bool
+    ensures { result ≡ begins_with_tilde_greater text.now }
+{
+    matches!(text, [b'~', b'>', ..])
+}
+
+/// Returns whether Cargo accepts a comparator. A single wildcard is accepted; it matches every
+/// release. All others need all of these:
+/// - The first component is a number.
+/// - Only wildcards follow a wildcard.
+/// - Only three numbers are followed by a pre-release or build metadata.
+/// - No number in the pre-release has a leading zero.
+#[inline(always)]
+fn is_of_cargo(form: Form, written: &Components<'_>) -> bool
+    ensures { (s : SimpleTree) → form_of form ≡ s.form → AreWritten s.partial written.now
+        → result ≡ is_of_cargo s }
+{
+    match (written.major, written.minor, written.patch) {
+        (Component::Wildcard(_), None, _) => matches!(form, Form::Bare),
+        (Component::Wildcard(_), Some(_), _) => false,
+        (_, Some(Component::Wildcard(_)), Some(Component::Number(_))) => false,
+        (_, _, Some(Component::Wildcard(_))) => !is_qualified(written),
+        _ => have_no_leading_zeros(written.pre),
+    }
+}
+
+/// Returns whether a pre-release or build metadata is written.
+#[inline(always)]
+fn is_qualified(written: &Components<'_>) -> bool
+    ensures { (p : PartialTree) → AreWritten p written.now
+        → result ≡ not (is_empty (qualifier p)) }
+{
+    !written.pre.is_empty() || !written.build.is_empty()
+}
+
+/// Returns whether the first component is a wildcard, so no number is stated.
+#[inline(always)]
+fn begins_with_wildcard(written: &Components<'_>) -> bool
+    ensures { (p : PartialTree) → AreWritten p written.now → result ≡ states_nothing p }
+{
+    matches!(written.major, Component::Wildcard(_))
+}
+
+/// Returns the operator that Cargo reads, where none means `^`, or `=` with a wildcard.
+#[inline(always)]
+pub(crate) fn named(form: Form, has_wildcard: bool) -> Form
+    ensures { form_of result ≡ named has_wildcard (form_of form) }
+{
+    match form {
+        Form::Bare if has_wildcard => Form::Equal,
+        Form::Bare => Form::Caret,
+        _ => form,
+    }
+}
+
+/// Returns whether some component is a wildcard.
+#[inline(always)]
+pub(crate) fn has_wildcard(written: &Components<'_>) -> bool
+    ensures { (p : PartialTree) → AreWritten p written.now → result ≡ has_wildcard p }
+{
+    match (written.major, written.minor, written.patch) {
+        (Component::Wildcard(_), _, _) => true,
+        (_, Some(Component::Wildcard(_)), _) | (_, _, Some(Component::Wildcard(_))) => true,
+        _ => false,
+    }
+}

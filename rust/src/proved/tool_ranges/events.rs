@@ -1,0 +1,40 @@
+// Made by tools/erase.py from crates/tool_ranges/src/events.rt; not edited by hand.
+//! The events of a range string in each dialect. Nothing here allocates.
+
+use crate::rattle_std::prelude::*;
+use crate::proved::tool_ranges::cargo::has_few_commas;
+use crate::proved::tool_ranges::dialect::Dialect;
+use crate::proved::tool_ranges::npm::may_stand;
+use crate::proved::semver_ranges::RangeError;
+use crate::proved::semver_ranges::events::Events;
+use crate::proved::semver_ranges::partial::LowerBounds;
+
+/// Returns the events of a range string. `lower` says how the left side of a hyphen range is
+/// written.
+///
+/// # Errors
+///
+/// `NotARange` if the string has a character that can't be in a range of npm, or more comparators
+/// than a requirement of Cargo may have.
+#[inline(always)]
+pub(crate) fn events_of(
+    text: &str,
+    dialect: Dialect,
+    lower: LowerBounds,
+) -> Result<Events<'_>, RangeError> {
+    if may_be_a_range(text, dialect) {
+        Ok(Events::new(text.as_bytes(), dialect.grammar(), lower))
+    } else {
+        Err(RangeError::NotARange)
+    }
+}
+
+/// Returns whether a string has only characters and commas that a range may have.
+#[inline(always)]
+fn may_be_a_range(text: &str, dialect: Dialect) -> bool {
+    match dialect {
+        Dialect::Cargo => has_few_commas(text.as_bytes()),
+        Dialect::Npm => may_stand(text),
+        Dialect::CrateCargo | Dialect::CrateNpm => true,
+    }
+}
