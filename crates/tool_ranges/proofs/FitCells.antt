@@ -23,7 +23,7 @@ use Rattle.version_sets.specs.Sides.{above}
 use Rattle.tool_ranges.specs.declared.dialect.Dialect.{Dialect}
 use Rattle.tool_ranges.specs.declared.dialect.Dialect.TheVariants.{Cargo, Npm, CrateCargo, CrateNpm}
 use Rattle.tool_ranges.specs.DialectTable.{limit}
-use Rattle.tool_ranges.specs.Sides.{may_rise, raised_place, sides, sides_fit, term_fits}
+use Rattle.tool_ranges.specs.Sides.{may_rise, raised_index, sides, sides_fit, term_fits}
 use Rattle.tool_ranges.proofs.Cells.{Spot, leading_of_two, leading_of_three}
 
 -- a test whether a number is at most a limit
@@ -175,8 +175,8 @@ module _ (s : Simple) (simple : read.Simple) (is : IsSimpleOf s simple) where
 
   -- the same number is raised for its sides
   pub read_raised : (d : Dialect) → list_all (is_within_limit d) (stated s.partial) ≡ true
-      → raised_place (sides d (form_of simple.form) (stated_of simple.partial) (not (is_empty (version_of simple.partial).pre)))
-      ≡ raised_place (sides d s.form (stated s.partial) (not (is_empty (zero_filled s.partial).pre)))
+      → raised_index (sides d (form_of simple.form) (stated_of simple.partial) (not (is_empty (version_of simple.partial).pre)))
+      ≡ raised_index (sides d s.form (stated s.partial) (not (is_empty (zero_filled s.partial).pre)))
   read_raised d all =
       let same = is.1.1 (sym is.1.0 ∙ within_all d (stated s.partial) all) in
-      λ i. raised_place (sides d (is.0 i) (same.0 i) (not (is_empty (same.1 i).pre)))
+      λ i. raised_index (sides d (is.0 i) (same.0 i) (not (is_empty (same.1 i).pre)))

@@ -10,7 +10,7 @@ use Rattle.tool_ranges.specs.declared.dialect.Dialect.{Dialect}
 use Rattle.tool_ranges.specs.declared.dialect.Dialect.TheVariants.{Cargo}
 use Rattle.semver_ranges.specs.CargoGrammar.{as_read}
 use Rattle.tool_ranges.specs.DialectTable.{limit}
-use Rattle.tool_ranges.specs.Sides.{raised_place, sides, term_fits}
+use Rattle.tool_ranges.specs.Sides.{raised_index, sides, term_fits}
 
 -- the terms of a range in the order of its text; the sides of a hyphen range are `>=` and `<=`
 abbrev pub terms_of : RangeTree → List Simple
@@ -43,5 +43,5 @@ first_above most ns = if list_all (λ n. nat_le n most) ns then None
 abbrev pub too_large : Dialect → Simple → Option ℕ
 too_large dialect s = if term_fits dialect s then None
     else Some (unwrap_or (first_above (limit dialect) (stated s.partial))
-    (raised_place (sides dialect s.form (stated s.partial)
+    (raised_index (sides dialect s.form (stated s.partial)
     (not (is_empty (zero_filled s.partial).pre)))))

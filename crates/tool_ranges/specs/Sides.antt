@@ -106,6 +106,6 @@ abbrev pub raised_for : Option SideValue → ℕ
 raised_for (Some (above (suc k))) = k
 raised_for side = 0
 
-abbrev pub raised_place : Option SideValue × Option SideValue → ℕ
-raised_place (Some (above k), upper) = raised_for (Some (above k))
-raised_place (lower, upper) = raised_for upper
+abbrev pub raised_index : Option SideValue × Option SideValue → ℕ
+raised_index (Some (above k), upper) = raised_for (Some (above k))
+raised_index (lower, upper) = raised_for upper

@@ -16,7 +16,7 @@ ghost use Rattle.tool_ranges.specs.Steps.TextEvents.{commas, has_few_commas};
 ghost use Rattle.tool_ranges.specs.declared.dialect.Dialect.TheVariants as dialect;
 
 use crate::dialect::Dialect;
-use crate::printing;
+use crate::rewriting;
 use semver_ranges::partial::LowerBounds;
 use semver_ranges::{Compat, RangeError, RangeSet};
 use std::alloc::Global;
@@ -62,7 +62,7 @@ pub fn rewrite(alloc: Global, requirement: &str) -> Result<RangeSet, RangeError>
         × Spells tree (set_text (set_of set)) × IsTrue (fits Cargo tree)
         × (rewritten Cargo tree ≡ set_of set)) }
 {
-    printing::rewrite(
+    rewriting::rewrite(
         alloc,
         requirement,
         Dialect::Cargo,

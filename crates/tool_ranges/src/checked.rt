@@ -1,6 +1,6 @@
 //! Checks a range string, and then returns its terms. Nothing here allocates.
 //!
-//! All of it is `inline(always)`, and so are the callers in `printing`: without these hints, the
+//! All of it is `inline(always)`, and so are the callers in `rewriting`: without these hints, the
 //! comparators of one term in Cargo's dialect take 12 % more instructions.
 
 ghost use Rattle.std.specs.Prelude.{◌≡◌, ◌≢◌, ◌<◌, Err, List, Option, IfSome, MatchResult};

@@ -19,7 +19,7 @@ ghost use Rattle.tool_ranges.specs.Dialects.{IsRewrittenAs, RefusesAs};
 ghost use Rattle.tool_ranges.specs.declared.dialect.Dialect.TheVariants as dialect;
 
 use crate::dialect::Dialect;
-use crate::printing;
+use crate::rewriting;
 use semver_ranges::partial::LowerBounds;
 use semver_ranges::{Compat, RangeError, RangeSet};
 use semver_texts::white_space::is_white_space_beyond_ascii;
@@ -65,7 +65,7 @@ pub fn rewrite(alloc: Global, range: &str) -> Result<RangeSet, RangeError>
         × Spells tree (set_text (set_of set)) × IsTrue (fits Npm tree)
         × (rewritten Npm tree ≡ set_of set)) }
 {
-    printing::rewrite(alloc, range, Dialect::Npm, Compat::Npm, LowerBounds::Stated)
+    rewriting::rewrite(alloc, range, Dialect::Npm, Compat::Npm, LowerBounds::Stated)
 }
 
 // Determined by: law result_laws::ranges::one_npm_rewrite_included.
@@ -92,7 +92,7 @@ pub fn rewrite_included(alloc: Global, range: &str) -> Result<RangeSet, RangeErr
         → SpellsNpmRange tree range.now
         → meets_set v (set_any (set_of set)) ≡ meets_npm Included tree v) }
 {
-    printing::rewrite(alloc, range, Dialect::Npm, Compat::Npm, LowerBounds::Lowest)
+    rewriting::rewrite(alloc, range, Dialect::Npm, Compat::Npm, LowerBounds::Lowest)
 }
 
 /// Returns whether every non-ASCII character of a string is white space to JavaScript. Strings of

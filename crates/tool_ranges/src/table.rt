@@ -28,7 +28,7 @@ ghost use Rattle.version_sets.specs.Releases.{release_value};
 ghost use Rattle.tool_ranges.specs.declared.dialect.Dialect.TheVariants.{Cargo, Npm};
 ghost use Rattle.tool_ranges.specs.NpmMeaning.{is_zero};
 ghost use Rattle.tool_ranges.specs.Sides.{block_begins, sides, sides_of_nothing, term_fits};
-ghost use Rattle.tool_ranges.specs.Sides.{ends_past, may_rise, raised_for, raised_place, sides_fit};
+ghost use Rattle.tool_ranges.specs.Sides.{ends_past, may_rise, raised_for, raised_index, sides_fit};
 ghost use Rattle.tool_ranges.specs.Steps.Table.{is_within, cargo_sides, is_counted_within};
 ghost use Rattle.tool_ranges.specs.Steps.Table.{is_past_release, sides_beside};
 ghost use Rattle.tool_ranges.specs.DialectTable.{limit};
@@ -270,7 +270,7 @@ pub fn too_large(form: Form, written: &Components<'_>, dialect: Dialect) -> Opti
     let (lower, upper) = sides(&simple, dialect);
     match first_above(written, limit(dialect)) {
         Some(index) => Some(index),
-        None => Some(raised_place(lower, upper)),
+        None => Some(raised_index(lower, upper)),
     }
 }
 
@@ -319,9 +319,9 @@ fn is_above(number: Option<u64>, most: u64) -> bool
 
 /// Returns the index of the number that is raised for the lower side, or else for the upper one. It
 /// is 0 if none is.
-fn raised_place(lower: Option<Side>, upper: Option<Side>) -> usize
+fn raised_index(lower: Option<Side>, upper: Option<Side>) -> usize
     ensures value { result
-        ≡ raised_place (option_map side_value lower, option_map side_value upper) }
+        ≡ raised_index (option_map side_value lower, option_map side_value upper) }
     ensures small { result < 3 }
 {
     match (lower, upper) {

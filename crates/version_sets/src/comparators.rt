@@ -89,7 +89,7 @@ pub(crate) struct IntervalComparators<'a> {
 
 /// Returns the comparators of the versions that are at or above one boundary, and below another if
 /// it is given. No version is below the lowest.
-fn interval_of<'a, T: Boundary>(from: &'a T, to: Option<&'a T>) -> IntervalComparators<'a>
+fn comparators_between<'a, T: Boundary>(from: &'a T, to: Option<&'a T>) -> IntervalComparators<'a>
     ensures { interval_value result ≡ interval T.kind (T.place from.now)
         (option_map (λ x. T.place x.now) to.entry) }
 {
@@ -127,8 +127,8 @@ pub(crate) fn first_interval<'a, T: Boundary>(
 {
     match boundaries {
         [] => None,
-        [from] => Some((interval_of(from, None), &[])),
-        [from, to, others @ ..] => Some((interval_of(from, Some(to)), others)),
+        [from] => Some((comparators_between(from, None), &[])),
+        [from, to, others @ ..] => Some((comparators_between(from, Some(to)), others)),
     }
 }
 

@@ -86,7 +86,7 @@ fn simples<'input>(
 ) -> (Simple<'input>, Option<Simple<'input>>) {
     let simple = term.simple(grammar);
     match &term.upper {
-        Some(upper) => sides(simple.partial, Partial::of(&upper.components), lower),
+        Some(upper) => hyphen_sides(simple.partial, Partial::of(&upper.components), lower),
         None => (simple, None),
     }
 }
@@ -94,7 +94,7 @@ fn simples<'input>(
 /// Returns the terms of the two sides of a hyphen range. A side without a number is left out,
 /// except for the left one if neither side has a number.
 #[inline(always)]
-fn sides<'input>(
+fn hyphen_sides<'input>(
     left: Partial<'input>,
     right: Partial<'input>,
     lower: LowerBounds,

@@ -3,7 +3,7 @@
 
 use crate::rattle_std::prelude::*;
 use crate::proved::tool_ranges::dialect::Dialect;
-use crate::proved::tool_ranges::printing;
+use crate::proved::tool_ranges::rewriting;
 use crate::proved::semver_ranges::partial::LowerBounds;
 use crate::proved::semver_ranges::{Compat, RangeError, RangeSet};
 
@@ -30,7 +30,7 @@ const MOST_COMPARATORS: usize = 32;
 ///   raised by one, is above 2^64 - 1, such as `>1.18446744073709551615`.
 /// - `OutOfMemory` if an allocation fails. The first two errors are returned without allocating.
 pub fn rewrite(requirement: &str) -> Result<RangeSet, RangeError> {
-    printing::rewrite(
+    rewriting::rewrite(
         requirement,
         Dialect::Cargo,
         Compat::Cargo,

@@ -1,7 +1,7 @@
 // Made by tools/erase.py from crates/tool_ranges/src/checked.rt; not edited by hand.
 //! Checks a range string, and then returns its terms. Nothing here allocates.
 //!
-//! All of it is `inline(always)`, and so are the callers in `printing`: without these hints, the
+//! All of it is `inline(always)`, and so are the callers in `rewriting`: without these hints, the
 //! comparators of one term in Cargo's dialect take 12 % more instructions.
 
 use crate::rattle_std::prelude::*;

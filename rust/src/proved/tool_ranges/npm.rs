@@ -3,7 +3,7 @@
 
 use crate::rattle_std::prelude::*;
 use crate::proved::tool_ranges::dialect::Dialect;
-use crate::proved::tool_ranges::printing;
+use crate::proved::tool_ranges::rewriting;
 use crate::proved::semver_ranges::partial::LowerBounds;
 use crate::proved::semver_ranges::{Compat, RangeError, RangeSet};
 use crate::proved::semver_texts::white_space::is_white_space_beyond_ascii;
@@ -31,7 +31,7 @@ use crate::proved::semver_texts::white_space::is_white_space_beyond_ascii;
 ///   by one, is above 2^53 - 1, such as `>1.9007199254740991`.
 /// - `OutOfMemory` if an allocation fails. The first two errors are returned without allocating.
 pub fn rewrite(range: &str) -> Result<RangeSet, RangeError> {
-    printing::rewrite(range, Dialect::Npm, Compat::Npm, LowerBounds::Stated)
+    rewriting::rewrite(range, Dialect::Npm, Compat::Npm, LowerBounds::Stated)
 }
 
 /// Rewrites a range, as npm reads it with `includePrerelease`, into plain comparators that say
@@ -45,7 +45,7 @@ pub fn rewrite(range: &str) -> Result<RangeSet, RangeError> {
 ///
 /// Those of [`rewrite`].
 pub fn rewrite_included(range: &str) -> Result<RangeSet, RangeError> {
-    printing::rewrite(range, Dialect::Npm, Compat::Npm, LowerBounds::Lowest)
+    rewriting::rewrite(range, Dialect::Npm, Compat::Npm, LowerBounds::Lowest)
 }
 
 /// Returns whether every non-ASCII character of a string is white space to JavaScript. Strings of

@@ -170,7 +170,7 @@ pub(crate) fn too_large(form: Form, written: &Components<'_>, dialect: Dialect) 
     let (lower, upper) = sides(&simple, dialect);
     match first_above(written, limit(dialect)) {
         Some(index) => Some(index),
-        None => Some(raised_place(lower, upper)),
+        None => Some(raised_index(lower, upper)),
     }
 }
 
@@ -213,7 +213,7 @@ fn is_above(number: Option<u64>, most: u64) -> bool {
 
 /// Returns the index of the number that is raised for the lower side, or else for the upper one. It
 /// is 0 if none is.
-fn raised_place(lower: Option<Side>, upper: Option<Side>) -> usize {
+fn raised_index(lower: Option<Side>, upper: Option<Side>) -> usize {
     match (lower, upper) {
         (Some(Side::Above(place)), _) => index(place),
         (_, Some(Side::Above(place))) => index(place),

@@ -67,7 +67,7 @@ pub(crate) struct IntervalComparators<'a> {
 
 /// Returns the comparators of the versions that are at or above one boundary, and below another if
 /// it is given. No version is below the lowest.
-fn interval_of<'a, T: Boundary>(from: &'a T, to: Option<&'a T>) -> IntervalComparators<'a> {
+fn comparators_between<'a, T: Boundary>(from: &'a T, to: Option<&'a T>) -> IntervalComparators<'a> {
     if from.is_alone(to) {
         return IntervalComparators {
             first: from.comparator(Op::Eq),
@@ -97,8 +97,8 @@ pub(crate) fn first_interval<'a, T: Boundary>(
 ) -> Option<(IntervalComparators<'a>, &'a [T])> {
     match boundaries {
         [] => None,
-        [from] => Some((interval_of(from, None), &[])),
-        [from, to, others @ ..] => Some((interval_of(from, Some(to)), others)),
+        [from] => Some((comparators_between(from, None), &[])),
+        [from, to, others @ ..] => Some((comparators_between(from, Some(to)), others)),
     }
 }
 

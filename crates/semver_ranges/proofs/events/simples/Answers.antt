@@ -7,7 +7,7 @@ use Rattle.semver_ranges.proofs.events.simples.Goals as goal
 pub returns-in-Some : goal.returns-in-Some
 returns-in-Some c = λ d x is.
     let found = found_upper d x.from x.upper c.in-Some.upper (rw c.in-Some.is at is.upper) in
-    rw found.1 (c.sides.ensures x.version.partial found.0.partial
+    rw found.1 (c.hyphen_sides.ensures x.version.partial found.0.partial
     (subst (λ p. IsPartialOf p c.simple-simple.result.partial) (same_partial c.args.grammar (simple_of x)) (c.simple-simple.ensures d x is).1)
     (c.of.ensures found.0.partial found.2.written))
 

@@ -5,7 +5,7 @@ use Rattle.semver_ranges.specs.Partials.{stated}
 use Rattle.semver_ranges.specs.Steps.CursorViews.{IsSimpleOf}
 use Rattle.tool_ranges.specs.DialectTable.{limit}
 use Rattle.tool_ranges.specs.FittingTerms.{first_above, read_in}
-use Rattle.tool_ranges.specs.Sides.{raised_place}
+use Rattle.tool_ranges.specs.Sides.{raised_index}
 use Rattle.tool_ranges.proofs.FitCells.{read_fits, read_raised}
 use Rattle.tool_ranges.proofs.TooLargeNumbers.{all_within, raised_large, same_read_in}
 use Rattle.tool_ranges.proofs.table.too_large.Goals as goal
@@ -19,8 +19,8 @@ returns-in-None-clause-value c = λ s form are.
     (c.of-simple.ensures s form are) in
     let none : Path (Option _) None (first_above (limit d) (stated s.partial)) =
     sym c.in-None.is ∙ c.first_above.ensures.value s.partial are ∙ ap (λ most. first_above most (stated s.partial)) c.limit.ensures in
-    raised_large d r none (sym (c.fits.ensures ∙ read_fits r simple is d) ∙ c.if-fits.false) c.raised_place.result
-    (c.raised_place.ensures.value ∙ (λ i. raised_place (c.sides-lower.ensures.lower i, c.sides-lower.ensures.upper i))
+    raised_large d r none (sym (c.fits.ensures ∙ read_fits r simple is d) ∙ c.if-fits.false) c.raised_index.result
+    (c.raised_index.ensures.value ∙ (λ i. raised_index (c.sides-lower.ensures.lower i, c.sides-lower.ensures.upper i))
     ∙ read_raised r simple is d (all_within d r none))
 
 pub returns-then-fits-clause-value : goal.returns-then-fits-clause-value

@@ -13,8 +13,8 @@ use Rattle.tool_ranges.proofs.MatchedEvents.{ranges_fit}
 use Rattle.tool_ranges.proofs.PrintedSets.{printed_events, range_ended, text_ended}
 use Rattle.tool_ranges.proofs.ReadingLaws.{one_tree}
 use Rattle.tool_ranges.proofs.ReadTrees.{sound_as}
-use Rattle.tool_ranges.proofs.printing.ranges.Goals as goal
-use Rattle.tool_ranges.proofs.printing.ranges.Goals.{In-Simple}
+use Rattle.tool_ranges.proofs.rewriting.ranges.Goals as goal
+use Rattle.tool_ranges.proofs.rewriting.ranges.Goals.{In-Simple}
 
 pub loop-event-init : goal.loop-event-init
 loop-event-init c = λ t read.

@@ -1,4 +1,4 @@
-// Made by tools/erase.py from crates/tool_ranges/src/printing.rt; not edited by hand.
+// Made by tools/erase.py from crates/tool_ranges/src/rewriting.rt; not edited by hand.
 //! A range text as plain comparators with exact bounds: those of the intervals of its terms.
 
 use crate::rattle_std::prelude::*;

@@ -10,8 +10,8 @@ use Rattle.tool_ranges.specs.Sides.{term_fits}
 use Rattle.tool_ranges.specs.TermComparators.{at_side, lower_comparator, printed_term, upper_comparator}
 use Rattle.tool_ranges.specs.Sides.{ends_past}
 use Rattle.tool_ranges.proofs.PrintedTerms.{apart_sides, both_sides, lower_rises, printed_so, pushed, upper_rises}
-use Rattle.tool_ranges.proofs.printing.push.Goals as goal
-use Rattle.tool_ranges.proofs.printing.push.Goals.{Joined-first, in-Some+in_ok-lower_comparator+in_ok-push-2, in_default}
+use Rattle.tool_ranges.proofs.rewriting.push.Goals as goal
+use Rattle.tool_ranges.proofs.rewriting.push.Goals.{Joined-first, in-Some+in_ok-lower_comparator+in_ok-push-2, in_default}
 
 some_value : (o : Option Side) → is_some (option_map side_value o) ≡ is_some o
 some_value None = refl

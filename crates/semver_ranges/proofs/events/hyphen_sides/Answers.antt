@@ -1,6 +1,6 @@
 use Rattle.std.proofs.Common.{refl, sym, ◌∙◌}
 use Rattle.semver_ranges.proofs.StatedNumbers.{states_kind}
-use Rattle.semver_ranges.proofs.events.sides.Goals as goal
+use Rattle.semver_ranges.proofs.events.hyphen_sides.Goals as goal
 
 pub returns-then-states_nothing : goal.returns-then-states_nothing
 returns-then-states_nothing c =

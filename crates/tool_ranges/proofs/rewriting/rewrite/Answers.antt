@@ -1,6 +1,6 @@
 use Rattle.std.proofs.Common.{◌≡◌, Err, rules}
 use Rattle.tool_ranges.proofs.ReadTrees.{answered_as, out_of_memory_as, refused_as}
-use Rattle.tool_ranges.proofs.printing.rewrite.Goals as goal
+use Rattle.tool_ranges.proofs.rewriting.rewrite.Goals as goal
 
 pub returns-in_err-checked-clause-refusals : goal.returns-in_err-checked-clause-refusals
 returns-in_err-checked-clause-refusals c =

@@ -10,7 +10,7 @@ use Rattle.tool_ranges.specs.Steps.Checked.{HasEvents, IsCheckedAs, size_after}
 use Rattle.tool_ranges.specs.Sides.{term_fits}
 use Rattle.tool_ranges.specs.Steps.Printed.{printed_ranges}
 use Rattle.tool_ranges.specs.TermComparators.{printed_term}
-use Rattle.tool_ranges.proofs.printing.ranges.Given as goal
+use Rattle.tool_ranges.proofs.rewriting.ranges.Given as goal
 
 abbrev pub invariant-loop-event : goal.invariant-loop-event
 invariant-loop-event l = (t : Text) → IsCheckedAs l.lower l.dialect t l.fn.checked
