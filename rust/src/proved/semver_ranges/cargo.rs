@@ -13,10 +13,12 @@ use crate::proved::semver_texts::grammar::Grammar;
 /// the blanks after it.
 #[inline(always)]
 pub(crate) fn next_comparator(text: &[u8], is_first: bool) -> Option<(RawTerm<'_>, &[u8])> {
-    if is_first {
-        return read_comparator(text, true);
-    }
-    read_comparator(after_comma(text)?, false)
+    let text = if is_first {
+        text
+    } else {
+        after_comma(text)?
+    };
+    read_comparator(text, is_first)
 }
 
 /// Returns what follows a comma and the blanks after it, if the string begins with a comma.
