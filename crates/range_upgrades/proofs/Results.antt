@@ -293,13 +293,6 @@ valid_range m range read refused = record {
   fits = λ large. let e = refused.too_large.1 large in cc;
 }
 
-pub memory_range : {A : Type 0} (m : Rules) (range : Text) (error : RangeError) → error ≡ range_error.OutOfMemory
-    → RefusesAs {A = A} m.dialect range (Err error) → IsValid m range
-memory_range m range error e refused = record {
-  is_range = refused.out_of_memory (ap Err e);
-  fits = λ large. let f = refused.too_large.1 large in cc;
-}
-
 -- the other errors
 pub unread : {S A : Type 0} (bytes : S → Text) (m : Rules) (range version : Text) (o : VersionRefValue) (error : RangeError)
     → RefusesAs {A = A} m.dialect range (Err error) → error ≢ range_error.OutOfMemory → IsResultOf bytes m range version o (Err (InvalidRange error))

@@ -1,6 +1,6 @@
 //! The text of a range whose last alternative is raised to a newer version.
 
-ghost use Rattle.std.specs.Prelude.{◌≡◌, ◌≢◌, ◌++◌, None, IfErr, IfOk, IfSome, true, false};
+ghost use Rattle.std.specs.Prelude.{◌≡◌, ◌↔◌, ◌++◌, None, IfOk, IfSome, true};
 ghost use Rattle.std.specs.Prelude.{string_bytes};
 ghost use Rattle.semver_texts.specs.Texts.{Text};
 ghost use Rattle.semver_versions.specs.VersionRefs.{version_of};
@@ -17,12 +17,12 @@ use crate::alternatives::Alternative;
 use crate::raised_versions::{Form, raised_version};
 use range_terms::term::{Operator, PartialVersion, Term};
 use range_terms::terms::of_range;
-use semver_ranges::RangeError;
 use semver_versions::version::VersionRef;
 use std::alloc::{AllocError, Global};
+use tool_ranges::at_or_above::has_at_or_above;
 use tool_ranges::dialect::Dialect;
 use tool_ranges::laws;
-use tool_ranges::meaning::{Rules, read};
+use tool_ranges::meaning::Rules;
 use version_sets::PreReleases;
 
 /// Returns the text of the last alternative, in which each version that has to be raised is
@@ -50,7 +50,7 @@ pub(crate) fn raised_alternative(
     let mut raised = String::new(alloc);
     let mut copied = last.start;
     for term in of_range(range, dialect) {
-        if !is_to_raise(alloc, range, last, &term, version, dialect)? {
+        if !is_to_raise(range, last, &term, version, dialect) {
             continue;
         }
         let written = last_version(&term);
@@ -79,69 +79,41 @@ fn push_raised(raised: &mut String, kept: &str, new: &PartialVersion<'_>) -> Res
 }
 
 /// Returns whether the version of a term has to be raised: the term is in the last alternative,
-/// doesn't state only a lower bound, and has no version at or above the newer one. `Err` means out
-/// of memory.
+/// doesn't state only a lower bound, and has no version at or above the newer one.
 fn is_to_raise(
-    alloc: Global,
     range: &str,
     last: &Alternative,
     term: &Term<'_>,
     version: &VersionRef<'_>,
     dialect: Dialect,
-) -> Result<bool, AllocError>
+) -> bool
     requires { IsReadIn dialect version.now }
-    ensures raised { IfOk result (λ is. is ≡ true
-        → IsToRaise dialect range.now version.now last.now (term_value term.now)) }
-    ensures kept { IfOk result (λ is. is ≡ false
-        → ¬ (IsToRaise dialect range.now version.now last.now (term_value term.now))) }
+    ensures { (result ≡ true)
+        ↔ IsToRaise dialect range.now version.now last.now (term_value term.now) }
 {
     if term.range != last.range || is_lower_bound(term.operator) {
-        return Ok(false);
+        return false;
     }
-    let Some(text) = part(range, term.span.start, term.span.end) else {
-        return Ok(false);
-    };
-    is_below(alloc, text, version, dialect)
+    match part(range, term.span.start, term.span.end) {
+        Some(text) => is_below(text, version, dialect),
+        None => false,
+    }
 }
 
 /// Returns whether a term, which is given alone as a range, has no version at or above another
-/// version. `Err` means out of memory.
-fn is_below(
-    alloc: Global,
-    term: &str,
-    version: &VersionRef<'_>,
-    dialect: Dialect,
-) -> Result<bool, AllocError>
+/// version.
+fn is_below(term: &str, version: &VersionRef<'_>, dialect: Dialect) -> bool
     requires { IsReadIn dialect version.now }
-    ensures below { IfOk result (λ is. is ≡ true
-        → IsBelow dialect term.now (version_of version.now).plain) }
-    ensures above { IfOk result (λ is. is ≡ false
-        → ¬ (IsBelow dialect term.now (version_of version.now).plain)) }
+    ensures { (result ≡ true) ↔ IsBelow dialect term.now (version_of version.now).plain }
 {
     let meaning = Rules {
         dialect,
         pre_releases: PreReleases::Included,
     };
     laws::one_tree();
-    let alone = match read(alloc, meaning, term) {
-        Ok(alone) => alone,
-        Err(error) => {
-            unless_out_of_memory(error)?;
-            return Ok(false);
-        }
-    };
-    let has_above = alone.has_at_or_above(alloc, version)?;
-    Ok(!has_above)
-}
-
-/// Returns `Err` if a range wasn't read because an allocation failed.
-pub(crate) fn unless_out_of_memory(error: RangeError) -> Result<(), AllocError>
-    ensures ok { IfOk result (λ _. error ≢ RangeError.OutOfMemory) }
-    ensures err { IfErr result (λ _. error ≡ RangeError.OutOfMemory) }
-{
-    match error {
-        RangeError::OutOfMemory => Err(AllocError),
-        RangeError::NotARange | RangeError::NumberTooLarge => Ok(()),
+    match has_at_or_above(version, term, meaning) {
+        Ok(has) => !has,
+        Err(_) => false,
     }
 }
 

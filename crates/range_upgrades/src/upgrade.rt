@@ -18,14 +18,15 @@ ghost use Rattle.range_upgrades.specs.Upgrades.{HasVersionFromText, IsReadIn, Is
 ghost use Rattle.range_upgrades.specs.Upgrades.{IsSetOf, LosesNone};
 
 use crate::alternatives::{has_bars, last_alternative};
-use crate::raised_ranges::{extended, raised_alternative, replaced, unless_out_of_memory};
+use crate::raised_ranges::{extended, raised_alternative, replaced};
 use crate::raised_versions::Form;
 use semver_ranges::RangeError;
 use semver_versions::version::{VersionRef, read_ref_in};
 use std::alloc::{AllocError, Global};
 use thiserror::Error;
+use tool_ranges::at_or_above::has_at_or_above;
 use tool_ranges::laws;
-use tool_ranges::meaning::{Rules, read};
+use tool_ranges::meaning::{Rules, read, satisfies};
 use version_sets::VersionSet;
 
 /// Why a requirement can't be raised.
@@ -90,7 +91,8 @@ impl From<AllocError> for UpgradeError {
 /// alternative instead. Everything else stays as it is.
 ///
 /// It reads the range and the raised range, and each term of the last alternative once more. It
-/// allocates the raised range, and the sets of versions of what it reads.
+/// allocates the raised range. Only if the range has `||`, it also allocates the sets of the
+/// versions that both contain.
 ///
 /// # Errors
 ///
@@ -147,17 +149,15 @@ pub fn upgrade(
     let Some(version) = read_ref_in(version, meaning.dialect.grammar()) else {
         return Err(UpgradeError::InvalidVersion);
     };
-    let old = match read(alloc, meaning, range) {
-        Ok(old) => old,
-        Err(error) => {
-            unless_out_of_memory(error)?;
-            return Err(UpgradeError::InvalidRange(error));
-        }
+    laws::one_tree();
+    let has = match has_at_or_above(&version, range, meaning) {
+        Ok(has) => has,
+        Err(error) => return Err(UpgradeError::InvalidRange(error)),
     };
-    if old.has_at_or_above(alloc, &version)? {
+    if has {
         return Ok(None);
     }
-    let new = raised_in_some_form(alloc, range, &old, &version, meaning)?;
+    let new = raised_in_some_form(alloc, range, &version, meaning)?;
     let Some(new) = new else {
         return Err(UpgradeError::CannotUpgrade);
     };
@@ -170,11 +170,10 @@ pub fn upgrade(
 fn raised_in_some_form(
     alloc: Global,
     range: &str,
-    old: &VersionSet,
     version: &VersionRef<'_>,
     meaning: Rules,
 ) -> Result<Option<String>, AllocError>
-    requires old { IsSetOf meaning range.now old.now }
+    requires range { HasSetAs meaning.dialect range.now }
     requires version { IsReadIn meaning.dialect version.now }
     ensures satisfied { IfOk result (λ found. IfSome found (λ new.
         IsSatisfied meaning (string_bytes new) (version_of version.now))) }
@@ -189,14 +188,14 @@ fn raised_in_some_form(
         → ¬ (IsUpgraded meaning range.now version.now
         (terms_in meaning.dialect tree range.now spelled) new)) }
 {
-    let as_written = raised_range(alloc, range, old, version, meaning, Form::AsWritten)?;
+    let as_written = raised_range(alloc, range, version, meaning, Form::AsWritten)?;
     if as_written.is_some() {
         return Ok(as_written);
     }
     if !version.is_pre_release() {
         return Ok(None);
     }
-    raised_range(alloc, range, old, version, meaning, Form::InFull)
+    raised_range(alloc, range, version, meaning, Form::InFull)
 }
 
 /// Returns the range with its last alternative raised to a version: in place, or, if that would
@@ -205,12 +204,11 @@ fn raised_in_some_form(
 fn raised_range(
     alloc: Global,
     range: &str,
-    old: &VersionSet,
     version: &VersionRef<'_>,
     meaning: Rules,
     form: Form,
 ) -> Result<Option<String>, AllocError>
-    requires old { IsSetOf meaning range.now old.now }
+    requires range { HasSetAs meaning.dialect range.now }
     requires version { IsReadIn meaning.dialect version.now }
     ensures satisfied { IfOk result (λ found. IfSome found (λ new.
         IsSatisfied meaning (string_bytes new) (version_of version.now))) }
@@ -237,57 +235,52 @@ fn raised_range(
     let Some(in_place) = in_place else {
         return Ok(None);
     };
-    let set = set_with(alloc, in_place.as_str(), version, meaning)?;
-    let Some(set) = set else {
+    if !is_satisfied(in_place.as_str(), version, meaning) {
         return Ok(None);
-    };
-    if keeps_all(old, &set) {
-        return Ok(Some(in_place));
     }
     if !has_bars(range.as_bytes()) {
+        return Ok(Some(in_place));
+    }
+    let old = set_of(alloc, range, meaning)?;
+    let set = set_of(alloc, in_place.as_str(), meaning)?;
+    if keeps_all(&old, &set) {
         return Ok(Some(in_place));
     }
     let longer = extended(alloc, range, &last, text)?;
     let Some(longer) = longer else {
         return Ok(None);
     };
-    let longer_set = set_with(alloc, longer.as_str(), version, meaning)?;
-    let Some(longer_set) = longer_set else {
+    if !is_satisfied(longer.as_str(), version, meaning) {
         return Ok(None);
-    };
-    if keeps_all(old, &longer_set) {
+    }
+    let longer_set = set_of(alloc, longer.as_str(), meaning)?;
+    if keeps_all(&old, &longer_set) {
         return Ok(Some(longer));
     }
     Ok(None)
 }
 
-/// Reads a range, and returns the set of its versions if it contains a version. `Err` means out of
-/// memory.
-fn set_with(
-    alloc: Global,
-    range: &str,
-    version: &VersionRef<'_>,
-    meaning: Rules,
-) -> Result<Option<VersionSet>, AllocError>
-    requires version { IsReadIn meaning.dialect version.now }
-    ensures set { IfOk result (λ found. IfSome found (IsSetOf meaning range.now)) }
-    ensures satisfied { IfOk result (λ found. IfSome found (λ _.
-        IsSatisfied meaning range.now (version_of version.now))) }
-    ensures none { IfOk result (λ found. found ≡ None
-        → ¬ (IsSatisfied meaning range.now (version_of version.now))) }
+/// Returns whether a string is a range that contains a version.
+fn is_satisfied(range: &str, version: &VersionRef<'_>, meaning: Rules) -> bool
+    requires { IsReadIn meaning.dialect version.now }
+    ensures { (result ≡ true) ↔ IsSatisfied meaning range.now (version_of version.now) }
 {
     laws::one_tree();
-    let set = match read(alloc, meaning, range) {
-        Ok(set) => set,
-        Err(error) => {
-            unless_out_of_memory(error)?;
-            return Ok(None);
-        }
-    };
-    if !set.contains_ref(version) {
-        return Ok(None);
+    match satisfies(version, range, meaning) {
+        Ok(met) => met,
+        Err(_) => false,
     }
-    Ok(Some(set))
+}
+
+/// Returns the set of the versions of a range. `Err` means out of memory.
+fn set_of(alloc: Global, range: &str, meaning: Rules) -> Result<VersionSet, AllocError>
+    requires { HasSetAs meaning.dialect range.now }
+    ensures { IfOk result (IsSetOf meaning range.now) }
+{
+    match read(alloc, meaning, range) {
+        Ok(set) => Ok(set),
+        Err(_) => Err(AllocError),
+    }
 }
 
 /// Returns whether the second set contains every version that the first one does.

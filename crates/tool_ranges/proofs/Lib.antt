@@ -23,6 +23,7 @@ mod MatchedMeanings
 mod SatisfiesErrors
 -- the set of the versions that satisfy a text
 mod BuiltSets
+mod ReachedVersions
 pub mod ReadSets
 mod ContainedTexts
 -- the comparators of a text

@@ -11,5 +11,6 @@ pub mod FittingTerms
 pub mod DialectTable
 pub mod Meanings
 pub mod Satisfying
+pub mod AtOrAbove
 pub mod VersionRanges
 pub mod Highest

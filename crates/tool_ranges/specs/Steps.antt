@@ -4,6 +4,7 @@ pub mod Checked
 pub mod Table
 pub mod Matching
 pub mod Building
+pub mod Reaching
 pub mod NpmReading
 pub mod Printed
 pub mod SameRanges

@@ -8,11 +8,14 @@ ghost use Rattle.tool_ranges.specs.declared.dialect.Dialect.{Dialect as SomeDial
 ghost use Rattle.tool_ranges.specs.Dialects.{SpellsAs};
 ghost use Rattle.tool_ranges.specs.VersionRanges.{versions_grammar};
 
+use crate::at_or_above::has_at_or_above;
 use crate::dialect::Dialect;
 use crate::meaning::Rules;
 use crate::satisfying::{SatisfiesError, satisfies};
 use crate::version_range::VersionRange;
+use semver_ranges::RangeError;
 use semver_versions::laws::one_version_in;
+use semver_versions::version::VersionRef;
 
 /// No range string has two syntax trees in a dialect.
 pub fn one_tree()
@@ -47,5 +50,19 @@ pub fn one_satisfies(
     (
         satisfies(version, range, meaning),
         satisfies(version, range, meaning),
+    )
+}
+
+/// `has_at_or_above` has only one permitted result.
+pub fn one_has_at_or_above(
+    version: &VersionRef<'_>,
+    range: &str,
+    meaning: Rules,
+) -> (Result<bool, RangeError>, Result<bool, RangeError>)
+    ensures one { result.0 ≡ result.1 }
+{
+    (
+        has_at_or_above(version, range, meaning),
+        has_at_or_above(version, range, meaning),
     )
 }

@@ -2,6 +2,7 @@
 //! `semver-parser`.
 #![tactic(auto)]
 
+pub mod at_or_above;
 pub mod cargo;
 mod checked;
 pub mod dialect;

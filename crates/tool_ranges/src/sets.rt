@@ -15,7 +15,7 @@ ghost use Rattle.tool_ranges.specs.Meanings.{MeansBy, meant_by};
 ghost use Rattle.tool_ranges.specs.Steps.Building.{is_one_of, known, Prints};
 ghost use Rattle.tool_ranges.specs.Steps.Checked.{IsCheckedAs};
 ghost use Rattle.tool_ranges.specs.Steps.Matching.{begun, counts, ended, is_met, taken, takes_all};
-ghost use Rattle.tool_ranges.specs.Steps.Matching.{lower_of, states_at, takes_releases};
+ghost use Rattle.tool_ranges.specs.Steps.Matching.{lower_of, states_at, takes_releases, term_met};
 ghost use Rattle.tool_ranges.specs.Sides.{term_fits};
 ghost use Rattle.std.specs.List.{list_any};
 ghost use Rattle.version_sets.specs.Steps.Ends.{each_prints, has_numbers, in_each, in_ranges};
@@ -126,11 +126,7 @@ impl<'text> Building<'text> {
         ensures prints { IfOk result (λ _. Prints (digits_in (grammar_of dialect)) self.old
             → Prints (digits_in (grammar_of dialect)) self.new) }
     {
-        let pre_releases = interval_of(simple, dialect, !all);
-        let digits = dialect.grammar().digits();
-        self.here = self
-            .here
-            .and(&bounds(simple, dialect), &pre_releases, digits);
+        self.here = with_term(self.here, simple, dialect, all);
         self.matches_all &= matches_everything(simple);
         if let Some(numbers) = stated_numbers(&simple.partial) {
             self.stated.push(numbers)?;
@@ -184,6 +180,26 @@ impl Building<'_> {
     }
 }
 
+/// Returns the versions of a range that satisfy one more term.
+#[inline(always)]
+pub(crate) fn with_term<'text>(
+    here: Conjunction<'text>,
+    simple: &Simple<'text>,
+    dialect: Dialect,
+    all: bool,
+) -> Conjunction<'text>
+    requires { (s : SimpleTree) × IsSimpleOf s simple.now }
+    ensures meaning { (s : SimpleTree) (v : PlainVersion) → IsSimpleOf s simple.now
+        → term_fits dialect s ≡ true → Fits v
+        → in_each result v ≡ (in_each here.entry v && term_met dialect all v s) }
+    ensures printable { each_prints (digits_in (grammar_of dialect)) here.entry ≡ true
+        → each_prints (digits_in (grammar_of dialect)) result ≡ true }
+{
+    let pre_releases = interval_of(simple, dialect, !all);
+    let digits = dialect.grammar().digits();
+    here.and(&bounds(simple, dialect), &pre_releases, digits)
+}
+
 /// Adds the pre-releases of a range that count. `Err` means out of memory.
 fn push_pre_releases<'text>(
     ranges: &mut Ranges<'text>,
@@ -207,7 +223,7 @@ fn push_pre_releases<'text>(
 }
 
 /// Returns the numbers of a partial version, if it names all three and a pre-release.
-fn stated_numbers(partial: &Partial<'_>) -> Option<Release>
+pub(crate) fn stated_numbers(partial: &Partial<'_>) -> Option<Release>
     ensures { (v : PlainVersion) → states_at partial.now v ≡ is_one_of result v }
 {
     if partial.has_pre_release() && partial.states_three() {
@@ -219,7 +235,7 @@ fn stated_numbers(partial: &Partial<'_>) -> Option<Release>
 
 /// Returns whether, if some range matches everything, every release satisfies the string and no
 /// pre-release does.
-fn is_by_default_of_npm(dialect: Dialect, rule: PreReleases) -> bool
+pub(crate) fn is_by_default_of_npm(dialect: Dialect, rule: PreReleases) -> bool
     ensures { result ≡ takes_releases dialect rule }
 {
     matches!(dialect, Dialect::Npm) && !takes_all(rule)

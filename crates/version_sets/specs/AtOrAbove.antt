@@ -1,10 +1,10 @@
--- Whether a set has a version at or above another version.
-use Rattle.std.specs.Prelude.{◌≢◌}
+-- Whether some version of a kind is at or above another version.
+use Rattle.std.specs.Prelude.{◌≡◌, ◌≢◌, Bool, true}
 use Rattle.std.specs.declared.cmp.Ordering.TheVariants.{Less}
 use Rattle.semver_texts.specs.Versions.{PlainVersion}
 use Rattle.semver_texts.specs.Precedence.{precedence}
-use Rattle.version_sets.specs.VersionSets.{IsIn, SetValue}
 
--- some version of the set isn't below this one by precedence
-abbrev pub HasAtOrAbove : PlainVersion → SetValue → Type 0
-HasAtOrAbove v set = (w : PlainVersion) × IsIn w set × (precedence w v ≢ Less)
+-- some version of a kind passes a test, and isn't below v by precedence
+abbrev pub HasAtOrAbove : (PlainVersion → Type 0) → (PlainVersion → Bool) → PlainVersion → Type 0
+HasAtOrAbove IsOfKind test v =
+    (w : PlainVersion) × IsOfKind w × (test w ≡ true) × (precedence w v ≢ Less)

@@ -133,7 +133,7 @@ impl<'text> PreReleaseEnd<'text> {
     }
 
     /// Returns the identifiers as they are compared.
-    fn compared_pre(&self) -> ByDigits<Successor<Joined<'text, InRanges>>>
+    pub(crate) fn compared_pre(&self) -> ByDigits<Successor<Joined<'text, InRanges>>>
         ensures { ⟦<ByDigits<Successor<Joined<'text, InRanges>>> as Identifiers<'text>>⟧.left result
             ≡ (end_place self.now).pre }
     {

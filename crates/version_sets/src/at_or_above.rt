@@ -1,87 +1,128 @@
-//! Whether a set has a version at or above another version.
+//! Whether some version that is in each of several intervals is at or above another version. Nothing
+//! here allocates.
 
-ghost use Rattle.std.specs.Prelude.{◌≡◌, ◌↔◌, [], IfOk, IfSome, option_map, true};
-ghost use Rattle.std.specs.Ordering.{is_ge};
-ghost use Rattle.semver_texts.specs.Digits.{plain_by};
+ghost use Rattle.std.specs.Prelude.{◌≡◌, ◌↔◌, ◌&&◌, [], option_map, true};
 ghost use Rattle.semver_texts.specs.Precedence.{precedence};
 ghost use Rattle.semver_texts.specs.Versions.{PlainVersion};
-ghost use Rattle.semver_versions.specs.ReadVersions.{read_plain};
-ghost use Rattle.semver_versions.specs.VersionRefs.{kept_version_of, version_of};
+ghost use Rattle.semver_versions.specs.VersionRefs.{version_of};
 ghost use Rattle.version_sets.specs.AtOrAbove.{HasAtOrAbove};
 ghost use Rattle.version_sets.specs.Releases.{release_value};
-ghost use Rattle.version_sets.specs.VersionSets.{Fits, IsPreRelease, contains};
+ghost use Rattle.version_sets.specs.VersionSets.{Fits, IsPreRelease, IsRelease};
+ghost use Rattle.version_sets.specs.Steps.EndPlaces.{end_place};
+ghost use Rattle.version_sets.specs.Steps.Ends.{has_numbers, in_each};
 ghost use Rattle.version_sets.specs.Steps.Spans.{reached};
+ghost use Rattle.version_sets.specs.Steps.SpanViews.{is_within};
 
+use crate::conjunction::Conjunction;
 use crate::pre_release_end::PreReleaseEnd;
+use crate::ranges::among;
 use crate::release::Release;
-use crate::span_end::SpanEnd;
-use crate::version_set::VersionSet;
-use semver_versions::read_version::ReadVersion;
+use crate::spans::Bounds;
+use semver_texts::precedence::compare;
 use semver_versions::version::VersionRef;
-use std::alloc::{AllocError, Global};
 
-impl VersionSet {
+impl Conjunction<'_> {
     // Determined by: equation.
-    /// Returns whether some version of the set isn't below a borrowed version by precedence. The
-    /// numeric identifiers of the borrowed version are read as the set reads them.
-    ///
-    /// `Err` means out of memory.
-    pub fn has_at_or_above(
-        &self,
-        alloc: Global,
-        version: &VersionRef<'_>,
-    ) -> Result<bool, AllocError>
-        ensures { IfOk result (λ has. (has ≡ true) ↔ HasAtOrAbove
-            (plain_by self.now.digits (kept_version_of version.now).plain) self.now) }
+    /// Returns whether some release in the intervals isn't below a borrowed version by precedence.
+    /// It does not allocate.
+    pub fn has_release_from(&self, version: &VersionRef<'_>) -> bool
+        ensures { (result ≡ true)
+            ↔ HasAtOrAbove IsRelease (in_each self.now) (version_of version.now).plain }
     {
-        let above = at_or_above(alloc, &version.read_by(self.digits()))?;
-        match self.is_disjoint(&above) {
-            Ok(is_disjoint) => Ok(!is_disjoint),
-            Err(_) => Ok(false),
-        }
+        has_release(
+            self.releases.and(Bounds {
+                from: Some(numbers(version)),
+                to: None,
+            }),
+        )
+    }
+
+    // Determined by: equation.
+    /// Returns whether some pre-release in the intervals isn't below a borrowed version by
+    /// precedence. It does not allocate.
+    pub fn has_pre_release_from(&self, version: &VersionRef<'_>) -> bool
+        ensures { (result ≡ true)
+            ↔ HasAtOrAbove IsPreRelease (in_each self.now) (version_of version.now).plain }
+    {
+        has_from(self.pre_releases, version)
+    }
+
+    // Determined by: equation.
+    /// Returns whether some pre-release in the intervals that has the given numbers isn't below a
+    /// borrowed version by precedence. It does not allocate.
+    pub fn has_stated_from(&self, numbers: &Release, version: &VersionRef<'_>) -> bool
+        ensures { (result ≡ true) ↔ HasAtOrAbove IsPreRelease
+            (λ w. in_each self.now w && has_numbers w numbers.now) (version_of version.now).plain }
+    {
+        has_from(self.pre_releases.and(among(*numbers)), version)
     }
 }
 
-/// Returns the set of the versions at or above a borrowed version. `Err` means out of memory.
-fn at_or_above(alloc: Global, version: &VersionRef<'_>) -> Result<VersionSet, AllocError>
-    requires { Fits (version_of version.now).plain }
-    ensures contains { IfOk result (λ set. (w : PlainVersion) → Fits w
-        → contains set w ≡ is_ge (precedence w (version_of version.now).plain)) }
-    ensures digits { IfOk result (λ set. set.digits ≡ version.now.digits) }
+/// Returns whether some pre-release within bounds isn't below a borrowed version by precedence.
+fn has_from(bounds: Bounds<PreReleaseEnd<'_>>, version: &VersionRef<'_>) -> bool
+    ensures { (result ≡ true) ↔ HasAtOrAbove IsPreRelease (is_within end_place bounds.entry)
+        (version_of version.now).plain }
 {
-    let numbers = Release {
+    let numbers = numbers(version);
+    if version.is_pre_release() {
+        return has_pre_release(bounds) && !has_reached(version, bounds.to);
+    }
+    has_pre_release(bounds.and(Bounds {
+        from: PreReleaseEnd::above_numbers(numbers),
+        to: None,
+    }))
+}
+
+/// Returns whether some release is within bounds.
+fn has_release(bounds: Bounds<Release>) -> bool
+    ensures { (result ≡ true)
+        ↔ ((w : PlainVersion) × IsRelease w × (is_within release_value bounds w ≡ true)) }
+{
+    match bounds.span() {
+        Some(span) => {
+            let _from = (span.from.major, span.from.minor, span.from.patch);
+            true
+        }
+        None => false,
+    }
+}
+
+/// Returns whether some pre-release is within bounds.
+fn has_pre_release(bounds: Bounds<PreReleaseEnd<'_>>) -> bool
+    ensures { (result ≡ true)
+        ↔ ((w : PlainVersion) × IsPreRelease w × (is_within end_place bounds.entry w ≡ true)) }
+{
+    match bounds.span() {
+        Some(span) => {
+            let numbers = span.from.numbers;
+            let _from = (numbers.major, numbers.minor, numbers.patch);
+            true
+        }
+        None => false,
+    }
+}
+
+/// Returns whether a borrowed version is at or above an end. If there is no end, it isn't.
+fn has_reached(version: &VersionRef<'_>, end: Option<PreReleaseEnd<'_>>) -> bool
+    ensures { result
+        ≡ reached precedence (option_map end_place end.entry) (version_of version.now).plain }
+{
+    let Some(end) = end else {
+        return false;
+    };
+    let numbers = (version.major(), version.minor(), version.patch());
+    let others = (end.numbers.major, end.numbers.minor, end.numbers.patch);
+    compare(numbers, version.compared_pre(), others, end.compared_pre()).is_ge()
+}
+
+/// Returns the numbers of a borrowed version.
+fn numbers(version: &VersionRef<'_>) -> Release
+    ensures numbers { release_value result ≡ record (version_of version.now).plain { pre = [] } }
+    ensures fit { Fits (version_of version.now).plain }
+{
+    Release {
         major: version.major(),
         minor: version.minor(),
         patch: version.patch(),
-    };
-    let mut releases = Vec::new(alloc);
-    releases.push(numbers)?;
-    let mut pre_releases = Vec::new(alloc);
-    if let Some(first) = first_pre_release(alloc, version, numbers)? {
-        pre_releases.push(first)?;
-    }
-    Ok(VersionSet::of_boundaries(version.digits(), releases, pre_releases))
-}
-
-/// Returns the lowest pre-release at or above a borrowed version, which has these numbers, or
-/// `None` if there is none. `Err` means out of memory.
-fn first_pre_release(
-    alloc: Global,
-    version: &VersionRef<'_>,
-    numbers: Release,
-) -> Result<Option<ReadVersion>, AllocError>
-    requires fits { Fits (version_of version.now).plain }
-    requires numbers { release_value numbers ≡ record (version_of version.now).plain { pre = [] } }
-    ensures above { IfOk result (λ first. (w : PlainVersion) → IsPreRelease w
-        → reached precedence (option_map read_plain first) w
-        ≡ is_ge (precedence w (version_of version.now).plain)) }
-    ensures kind { IfOk result (λ first. IfSome first (λ v. IsPreRelease (read_plain v))) }
-{
-    if version.is_pre_release() {
-        return Ok(Some(ReadVersion::of(alloc, version)?));
-    }
-    match PreReleaseEnd::above_numbers(numbers) {
-        Some(end) => Ok(Some(end.boundary(alloc)?)),
-        None => Ok(None),
     }
 }

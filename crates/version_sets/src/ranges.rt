@@ -151,13 +151,9 @@ impl<'text> Ranges<'text> {
         ensures printable { (digits : SomeDigits) → each_prints digits range.now ≡ true
             → ranges_print digits self.old ≡ true → ranges_print digits self.new ≡ true }
     {
-        let stated = Bounds {
-            from: Some(PreReleaseEnd::lowest(*numbers)),
-            to: PreReleaseEnd::above_numbers(*numbers),
-        };
         range
             .pre_releases
-            .and(stated)
+            .and(among(*numbers))
             .push_to(&mut self.pre_releases)
     }
 
@@ -179,6 +175,19 @@ impl<'text> Ranges<'text> {
         let mut spans = self.pre_releases;
         let pre_releases = boundaries_of(alloc, &mut spans)?;
         Ok(VersionSet::of_boundaries(digits, releases, pre_releases))
+    }
+}
+
+/// Returns the bounds of the pre-releases with the given numbers.
+pub(crate) fn among<'text>(numbers: Release) -> Bounds<PreReleaseEnd<'text>>
+    ensures meaning { (v : PlainVersion) → IsPreRelease v
+        → is_within end_place result v ≡ has_numbers v numbers }
+    ensures printable { (digits : SomeDigits)
+        → bounds_hold end_place (prints_by digits) result ≡ true }
+{
+    Bounds {
+        from: Some(PreReleaseEnd::lowest(numbers)),
+        to: PreReleaseEnd::above_numbers(numbers),
     }
 }
 

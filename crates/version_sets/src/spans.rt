@@ -84,7 +84,7 @@ impl<L: SpanEnd> Bounds<L> {
     }
 
     /// Returns the span of the versions, if there is anything between the bounds.
-    fn span(self) -> Option<Span<L>>
+    pub(crate) fn span(self) -> Option<Span<L>>
         ensures meaning { MatchOption result ((v : PlainVersion) → is_within L.place self v ≡ false)
             (λ span. IsSpan precedence (span_value L.place span) × ((v : PlainVersion)
             → is_in precedence (span_value L.place span) v ≡ is_within L.place self v)) }

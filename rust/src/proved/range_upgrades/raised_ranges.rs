@@ -6,11 +6,11 @@ use crate::proved::range_upgrades::alternatives::Alternative;
 use crate::proved::range_upgrades::raised_versions::{Form, raised_version};
 use crate::proved::range_terms::term::{Operator, PartialVersion, Term};
 use crate::proved::range_terms::terms::of_range;
-use crate::proved::semver_ranges::RangeError;
 use crate::proved::semver_versions::version::VersionRef;
 use crate::rattle_std::AllocError;
+use crate::proved::tool_ranges::at_or_above::has_at_or_above;
 use crate::proved::tool_ranges::dialect::Dialect;
-use crate::proved::tool_ranges::meaning::{Rules, read};
+use crate::proved::tool_ranges::meaning::Rules;
 use crate::proved::version_sets::PreReleases;
 
 /// Returns the text of the last alternative, in which each version that has to be raised is
@@ -25,7 +25,7 @@ pub(crate) fn raised_alternative(
     let mut raised = String::new();
     let mut copied = last.start;
     for term in of_range(range, dialect) {
-        if !is_to_raise(range, last, &term, version, dialect)? {
+        if !is_to_raise(range, last, &term, version, dialect) {
             continue;
         }
         let written = last_version(&term);
@@ -51,51 +51,33 @@ fn push_raised(raised: &mut String, kept: &str, new: &PartialVersion<'_>) -> Res
 }
 
 /// Returns whether the version of a term has to be raised: the term is in the last alternative,
-/// doesn't state only a lower bound, and has no version at or above the newer one. `Err` means out
-/// of memory.
+/// doesn't state only a lower bound, and has no version at or above the newer one.
 fn is_to_raise(
     range: &str,
     last: &Alternative,
     term: &Term<'_>,
     version: &VersionRef<'_>,
     dialect: Dialect,
-) -> Result<bool, AllocError> {
+) -> bool {
     if term.range != last.range || is_lower_bound(term.operator) {
-        return Ok(false);
+        return false;
     }
-    let Some(text) = part(range, term.span.start, term.span.end) else {
-        return Ok(false);
-    };
-    is_below(text, version, dialect)
+    match part(range, term.span.start, term.span.end) {
+        Some(text) => is_below(text, version, dialect),
+        None => false,
+    }
 }
 
 /// Returns whether a term, which is given alone as a range, has no version at or above another
-/// version. `Err` means out of memory.
-fn is_below(
-    term: &str,
-    version: &VersionRef<'_>,
-    dialect: Dialect,
-) -> Result<bool, AllocError> {
+/// version.
+fn is_below(term: &str, version: &VersionRef<'_>, dialect: Dialect) -> bool {
     let meaning = Rules {
         dialect,
         pre_releases: PreReleases::Included,
     };
-    let alone = match read(meaning, term) {
-        Ok(alone) => alone,
-        Err(error) => {
-            unless_out_of_memory(error)?;
-            return Ok(false);
-        }
-    };
-    let has_above = alone.has_at_or_above(version)?;
-    Ok(!has_above)
-}
-
-/// Returns `Err` if a range wasn't read because an allocation failed.
-pub(crate) fn unless_out_of_memory(error: RangeError) -> Result<(), AllocError> {
-    match error {
-        RangeError::OutOfMemory => Err(AllocError),
-        RangeError::NotARange | RangeError::NumberTooLarge => Ok(()),
+    match has_at_or_above(version, term, meaning) {
+        Ok(has) => !has,
+        Err(_) => false,
     }
 }
 

@@ -3,12 +3,13 @@
 
 use crate::rattle_std::prelude::*;
 use crate::proved::range_upgrades::alternatives::{has_bars, last_alternative};
-use crate::proved::range_upgrades::raised_ranges::{extended, raised_alternative, replaced, unless_out_of_memory};
+use crate::proved::range_upgrades::raised_ranges::{extended, raised_alternative, replaced};
 use crate::proved::range_upgrades::raised_versions::Form;
 use crate::proved::semver_ranges::RangeError;
 use crate::proved::semver_versions::version::{VersionRef, read_ref_in};
 use crate::rattle_std::AllocError;
-use crate::proved::tool_ranges::meaning::{Rules, read};
+use crate::proved::tool_ranges::at_or_above::has_at_or_above;
+use crate::proved::tool_ranges::meaning::{Rules, read, satisfies};
 use crate::proved::version_sets::VersionSet;
 
 /// Why a requirement can't be raised.
@@ -76,7 +77,8 @@ impl From<AllocError> for UpgradeError {
 /// alternative instead. Everything else stays as it is.
 ///
 /// It reads the range and the raised range, and each term of the last alternative once more. It
-/// allocates the raised range, and the sets of versions of what it reads.
+/// allocates the raised range. Only if the range has `||`, it also allocates the sets of the
+/// versions that both contain.
 ///
 /// # Errors
 ///
@@ -94,17 +96,14 @@ pub fn upgrade(
     let Some(version) = read_ref_in(version, meaning.dialect.grammar()) else {
         return Err(UpgradeError::InvalidVersion);
     };
-    let old = match read(meaning, range) {
-        Ok(old) => old,
-        Err(error) => {
-            unless_out_of_memory(error)?;
-            return Err(UpgradeError::InvalidRange(error));
-        }
+    let has = match has_at_or_above(&version, range, meaning) {
+        Ok(has) => has,
+        Err(error) => return Err(UpgradeError::InvalidRange(error)),
     };
-    if old.has_at_or_above(&version)? {
+    if has {
         return Ok(None);
     }
-    let new = raised_in_some_form(range, &old, &version, meaning)?;
+    let new = raised_in_some_form(range, &version, meaning)?;
     let Some(new) = new else {
         return Err(UpgradeError::CannotUpgrade);
     };
@@ -116,18 +115,17 @@ pub fn upgrade(
 /// `None` if the result wouldn't contain it then, either. `Err` means out of memory.
 fn raised_in_some_form(
     range: &str,
-    old: &VersionSet,
     version: &VersionRef<'_>,
     meaning: Rules,
 ) -> Result<Option<String>, AllocError> {
-    let as_written = raised_range(range, old, version, meaning, Form::AsWritten)?;
+    let as_written = raised_range(range, version, meaning, Form::AsWritten)?;
     if as_written.is_some() {
         return Ok(as_written);
     }
     if !version.is_pre_release() {
         return Ok(None);
     }
-    raised_range(range, old, version, meaning, Form::InFull)
+    raised_range(range, version, meaning, Form::InFull)
 }
 
 /// Returns the range with its last alternative raised to a version: in place, or, if that would
@@ -135,7 +133,6 @@ fn raised_in_some_form(
 /// wouldn't contain the version. `Err` means out of memory.
 fn raised_range(
     range: &str,
-    old: &VersionSet,
     version: &VersionRef<'_>,
     meaning: Rules,
     form: Form,
@@ -152,48 +149,45 @@ fn raised_range(
     let Some(in_place) = in_place else {
         return Ok(None);
     };
-    let set = set_with(in_place.as_str(), version, meaning)?;
-    let Some(set) = set else {
+    if !is_satisfied(in_place.as_str(), version, meaning) {
         return Ok(None);
-    };
-    if keeps_all(old, &set) {
-        return Ok(Some(in_place));
     }
     if !has_bars(range.as_bytes()) {
+        return Ok(Some(in_place));
+    }
+    let old = set_of(range, meaning)?;
+    let set = set_of(in_place.as_str(), meaning)?;
+    if keeps_all(&old, &set) {
         return Ok(Some(in_place));
     }
     let longer = extended(range, &last, text)?;
     let Some(longer) = longer else {
         return Ok(None);
     };
-    let longer_set = set_with(longer.as_str(), version, meaning)?;
-    let Some(longer_set) = longer_set else {
+    if !is_satisfied(longer.as_str(), version, meaning) {
         return Ok(None);
-    };
-    if keeps_all(old, &longer_set) {
+    }
+    let longer_set = set_of(longer.as_str(), meaning)?;
+    if keeps_all(&old, &longer_set) {
         return Ok(Some(longer));
     }
     Ok(None)
 }
 
-/// Reads a range, and returns the set of its versions if it contains a version. `Err` means out of
-/// memory.
-fn set_with(
-    range: &str,
-    version: &VersionRef<'_>,
-    meaning: Rules,
-) -> Result<Option<VersionSet>, AllocError> {
-    let set = match read(meaning, range) {
-        Ok(set) => set,
-        Err(error) => {
-            unless_out_of_memory(error)?;
-            return Ok(None);
-        }
-    };
-    if !set.contains_ref(version) {
-        return Ok(None);
+/// Returns whether a string is a range that contains a version.
+fn is_satisfied(range: &str, version: &VersionRef<'_>, meaning: Rules) -> bool {
+    match satisfies(version, range, meaning) {
+        Ok(met) => met,
+        Err(_) => false,
     }
-    Ok(Some(set))
+}
+
+/// Returns the set of the versions of a range. `Err` means out of memory.
+fn set_of(range: &str, meaning: Rules) -> Result<VersionSet, AllocError> {
+    match read(meaning, range) {
+        Ok(set) => Ok(set),
+        Err(_) => Err(AllocError),
+    }
 }
 
 /// Returns whether the second set contains every version that the first one does.

@@ -3,6 +3,7 @@
 //! `semver-parser`.
 
 use crate::rattle_std::prelude::*;
+pub mod at_or_above;
 pub mod cargo;
 mod checked;
 pub mod dialect;

@@ -80,11 +80,7 @@ impl<'text> Building<'text> {
         dialect: Dialect,
         all: bool,
     ) -> Result<(), AllocError> {
-        let pre_releases = interval_of(simple, dialect, !all);
-        let digits = dialect.grammar().digits();
-        self.here = self
-            .here
-            .and(&bounds(simple, dialect), &pre_releases, digits);
+        self.here = with_term(self.here, simple, dialect, all);
         self.matches_all &= matches_everything(simple);
         if let Some(numbers) = stated_numbers(&simple.partial) {
             self.stated.fallible_push(numbers)?;
@@ -125,6 +121,19 @@ impl Building<'_> {
     }
 }
 
+/// Returns the versions of a range that satisfy one more term.
+#[inline(always)]
+pub(crate) fn with_term<'text>(
+    here: Conjunction<'text>,
+    simple: &Simple<'text>,
+    dialect: Dialect,
+    all: bool,
+) -> Conjunction<'text> {
+    let pre_releases = interval_of(simple, dialect, !all);
+    let digits = dialect.grammar().digits();
+    here.and(&bounds(simple, dialect), &pre_releases, digits)
+}
+
 /// Adds the pre-releases of a range that count. `Err` means out of memory.
 fn push_pre_releases<'text>(
     ranges: &mut Ranges<'text>,
@@ -142,7 +151,7 @@ fn push_pre_releases<'text>(
 }
 
 /// Returns the numbers of a partial version, if it names all three and a pre-release.
-fn stated_numbers(partial: &Partial<'_>) -> Option<Release> {
+pub(crate) fn stated_numbers(partial: &Partial<'_>) -> Option<Release> {
     if partial.has_pre_release() && partial.states_three() {
         Some(numbers(partial))
     } else {
@@ -152,6 +161,6 @@ fn stated_numbers(partial: &Partial<'_>) -> Option<Release> {
 
 /// Returns whether, if some range matches everything, every release satisfies the string and no
 /// pre-release does.
-fn is_by_default_of_npm(dialect: Dialect, rule: PreReleases) -> bool {
+pub(crate) fn is_by_default_of_npm(dialect: Dialect, rule: PreReleases) -> bool {
     matches!(dialect, Dialect::Npm) && !takes_all(rule)
 }

@@ -92,7 +92,7 @@ impl<'text> PreReleaseEnd<'text> {
     }
 
     /// Returns the identifiers as they are compared.
-    fn compared_pre(&self) -> ByDigits<Successor<Joined<'text, InRanges>>> {
+    pub(crate) fn compared_pre(&self) -> ByDigits<Successor<Joined<'text, InRanges>>> {
         let pre = Successor {
             identifiers: Joined::of(self.pre, InRanges),
             zero: self.successor || self.pre.is_empty(),

@@ -1,59 +1,91 @@
 // Made by tools/erase.py from crates/version_sets/src/at_or_above.rt; not edited by hand.
-//! Whether a set has a version at or above another version.
+//! Whether some version that is in each of several intervals is at or above another version. Nothing
+//! here allocates.
 
 use crate::rattle_std::prelude::*;
+use crate::proved::version_sets::conjunction::Conjunction;
 use crate::proved::version_sets::pre_release_end::PreReleaseEnd;
+use crate::proved::version_sets::ranges::among;
 use crate::proved::version_sets::release::Release;
-use crate::proved::version_sets::span_end::SpanEnd;
-use crate::proved::version_sets::version_set::VersionSet;
-use crate::proved::semver_versions::read_version::ReadVersion;
+use crate::proved::version_sets::spans::Bounds;
+use crate::proved::semver_texts::precedence::compare;
 use crate::proved::semver_versions::version::VersionRef;
-use crate::rattle_std::AllocError;
 
-impl VersionSet {
-    /// Returns whether some version of the set isn't below a borrowed version by precedence. The
-    /// numeric identifiers of the borrowed version are read as the set reads them.
-    ///
-    /// `Err` means out of memory.
-    pub fn has_at_or_above(
-        &self,
-        version: &VersionRef<'_>,
-    ) -> Result<bool, AllocError> {
-        let above = at_or_above(&version.read_by(self.digits()))?;
-        match self.is_disjoint(&above) {
-            Ok(is_disjoint) => Ok(!is_disjoint),
-            Err(_) => Ok(false),
-        }
+impl Conjunction<'_> {
+    /// Returns whether some release in the intervals isn't below a borrowed version by precedence.
+    /// It does not allocate.
+    pub fn has_release_from(&self, version: &VersionRef<'_>) -> bool {
+        has_release(
+            self.releases.and(Bounds {
+                from: Some(numbers(version)),
+                to: None,
+            }),
+        )
+    }
+
+    /// Returns whether some pre-release in the intervals isn't below a borrowed version by
+    /// precedence. It does not allocate.
+    pub fn has_pre_release_from(&self, version: &VersionRef<'_>) -> bool {
+        has_from(self.pre_releases, version)
+    }
+
+    /// Returns whether some pre-release in the intervals that has the given numbers isn't below a
+    /// borrowed version by precedence. It does not allocate.
+    pub fn has_stated_from(&self, numbers: &Release, version: &VersionRef<'_>) -> bool {
+        has_from(self.pre_releases.and(among(*numbers)), version)
     }
 }
 
-/// Returns the set of the versions at or above a borrowed version. `Err` means out of memory.
-fn at_or_above(version: &VersionRef<'_>) -> Result<VersionSet, AllocError> {
-    let numbers = Release {
+/// Returns whether some pre-release within bounds isn't below a borrowed version by precedence.
+fn has_from(bounds: Bounds<PreReleaseEnd<'_>>, version: &VersionRef<'_>) -> bool {
+    let numbers = numbers(version);
+    if version.is_pre_release() {
+        return has_pre_release(bounds) && !has_reached(version, bounds.to);
+    }
+    has_pre_release(bounds.and(Bounds {
+        from: PreReleaseEnd::above_numbers(numbers),
+        to: None,
+    }))
+}
+
+/// Returns whether some release is within bounds.
+fn has_release(bounds: Bounds<Release>) -> bool {
+    match bounds.span() {
+        Some(span) => {
+            let _from = (span.from.major, span.from.minor, span.from.patch);
+            true
+        }
+        None => false,
+    }
+}
+
+/// Returns whether some pre-release is within bounds.
+fn has_pre_release(bounds: Bounds<PreReleaseEnd<'_>>) -> bool {
+    match bounds.span() {
+        Some(span) => {
+            let numbers = span.from.numbers;
+            let _from = (numbers.major, numbers.minor, numbers.patch);
+            true
+        }
+        None => false,
+    }
+}
+
+/// Returns whether a borrowed version is at or above an end. If there is no end, it isn't.
+fn has_reached(version: &VersionRef<'_>, end: Option<PreReleaseEnd<'_>>) -> bool {
+    let Some(end) = end else {
+        return false;
+    };
+    let numbers = (version.major(), version.minor(), version.patch());
+    let others = (end.numbers.major, end.numbers.minor, end.numbers.patch);
+    compare(numbers, version.compared_pre(), others, end.compared_pre()).is_ge()
+}
+
+/// Returns the numbers of a borrowed version.
+fn numbers(version: &VersionRef<'_>) -> Release {
+    Release {
         major: version.major(),
         minor: version.minor(),
         patch: version.patch(),
-    };
-    let mut releases = Vec::new();
-    releases.fallible_push(numbers)?;
-    let mut pre_releases = Vec::new();
-    if let Some(first) = first_pre_release(version, numbers)? {
-        pre_releases.fallible_push(first)?;
-    }
-    Ok(VersionSet::of_boundaries(version.digits(), releases, pre_releases))
-}
-
-/// Returns the lowest pre-release at or above a borrowed version, which has these numbers, or
-/// `None` if there is none. `Err` means out of memory.
-fn first_pre_release(
-    version: &VersionRef<'_>,
-    numbers: Release,
-) -> Result<Option<ReadVersion>, AllocError> {
-    if version.is_pre_release() {
-        return Ok(Some(ReadVersion::of(version)?));
-    }
-    match PreReleaseEnd::above_numbers(numbers) {
-        Some(end) => Ok(Some(end.boundary()?)),
-        None => Ok(None),
     }
 }

@@ -95,13 +95,9 @@ impl<'text> Ranges<'text> {
         range: &Conjunction<'text>,
         numbers: &Release,
     ) -> Result<(), AllocError> {
-        let stated = Bounds {
-            from: Some(PreReleaseEnd::lowest(*numbers)),
-            to: PreReleaseEnd::above_numbers(*numbers),
-        };
         range
             .pre_releases
-            .and(stated)
+            .and(among(*numbers))
             .push_to(&mut self.pre_releases)
     }
 
@@ -116,6 +112,14 @@ impl<'text> Ranges<'text> {
         let mut spans = self.pre_releases;
         let pre_releases = boundaries_of(&mut spans)?;
         Ok(VersionSet::of_boundaries(digits, releases, pre_releases))
+    }
+}
+
+/// Returns the bounds of the pre-releases with the given numbers.
+pub(crate) fn among<'text>(numbers: Release) -> Bounds<PreReleaseEnd<'text>> {
+    Bounds {
+        from: Some(PreReleaseEnd::lowest(numbers)),
+        to: PreReleaseEnd::above_numbers(numbers),
     }
 }
 

@@ -59,7 +59,7 @@ impl<L: SpanEnd> Bounds<L> {
     }
 
     /// Returns the span of the versions, if there is anything between the bounds.
-    fn span(self) -> Option<Span<L>> {
+    pub(crate) fn span(self) -> Option<Span<L>> {
         let from = self.from?;
         if let Some(to) = self.to {
             if from.compare(&to).is_ge() {

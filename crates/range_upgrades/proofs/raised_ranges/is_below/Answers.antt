@@ -1,17 +1,29 @@
+use Rattle.std.proofs.Common.{◌≡◌, Bool, Err, true, false, not, ap, refl, sym, ◌∙◌, true≢false}
 use Rattle.version_sets.specs.declared.rules.PreReleases.TheVariants.{Included}
 use Rattle.tool_ranges.specs.declared.meaning.Rules.{Rules}
-use Rattle.range_upgrades.specs.Upgrades.{IsSetOf}
-use Rattle.range_upgrades.proofs.Sets.{flip, no_set, same_from}
+use Rattle.range_upgrades.proofs.Sets.{no_set, range_has}
 use Rattle.range_upgrades.proofs.raised_ranges.is_below.Goals as goal
 
-pub returns-in-Err-clause-above : goal.returns-in-Err-clause-above
-returns-in-Err-clause-above c = λ e below.
-    no_set c.one_tree.ensures.same_tree c.args.dialect c.args.term.now c.in-Err.error c.in-Err.ensures.refusals c.in_ok-unless_out_of_memory-in-Err.ensures.ok below.0
-
-pub returns-clause-above : goal.returns-clause-above
-returns-clause-above c = λ e below.
+pub returns-in-Ok : goal.returns-in-Ok
+returns-in-Ok c =
     let m : Rules = record { dialect = c.args.dialect; pre_releases = Included } in
-    let is : IsSetOf m c.args.term.now c.in-Ok.alone =
-    record { is_range = c.in-Ok.ensures.refusals.accepted; meaning = c.in-Ok.ensures.meaning; digits = c.in-Ok.ensures.digits } in
-    below.1 ((same_from m c.args.term.now c.in-Ok.alone is c.args.version.now c.requires).0
-    (c.in_ok-has_above.ensures.0 (flip c.in_ok-has_above.has_above e)))
+    let is = c.in-Ok.ensures.refusals.accepted in
+    let has = range_has c.one_tree.ensures.same_tree m c.args.term.now c.args.version.now c.requires is c.in-Ok.has c.in-Ok.ensures.has in (
+      λ e. (is, λ some. true≢false (sym (has.1 some) ∙ flip c.in-Ok.has e)),
+      λ below. other c.in-Ok.has (λ e. below.1 (has.0 e)),
+    )
+  where
+    flip : (b : Bool) → not b ≡ true → b ≡ false
+    flip true e = cc
+    flip false e = refl
+
+    other : (b : Bool) → ¬ (b ≡ true) → not b ≡ true
+    other true isnt = absurd (isnt refl)
+    other false isnt = refl
+
+pub returns-in-Err : goal.returns-in-Err
+returns-in-Err c = (
+  λ e. cc,
+  λ below. absurd (no_set c.one_tree.ensures.same_tree c.args.dialect c.args.term.now c.in-Err.field-0 c.in-Err.ensures.refusals
+      (λ e. c.in-Err.ensures.no_memory (ap Err e)) below.0),
+)

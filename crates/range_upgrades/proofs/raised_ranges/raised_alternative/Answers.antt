@@ -3,6 +3,7 @@ use Rattle.range_terms.specs.WrittenTerms.{WrittenVersion, term_value, terms_in,
 use Rattle.range_terms.specs.WrittenTexts.{version_text}
 use Rattle.range_upgrades.specs.RaisedRanges.{IsPart, IsRaised, last_version}
 use Rattle.range_upgrades.specs.RaisedVersions.{HasRaised, raised_version}
+use Rattle.range_upgrades.proofs.Sets.{true_not_false}
 use Rattle.range_upgrades.proofs.RaisedTerms.{Goes, goes_first, goes_last, goes_on, goes_past, none_last, only_last, stops}
 use Rattle.range_upgrades.proofs.raised_ranges.raised_alternative.Goals as goal
 
@@ -12,18 +13,18 @@ loop-term-init c = λ tree spelled.
     (terms_in c.args.dialect tree c.args.range.now spelled) c.into_iter-term-iterator.result (string_bytes c.new-raised.result)
     c.new-raised.ensures.bytes (c.into_iter-term-iterator.ensures.into_iter_gives ∙ c.of_range-term-items.ensures tree spelled)
 
-pub loop-term-preserved-then-not-branch : goal.loop-term-preserved-then-not-branch
-loop-term-preserved-then-not-branch c = λ tree spelled.
+pub loop-term-preserved-then-not-is_to_raise : goal.loop-term-preserved-then-not-is_to_raise
+loop-term-preserved-then-not-is_to_raise c = λ tree spelled.
     goes_past c.args.dialect c.args.form c.args.range.now c.args.version.now c.args.last.now
     (terms_in c.args.dialect tree c.args.range.now spelled) (string_bytes c.loop-term.raised) c.loop-term.copied (term_value c.in-Some.term)
-    c.loop-term.term-iterator c.next.new.self c.in-Some.ensures.steps (c.in_ok-is_to_raise.ensures.kept c.if-not-branch.true)
+    c.loop-term.term-iterator c.next.new.self c.in-Some.ensures.steps (λ raise. true_not_false (sym (c.is_to_raise.ensures.1 raise) ∙ c.if-not-is_to_raise.true))
     (c.loop-term.invariant tree spelled)
 
 pub returns-in_default-clause-none : goal.returns-in_default-clause-none
 returns-in_default-clause-none c = λ none tree spelled.
     stops c.args.dialect c.args.form c.args.range.now c.args.version.now c.args.last.now
     (terms_in c.args.dialect tree c.args.range.now spelled) (string_bytes c.loop-term.raised) c.loop-term.copied (term_value c.in-Some.term)
-    c.loop-term.term-iterator c.next.new.self c.in-Some.ensures.steps (c.in_ok-is_to_raise.ensures.raised c.if-not-branch.false)
+    c.loop-term.term-iterator c.next.new.self c.in-Some.ensures.steps (c.is_to_raise.ensures.0 c.if-not-is_to_raise.false)
     (c.loop-term.invariant tree spelled)
     (λ has kept part. c.in_default.ensures.none refl
     (subst (λ w. HasRaised c.in-Some.term.operator w c.args.version.now) (sym c.last_version-written.ensures) has))
@@ -32,7 +33,7 @@ pub returns-in_default-part-clause-none : goal.returns-in_default-part-clause-no
 returns-in_default-part-clause-none c = λ none tree spelled.
     stops c.args.dialect c.args.form c.args.range.now c.args.version.now c.args.last.now
     (terms_in c.args.dialect tree c.args.range.now spelled) (string_bytes c.loop-term.raised) c.loop-term.copied (term_value c.in-Some.term)
-    c.loop-term.term-iterator c.next.new.self c.in-Some.ensures.steps (c.in_ok-is_to_raise.ensures.raised c.if-not-branch.false)
+    c.loop-term.term-iterator c.next.new.self c.in-Some.ensures.steps (c.is_to_raise.ensures.0 c.if-not-is_to_raise.false)
     (c.loop-term.invariant tree spelled)
     (λ has kept part. c.in_default-part.ensures.none refl kept
     (subst (λ (w : WrittenVersion). IsPart c.args.range.now c.loop-term.copied w.span.start kept) (sym c.last_version-written.ensures) part))
@@ -52,7 +53,7 @@ loop-term-preserved c = λ tree spelled.
     c.in-Some-raised_version.ensures.some ∙ ap (λ w. raised_version d form c.in-Some.term.operator w v) is in
     subst (λ (w : WrittenVersion). Goes d form t v c.args.last.now all (string_bytes c.push_raised.new.raised) w.span.end c.next.new.self) (sym is)
     (goes_on d form t v c.args.last.now all done (string_bytes c.push_raised.new.raised) kept c.loop-term.copied x
-    c.loop-term.term-iterator c.next.new.self c.in-Some.ensures.steps (c.in_ok-is_to_raise.ensures.raised c.if-not-branch.false)
+    c.loop-term.term-iterator c.next.new.self c.in-Some.ensures.steps (c.is_to_raise.ensures.0 c.if-not-is_to_raise.false)
     (subst (λ w. HasRaised c.in-Some.term.operator w v) is c.in-Some-raised_version.ensures.exists)
     (subst (λ (w : WrittenVersion). IsPart t c.loop-term.copied w.span.start kept) is c.in-Some-part.ensures.some)
     (c.in_ok-push_raised.ensures ∙ ap (λ w. done ++ (kept ++ version_text w)) word)

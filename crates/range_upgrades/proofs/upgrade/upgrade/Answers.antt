@@ -1,11 +1,11 @@
-use Rattle.std.proofs.Common.{◌∙◌, Err, Global, None, Ok, Some, refl, string_bytes, subst, sym}
+use Rattle.std.proofs.Common.{◌∙◌, Err, Global, None, Ok, Some, ap, refl, string_bytes, subst, sym}
 use Rattle.semver_texts.specs.ToolVersions.{IsVersionTextIn}
 use Rattle.semver_versions.specs.VersionRefs.{IsVersionRefIn, version_of}
 use Rattle.tool_ranges.specs.Dialects.{grammar_of}
-use Rattle.range_upgrades.specs.Upgrades.{HasVersionFrom, IsSetOf}
+use Rattle.range_upgrades.specs.Upgrades.{HasVersionFrom}
 use Rattle.range_upgrades.specs.declared.upgrade.UpgradeError.TheVariants.{CannotUpgrade, InvalidRange, OutOfMemory}
-use Rattle.range_upgrades.proofs.Results.{Clauses, IsValid, clauses, err_is, invalid_version, memory_range, read_fits, unread, valid_range}
-use Rattle.range_upgrades.proofs.Sets.{same_from, true_not_false}
+use Rattle.range_upgrades.proofs.Results.{Clauses, IsValid, clauses, err_is, invalid_version, read_fits, unread, valid_range}
+use Rattle.range_upgrades.proofs.Sets.{range_has, true_not_false}
 use Rattle.range_upgrades.proofs.upgrade.upgrade.Goals as goal
 
 pub returns-in_default : goal.returns-in_default
@@ -27,36 +27,14 @@ returns-in_default c =
       cannot_upgrade = k.cannot_upgrade;
     }
 
-pub returns-in_err-unless_out_of_memory-in-Err : goal.returns-in_err-unless_out_of_memory-in-Err
-returns-in_err-unless_out_of_memory-in-Err c =
-    let o = c.in-Some.version in
-    let read : IsVersionRefIn (grammar_of c.args.meaning.dialect) c.args.version.now o =
-    subst (λ g. IsVersionRefIn g c.args.version.now o) c.grammar.ensures.grammar ((c.in-Some.ensures.borrowed o).0 refl) in
-    let valid = memory_range c.args.meaning c.args.range.now c.in-Err.error c.in_err-unless_out_of_memory-in-Err.ensures.err c.in-Err.ensures.refusals in
-    let k = subst (Clauses string_bytes c.args.meaning c.args.range.now c.args.version.now) (sym (err_is c.from_residual.result OutOfMemory c.from_residual.ensures.1))
-    (clauses string_bytes c.args.meaning c.args.range.now c.args.version.now o read (Err OutOfMemory) valid) in
-    record {
-      invalid_version = k.invalid_version;
-      not_a_range = k.not_a_range;
-      too_large = k.too_large;
-      range_memory = k.range_memory;
-      accepted = k.accepted;
-      contains = k.contains;
-      none = k.none;
-      above = k.above;
-      loses_none = k.loses_none;
-      again = k.again;
-      style = k.style;
-      cannot_upgrade = k.cannot_upgrade;
-    }
-
 pub returns-in-Err : goal.returns-in-Err
 returns-in-Err c =
     let o = c.in-Some.version in
     let read : IsVersionRefIn (grammar_of c.args.meaning.dialect) c.args.version.now o =
     subst (λ g. IsVersionRefIn g c.args.version.now o) c.grammar.ensures.grammar ((c.in-Some.ensures.borrowed o).0 refl) in
     let k = clauses string_bytes c.args.meaning c.args.range.now c.args.version.now o read (Err (InvalidRange c.in-Err.error))
-    (unread (string_bytes {Z = Global}) c.args.meaning c.args.range.now c.args.version.now o c.in-Err.error c.in-Err.ensures.refusals c.in_ok-unless_out_of_memory-in-Err.ensures.ok) in
+    (unread (string_bytes {Z = Global}) c.args.meaning c.args.range.now c.args.version.now o c.in-Err.error c.in-Err.ensures.refusals
+    (λ e. c.in-Err.ensures.no_memory (ap Err e))) in
     record {
       invalid_version = k.invalid_version;
       not_a_range = k.not_a_range;
@@ -72,41 +50,16 @@ returns-in-Err c =
       cannot_upgrade = k.cannot_upgrade;
     }
 
-pub returns-in_err-has_at_or_above : goal.returns-in_err-has_at_or_above
-returns-in_err-has_at_or_above c =
+pub returns-then-has : goal.returns-then-has
+returns-then-has c =
     let o = c.in-Some.version in
     let read : IsVersionRefIn (grammar_of c.args.meaning.dialect) c.args.version.now o =
     subst (λ g. IsVersionRefIn g c.args.version.now o) c.grammar.ensures.grammar ((c.in-Some.ensures.borrowed o).0 refl) in
-    let valid : IsValid c.args.meaning c.args.range.now = valid_range c.args.meaning c.args.range.now c.in-Ok.old c.in-Ok.ensures.refusals in
-    let set : IsSetOf c.args.meaning c.args.range.now c.in-Ok.old =
-    record { is_range = c.in-Ok.ensures.refusals.accepted; meaning = c.in-Ok.ensures.meaning; digits = c.in-Ok.ensures.digits } in
-    let k = subst (Clauses string_bytes c.args.meaning c.args.range.now c.args.version.now) (sym (err_is c.from_residual-in_err-has_at_or_above.result OutOfMemory c.from_residual-in_err-has_at_or_above.ensures.1))
-    (clauses string_bytes c.args.meaning c.args.range.now c.args.version.now o read (Err OutOfMemory) valid) in
-    record {
-      invalid_version = k.invalid_version;
-      not_a_range = k.not_a_range;
-      too_large = k.too_large;
-      range_memory = k.range_memory;
-      accepted = k.accepted;
-      contains = k.contains;
-      none = k.none;
-      above = k.above;
-      loses_none = k.loses_none;
-      again = k.again;
-      style = k.style;
-      cannot_upgrade = k.cannot_upgrade;
-    }
-
-pub returns-then-branch : goal.returns-then-branch
-returns-then-branch c =
-    let o = c.in-Some.version in
-    let read : IsVersionRefIn (grammar_of c.args.meaning.dialect) c.args.version.now o =
-    subst (λ g. IsVersionRefIn g c.args.version.now o) c.grammar.ensures.grammar ((c.in-Some.ensures.borrowed o).0 refl) in
-    let valid : IsValid c.args.meaning c.args.range.now = valid_range c.args.meaning c.args.range.now c.in-Ok.old c.in-Ok.ensures.refusals in
-    let set : IsSetOf c.args.meaning c.args.range.now c.in-Ok.old =
-    record { is_range = c.in-Ok.ensures.refusals.accepted; meaning = c.in-Ok.ensures.meaning; digits = c.in-Ok.ensures.digits } in
+    let valid : IsValid c.args.meaning c.args.range.now = valid_range c.args.meaning c.args.range.now c.in-Ok.has c.in-Ok.ensures.refusals in
+    let has = range_has c.one_tree.ensures.same_tree c.args.meaning c.args.range.now o (c.args.version.now, read) valid.is_range c.in-Ok.has
+    c.in-Ok.ensures.has in
     let k = clauses string_bytes c.args.meaning c.args.range.now c.args.version.now o read (Ok None)
-    (valid, (same_from c.args.meaning c.args.range.now c.in-Ok.old set o (c.args.version.now, read)).0 (c.in_ok-has_at_or_above.ensures.0 c.if-branch.true)) in
+    (valid, has.0 c.if-has.true) in
     record {
       invalid_version = k.invalid_version;
       not_a_range = k.not_a_range;
@@ -127,10 +80,8 @@ returns-in_err-new c =
     let o = c.in-Some.version in
     let read : IsVersionRefIn (grammar_of c.args.meaning.dialect) c.args.version.now o =
     subst (λ g. IsVersionRefIn g c.args.version.now o) c.grammar.ensures.grammar ((c.in-Some.ensures.borrowed o).0 refl) in
-    let valid : IsValid c.args.meaning c.args.range.now = valid_range c.args.meaning c.args.range.now c.in-Ok.old c.in-Ok.ensures.refusals in
-    let set : IsSetOf c.args.meaning c.args.range.now c.in-Ok.old =
-    record { is_range = c.in-Ok.ensures.refusals.accepted; meaning = c.in-Ok.ensures.meaning; digits = c.in-Ok.ensures.digits } in
-    let k = subst (Clauses string_bytes c.args.meaning c.args.range.now c.args.version.now) (sym (err_is c.from_residual-in_err-new.result OutOfMemory c.from_residual-in_err-new.ensures.1))
+    let valid : IsValid c.args.meaning c.args.range.now = valid_range c.args.meaning c.args.range.now c.in-Ok.has c.in-Ok.ensures.refusals in
+    let k = subst (Clauses string_bytes c.args.meaning c.args.range.now c.args.version.now) (sym (err_is c.from_residual.result OutOfMemory c.from_residual.ensures.1))
     (clauses string_bytes c.args.meaning c.args.range.now c.args.version.now o read (Err OutOfMemory) valid) in
     record {
       invalid_version = k.invalid_version;
@@ -152,12 +103,11 @@ returns-in_default-new c =
     let o = c.in-Some.version in
     let read : IsVersionRefIn (grammar_of c.args.meaning.dialect) c.args.version.now o =
     subst (λ g. IsVersionRefIn g c.args.version.now o) c.grammar.ensures.grammar ((c.in-Some.ensures.borrowed o).0 refl) in
-    let valid : IsValid c.args.meaning c.args.range.now = valid_range c.args.meaning c.args.range.now c.in-Ok.old c.in-Ok.ensures.refusals in
-    let set : IsSetOf c.args.meaning c.args.range.now c.in-Ok.old =
-    record { is_range = c.in-Ok.ensures.refusals.accepted; meaning = c.in-Ok.ensures.meaning; digits = c.in-Ok.ensures.digits } in
+    let valid : IsValid c.args.meaning c.args.range.now = valid_range c.args.meaning c.args.range.now c.in-Ok.has c.in-Ok.ensures.refusals in
+    let has = range_has c.one_tree.ensures.same_tree c.args.meaning c.args.range.now o (c.args.version.now, read) valid.is_range c.in-Ok.has
+    c.in-Ok.ensures.has in
     let below : ¬ (HasVersionFrom c.args.meaning c.args.range.now (version_of o).plain) =
-    λ has. true_not_false (sym (c.in_ok-has_at_or_above.ensures.1 ((same_from c.args.meaning c.args.range.now c.in-Ok.old set o (c.args.version.now, read)).1 has))
-    ∙ c.if-branch.false) in
+    λ some. true_not_false (sym (has.1 some) ∙ c.if-has.false) in
     let k = clauses string_bytes c.args.meaning c.args.range.now c.args.version.now o read (Err CannotUpgrade)
     (valid, below, c.in_ok-new.ensures.none c.in_default-new.is) in
     record {
@@ -180,12 +130,11 @@ returns c =
     let o = c.in-Some.version in
     let read : IsVersionRefIn (grammar_of c.args.meaning.dialect) c.args.version.now o =
     subst (λ g. IsVersionRefIn g c.args.version.now o) c.grammar.ensures.grammar ((c.in-Some.ensures.borrowed o).0 refl) in
-    let valid : IsValid c.args.meaning c.args.range.now = valid_range c.args.meaning c.args.range.now c.in-Ok.old c.in-Ok.ensures.refusals in
-    let set : IsSetOf c.args.meaning c.args.range.now c.in-Ok.old =
-    record { is_range = c.in-Ok.ensures.refusals.accepted; meaning = c.in-Ok.ensures.meaning; digits = c.in-Ok.ensures.digits } in
+    let valid : IsValid c.args.meaning c.args.range.now = valid_range c.args.meaning c.args.range.now c.in-Ok.has c.in-Ok.ensures.refusals in
+    let has = range_has c.one_tree.ensures.same_tree c.args.meaning c.args.range.now o (c.args.version.now, read) valid.is_range c.in-Ok.has
+    c.in-Ok.ensures.has in
     let below : ¬ (HasVersionFrom c.args.meaning c.args.range.now (version_of o).plain) =
-    λ has. true_not_false (sym (c.in_ok-has_at_or_above.ensures.1 ((same_from c.args.meaning c.args.range.now c.in-Ok.old set o (c.args.version.now, read)).1 has))
-    ∙ c.if-branch.false) in
+    λ some. true_not_false (sym (has.1 some) ∙ c.if-has.false) in
     let k = clauses string_bytes c.args.meaning c.args.range.now c.args.version.now o read (Ok (Some c.in-Some-new.new)) (
       valid,
       below,
@@ -211,9 +160,8 @@ returns c =
       cannot_upgrade = k.cannot_upgrade;
     }
 
-pub raised_in_some_form-requires-clause-old : goal.raised_in_some_form-requires-clause-old
-raised_in_some_form-requires-clause-old c =
-    record { is_range = c.in-Ok.ensures.refusals.accepted; meaning = c.in-Ok.ensures.meaning; digits = c.in-Ok.ensures.digits }
+pub raised_in_some_form-requires-clause-range : goal.raised_in_some_form-requires-clause-range
+raised_in_some_form-requires-clause-range c = c.in-Ok.ensures.refusals.accepted
 
 pub raised_in_some_form-requires-clause-version : goal.raised_in_some_form-requires-clause-version
 raised_in_some_form-requires-clause-version c = (

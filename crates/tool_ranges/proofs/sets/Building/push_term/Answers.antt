@@ -1,22 +1,12 @@
 use Rattle.std.proofs.Common.{◌≡◌, Bool, true, false, ◌&&◌, ◌||◌, refl, sym, ap, ◌∙◌}
 use Rattle.std.proofs.Math.Bool.{or-false}
-use Rattle.std.proofs.lemmas.Bool.{and_parts}
 use Rattle.std.proofs.lemmas.List.Folds.{list_any-append}
 use Rattle.std.specs.List.{list_any}
-use Rattle.semver_texts.specs.Digits.{digits_in}
-use Rattle.semver_texts.specs.Versions.{PlainVersion}
-use Rattle.semver_ranges.specs.RangeTree.{Simple}
 use Rattle.semver_ranges.specs.StatedPreReleases.{states_pre_release_at}
-use Rattle.semver_ranges.specs.Steps.CursorViews.{IsSimpleOf}
 use Rattle.semver_ranges.specs.Terms.{of_simple}
-use Rattle.version_sets.specs.VersionSets.{Fits}
-use Rattle.version_sets.specs.Steps.Cuts.{is_in_interval}
-use Rattle.version_sets.specs.Steps.Ends.{has_numbers, in_each, in_ranges}
-use Rattle.tool_ranges.specs.Dialects.{grammar_of}
-use Rattle.tool_ranges.specs.Steps.Matching.{counts, term_met}
-use Rattle.tool_ranges.specs.Sides.{term_fits}
-use Rattle.tool_ranges.proofs.FitCells.{read_fits}
-use Rattle.tool_ranges.proofs.MatchedTerms.{each_kind, everything, stated_at}
+use Rattle.version_sets.specs.Steps.Ends.{has_numbers, in_ranges}
+use Rattle.tool_ranges.specs.Steps.Matching.{counts}
+use Rattle.tool_ranges.proofs.MatchedTerms.{everything, stated_at}
 use Rattle.tool_ranges.proofs.sets.Building.push_term.Goals as goal
 use Rattle.tool_ranges.proofs.sets.Building.push_term.Goals.{After-stated_numbers}
 
@@ -24,21 +14,9 @@ or_assoc : (a b c : Bool) → (a || (b || c)) ≡ ((a || b) || c)
 or_assoc true b c = refl
 or_assoc false b c = refl
 
-here : (c : After-stated_numbers) (s : Simple) (v : PlainVersion) → IsSimpleOf s c.args.simple.now → term_fits c.args.dialect s ≡ true → Fits v
-    → in_each c.and-self.result v ≡ (in_each c.args.self.now.here v && term_met c.args.dialect c.args.all v s)
-here c s v is fit small =
-    let d = c.args.dialect in
-    let simple = c.args.simple.now in
-    let digits = c.digits-digits.ensures ∙ ap digits_in c.grammar.ensures.grammar in
-    c.and-self.ensures.meaning v small
-    ∙ ap (λ b. in_each c.args.self.now.here v && b) (each_kind d s simple is fit v c.args.all _ _
-    (ap (λ digits. is_in_interval digits c.bounds.result v) digits ∙ c.bounds.ensures (digits_in (grammar_of d)) v)
-    (ap (λ digits. is_in_interval digits c.interval_of-pre_releases.result v) digits
-    ∙ c.interval_of-pre_releases.ensures (and_parts simple.partial.fits _ (read_fits s simple is d ∙ fit)).1 v))
-
 pub returns-in_ok-push-clause-known : goal.returns-in_ok-push-clause-known
 returns-in_ok-push-clause-known c = λ s v is fit small.
-    let known = here (goal.at.returns-in_ok-push-clause-known c).After-stated_numbers s v is fit small in
+    let known = c.with_term-self.ensures.meaning s v is fit small in
     let d = c.args.dialect in
     let simple = c.args.simple.now in
     let all = c.args.all in
@@ -58,7 +36,7 @@ returns-in_ok-push-clause-known c = λ s v is fit small.
 
 pub returns-in_default-clause-known : goal.returns-in_default-clause-known
 returns-in_default-clause-known c = λ s v is fit small.
-    let known = here (goal.at.returns-in_default-clause-known c).After-stated_numbers s v is fit small in
+    let known = c.with_term-self.ensures.meaning s v is fit small in
     let d = c.args.dialect in
     let simple = c.args.simple.now in
     let all = c.args.all in

@@ -5,7 +5,6 @@ use Rattle.semver_texts.proofs.Lists.{by_test}
 use Rattle.version_sets.specs.Steps.EndPlaces.{end_place}
 use Rattle.version_sets.specs.Steps.Spans.{in_some}
 use Rattle.version_sets.specs.Steps.SpanViews.{is_within, span_value}
-use Rattle.version_sets.proofs.EndLaws.{among_numbers}
 use Rattle.version_sets.proofs.Lists.{answered_so}
 use Rattle.version_sets.proofs.conjunction.Ranges.push_stated.Goals as goal
 
@@ -18,4 +17,4 @@ returns-clause-meaning c = answered_so _ c.push_to.result c.push_to.ensures.mean
     (λ y. rw y (or_none _))
     (λ n. rw n (is v ∙ ap (λ b. in_some precedence (map (span_value end_place) c.args.self.now.pre_releases.items) v || b)
     (c.and.ensures.meaning v ∙ ap (λ b. is_within end_place c.args.range.now.pre_releases v && b)
-    (among_numbers c.args.numbers.now _ v _ c.lowest.ensures.place n (c.above_numbers.ensures.meaning v (small, n)))))))
+    (c.among.ensures.meaning v (small, n))))))
