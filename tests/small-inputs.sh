@@ -20,7 +20,7 @@ export CARGO_NET_OFFLINE CARGO_TERM_COLOR CARGO_TARGET_DIR
 # The calls that read a version, those that read a range, and among these the quicker ones.
 of_versions='parse tokens parser read read-in compare explain contained'
 quick='range-set comparators check explain-range terms set'
-of_ranges="$quick meets report satisfies members operations"
+of_ranges="$quick meets report satisfies members operations upgrade"
 
 # lines LENGTHS ALPHABET CALL..: prints lines of the input.
 lines() {

@@ -9,6 +9,7 @@ mod checksum;
 mod lines;
 mod ranges;
 mod sets;
+mod upgrades;
 mod versions;
 
 use checksum::Checksum;
@@ -85,6 +86,7 @@ fn add(alloc: Global, call: &str, bytes: &[u8], sum: &mut Checksum) -> io::Resul
         "set" => sets::add_sets(alloc, bytes, sum)?,
         "members" => sets::add_members(alloc, bytes, sum)?,
         "operations" => sets::add_operations(alloc, bytes, sum)?,
+        "upgrade" => upgrades::add_raised(alloc, bytes, sum)?,
         "lines" => lines::add_lines(alloc, bytes, sum)?,
         _ => return Ok(false),
     }

@@ -12,7 +12,7 @@ use tool_ranges::satisfying::{SatisfiesError, satisfies};
 use tool_ranges::version_range::VersionRange;
 use version_sets::{Combination, OperationError, PreReleases, Release, VersionSet};
 
-const RULES: [PreReleases; 3] = [
+pub const RULES: [PreReleases; 3] = [
     PreReleases::ByDialect,
     PreReleases::Included,
     PreReleases::Excluded,

@@ -11,6 +11,7 @@ mod checksum;
 mod lines;
 mod ranges;
 mod sets;
+mod upgrades;
 mod versions;
 
 use checksum::Checksum;
@@ -85,6 +86,7 @@ fn add(call: &str, bytes: &[u8], sum: &mut Checksum) -> io::Result<bool> {
         "set" => sets::add_sets(bytes, sum)?,
         "members" => sets::add_members(bytes, sum)?,
         "operations" => sets::add_operations(bytes, sum)?,
+        "upgrade" => upgrades::add_raised(bytes, sum)?,
         "lines" => lines::add_lines(bytes, sum)?,
         _ => return Ok(false),
     }

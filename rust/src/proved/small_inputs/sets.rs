@@ -14,7 +14,7 @@ use crate::proved::tool_ranges::satisfying::{SatisfiesError, satisfies};
 use crate::proved::tool_ranges::version_range::VersionRange;
 use crate::proved::version_sets::{Combination, OperationError, PreReleases, Release, VersionSet};
 
-const RULES: [PreReleases; 3] = [
+pub const RULES: [PreReleases; 3] = [
     PreReleases::ByDialect,
     PreReleases::Included,
     PreReleases::Excluded,
