@@ -6,7 +6,7 @@ use Rattle.semver_versions.specs.VersionRefs.{VersionRefValue, version_of}
 use Rattle.tool_ranges.specs.declared.meaning.Rules.{Rules}
 use Rattle.range_terms.specs.WrittenTerms.{WrittenTerm}
 use Rattle.range_upgrades.specs.Alternatives.{HasBars, last_of}
-use Rattle.range_upgrades.specs.RaisedRanges.{IsExtended, IsInPlace, IsOneMore, IsRaised, IsRaisedRange, IsReplaced, IsUpgraded}
+use Rattle.range_upgrades.specs.RaisedRanges.{IsExtended, IsInPlace, IsOneMore, IsOnlyRaised, IsRaised, IsRaisedRange, IsReplaced, IsUpgraded}
 use Rattle.range_upgrades.specs.Upgrades.{IsSatisfied, LosesNone}
 use Rattle.range_upgrades.specs.declared.alternatives.Alternative.{Alternative}
 use Rattle.range_upgrades.specs.declared.raised_versions.Form.{Form}
@@ -39,6 +39,50 @@ raised_one d form t v last at (x ∷ xs) a b (inr p) (inr q) =
     (raised_one d form t v last (last_version x).span.end xs p.1 q.1 p.5 q.5)
     ∙ sym q.6
 
+module _ (d : Dialect) (form : Form) (t : Text) (v : VersionRefValue) (terms : List WrittenTerm) (last : Alternative)
+    (is_last : last_of terms ≡ Some last) where
+  same_last : (other : Alternative) → last_of terms ≡ Some other → other ≡ last
+  same_last other is = some_is (sym is ∙ is_last)
+
+  -- ---- no string, if a part of it is missing
+
+  pub no_raised_in_place : ((s : Text) → ¬ (IsRaised d form t v last terms s)) → (s : Text) → ¬ (IsInPlace d form t v terms s)
+  no_raised_in_place not s p = not p.raised (subst (λ a. IsRaised d form t v a terms p.raised) (same_last p.last p.is_last) p.raises)
+
+  pub no_raised_one_more : ((s : Text) → ¬ (IsRaised d form t v last terms s)) → (s : Text) → ¬ (IsOneMore d form t v terms s)
+  no_raised_one_more not s p = not p.raised (subst (λ a. IsRaised d form t v a terms p.raised) (same_last p.last p.is_last) p.raises)
+
+  replaced : (s : Text) (p : IsInPlace d form t v terms s) → IsReplaced t last p.raised s
+  replaced s p = subst (λ a. IsReplaced t a p.raised s) (same_last p.last p.is_last) p.replaces
+
+  extended : (s : Text) (p : IsOneMore d form t v terms s) → IsExtended t last p.raised s
+  extended s p = subst (λ a. IsExtended t a p.raised s) (same_last p.last p.is_last) p.extends
+
+  pub no_replaced : ((raised s : Text) → ¬ (IsReplaced t last raised s)) → (s : Text) → ¬ (IsInPlace d form t v terms s)
+  no_replaced not s p = not p.raised s (replaced s p)
+
+  pub no_extended : ((raised s : Text) → ¬ (IsExtended t last raised s)) → (s : Text) → ¬ (IsOneMore d form t v terms s)
+  no_extended not s p = not p.raised s (extended s p)
+
+  -- ---- one string
+
+  module _ (raised : Text) (only : IsOnlyRaised d form t v last terms raised) (new : Text) where
+    pub is_in_place : IsReplaced t last raised new → IsInPlace d form t v terms new
+    is_in_place replaces = record { last = last; raised = raised; is_last = is_last; raises = only.0; replaces = replaces }
+
+    pub only_in_place : IsReplaced t last raised new → (s : Text) → IsInPlace d form t v terms s → s ≡ new
+    only_in_place replaces s p =
+        let is : p.raised ≡ raised = only.1 p.raised (subst (λ a. IsRaised d form t v a terms p.raised) (same_last p.last p.is_last) p.raises) in
+        one_replaced t last raised s new (subst (λ r. IsReplaced t last r s) is (replaced s p)) replaces
+
+    pub is_one_more : IsExtended t last raised new → IsOneMore d form t v terms new
+    is_one_more extends = record { last = last; raised = raised; is_last = is_last; raises = only.0; extends = extends }
+
+    pub only_one_more : IsExtended t last raised new → (s : Text) → IsOneMore d form t v terms s → s ≡ new
+    only_one_more extends s p =
+        let is : p.raised ≡ raised = only.1 p.raised (subst (λ a. IsRaised d form t v a terms p.raised) (same_last p.last p.is_last) p.raises) in
+        one_extended t last raised s new (subst (λ r. IsExtended t last r s) is (extended s p)) extends
+
 module _ (m : Rules) (form : Form) (t : Text) (v : VersionRefValue) (terms : List WrittenTerm) where
   -- ---- no result
 
@@ -46,57 +90,33 @@ module _ (m : Rules) (form : Form) (t : Text) (v : VersionRefValue) (terms : Lis
   no_last none s (inl p) = let e = sym none ∙ p.0.is_last in cc
   no_last none s (inr p) = let e = sym none ∙ p.0.is_last in cc
 
-  module _ (last : Alternative) (is_last : last_of terms ≡ Some last) where
-    pub no_raised : ((s : Text) → ¬ (IsRaised m.dialect form t v last terms s)) → (s : Text) → ¬ (IsRaisedRange m form t v terms s)
-    no_raised not s (inl p) =
-        not p.0.raised (subst (λ a. IsRaised m.dialect form t v a terms p.0.raised) (some_is (sym p.0.is_last ∙ is_last)) p.0.raises)
-    no_raised not s (inr p) =
-        not p.0.raised (subst (λ a. IsRaised m.dialect form t v a terms p.0.raised) (some_is (sym p.0.is_last ∙ is_last)) p.0.raises)
+  pub no_in_place : ((s : Text) → ¬ (IsInPlace m.dialect form t v terms s)) → (s : Text) → ¬ (IsRaisedRange m form t v terms s)
+  no_in_place not s (inl p) = not s p.0
+  no_in_place not s (inr p) = not p.1.replaced p.1.in_place
 
-    module _ (raised : Text) (only : (s : Text) → IsRaised m.dialect form t v last terms s → s ≡ raised) where
-      in_place : (s : Text) → IsInPlace m.dialect form t v terms s → IsReplaced t last raised s
-      in_place s p =
-          let same : p.last ≡ last = some_is (sym p.is_last ∙ is_last) in
-          let is : p.raised ≡ raised = only p.raised (subst (λ a. IsRaised m.dialect form t v a terms p.raised) same p.raises) in
-          subst (λ r. IsReplaced t last r s) is (subst (λ a. IsReplaced t a p.raised s) same p.replaces)
+  -- the string with the last alternative raised in place
+  module _ (new : Text) (only : (s : Text) → IsInPlace m.dialect form t v terms s → s ≡ new) where
+    pub not_satisfied : ¬ (IsSatisfied m new (version_of v)) → (s : Text) → ¬ (IsRaisedRange m form t v terms s)
+    not_satisfied not s (inl p) = not (subst (λ r. IsSatisfied m r (version_of v)) (only s p.0) p.1)
+    not_satisfied not s (inr p) = not (subst (λ r. IsSatisfied m r (version_of v)) (only p.1.replaced p.1.in_place) p.1.satisfied)
 
-      one_more : (s : Text) → IsOneMore m.dialect form t v terms s → IsExtended t last raised s
-      one_more s p =
-          let same : p.last ≡ last = some_is (sym p.is_last ∙ is_last) in
-          let is : p.raised ≡ raised = only p.raised (subst (λ a. IsRaised m.dialect form t v a terms p.raised) same p.raises) in
-          subst (λ r. IsExtended t last r s) is (subst (λ a. IsExtended t a p.raised s) same p.extends)
+    -- the last alternative can't be raised in place
+    module _ (bars : HasBars t) (loses : ¬ (LosesNone m t new)) where
+      added : (s : Text) → IsRaisedRange m form t v terms s
+          → IsOneMore m.dialect form t v terms s × IsSatisfied m s (version_of v) × LosesNone m t s
+      added s (inl p) = absurd (loses (subst (LosesNone m t) (only s p.0) (p.2 bars)))
+      added s (inr p) = (p.0, p.2, p.3)
 
-      pub no_replaced : ((new : Text) → ¬ (IsReplaced t last raised new)) → (s : Text) → ¬ (IsRaisedRange m form t v terms s)
-      no_replaced not s (inl p) = not s (in_place s p.0)
-      no_replaced not s (inr p) = not p.1.replaced (in_place p.1.replaced p.1.in_place)
+      pub no_more : ((s : Text) → ¬ (IsOneMore m.dialect form t v terms s)) → (s : Text) → ¬ (IsRaisedRange m form t v terms s)
+      no_more not s is = not s (added s is).0
 
-      module _ (new : Text) (replaces : IsReplaced t last raised new) where
-        is_new : (s : Text) → IsInPlace m.dialect form t v terms s → s ≡ new
-        is_new s p = one_replaced t last raised s new (in_place s p) replaces
+      -- the string with the last alternative raised as one more
+      module _ (more : Text) (only_more : (s : Text) → IsOneMore m.dialect form t v terms s → s ≡ more) where
+        pub more_not_satisfied : ¬ (IsSatisfied m more (version_of v)) → (s : Text) → ¬ (IsRaisedRange m form t v terms s)
+        more_not_satisfied not s is = not (subst (λ r. IsSatisfied m r (version_of v)) (only_more s (added s is).0) (added s is).1)
 
-        pub not_satisfied : ¬ (IsSatisfied m new (version_of v)) → (s : Text) → ¬ (IsRaisedRange m form t v terms s)
-        not_satisfied not s (inl p) = not (subst (λ r. IsSatisfied m r (version_of v)) (is_new s p.0) p.1)
-        not_satisfied not s (inr p) = not (subst (λ r. IsSatisfied m r (version_of v)) (is_new p.1.replaced p.1.in_place) p.1.satisfied)
-
-        -- the last alternative can't be raised in place
-        module _ (bars : HasBars t) (loses : ¬ (LosesNone m t new)) where
-          added : (s : Text) → IsRaisedRange m form t v terms s
-              → IsExtended t last raised s × IsSatisfied m s (version_of v) × LosesNone m t s
-          added s (inl p) = absurd (loses (subst (LosesNone m t) (is_new s p.0) (p.2 bars)))
-          added s (inr p) = (one_more s p.0, p.2, p.3)
-
-          pub no_extended : ((more : Text) → ¬ (IsExtended t last raised more)) → (s : Text) → ¬ (IsRaisedRange m form t v terms s)
-          no_extended not s is = not s (added s is).0
-
-          module _ (more : Text) (extends : IsExtended t last raised more) where
-            is_more : (s : Text) → IsRaisedRange m form t v terms s → s ≡ more
-            is_more s is = one_extended t last raised s more (added s is).0 extends
-
-            pub more_not_satisfied : ¬ (IsSatisfied m more (version_of v)) → (s : Text) → ¬ (IsRaisedRange m form t v terms s)
-            more_not_satisfied not s is = not (subst (λ r. IsSatisfied m r (version_of v)) (is_more s is) (added s is).1)
-
-            pub more_loses : ¬ (LosesNone m t more) → (s : Text) → ¬ (IsRaisedRange m form t v terms s)
-            more_loses not s is = not (subst (LosesNone m t) (is_more s is) (added s is).2)
+        pub more_loses : ¬ (LosesNone m t more) → (s : Text) → ¬ (IsRaisedRange m form t v terms s)
+        more_loses not s is = not (subst (LosesNone m t) (only_more s (added s is).0) (added s is).2)
 
 -- ---- both forms
 
@@ -130,15 +150,13 @@ module _ (m : Rules) (t : Text) (v : VersionRefValue) (terms : List WrittenTerm)
 module _ (m : Rules) (t : Text) (v : VersionRefValue) (terms : List WrittenTerm) where
   in_place_one : (form : Form) (a b : Text) → IsInPlace m.dialect form t v terms a → IsInPlace m.dialect form t v terms b → a ≡ b
   in_place_one form a b p q =
-      let only = λ (s : Text) (is : IsRaised m.dialect form t v q.last terms s).
-      raised_one m.dialect form t v q.last q.last.start terms s q.raised is q.raises in
-      one_replaced t q.last q.raised a b (in_place m form t v terms q.last q.is_last q.raised only a p) q.replaces
+      only_in_place m.dialect form t v terms q.last q.is_last q.raised
+      (q.raises, λ s is. raised_one m.dialect form t v q.last q.last.start terms s q.raised is q.raises) b q.replaces a p
 
   one_more_one : (form : Form) (a b : Text) → IsOneMore m.dialect form t v terms a → IsOneMore m.dialect form t v terms b → a ≡ b
   one_more_one form a b p q =
-      let only = λ (s : Text) (is : IsRaised m.dialect form t v q.last terms s).
-      raised_one m.dialect form t v q.last q.last.start terms s q.raised is q.raises in
-      one_extended t q.last q.raised a b (one_more m form t v terms q.last q.is_last q.raised only a p) q.extends
+      only_one_more m.dialect form t v terms q.last q.is_last q.raised
+      (q.raises, λ s is. raised_one m.dialect form t v q.last q.last.start terms s q.raised is q.raises) b q.extends a p
 
   range_one : (form : Form) (a b : Text) → IsRaisedRange m form t v terms a → IsRaisedRange m form t v terms b → a ≡ b
   range_one form a b (inl p) (inl q) = in_place_one form a b p.0 q.0

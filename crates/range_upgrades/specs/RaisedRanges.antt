@@ -79,6 +79,13 @@ abbrev pub IsRaised : Dialect → Form → Text → VersionRefValue → Alternat
     → Text → Type 0
 IsRaised d form t v last terms s = IsRaisedFrom d form t v last last.start terms s
 
+-- the text is the last alternative, in which each version that has to be raised is replaced, and no
+-- other text is
+abbrev pub IsOnlyRaised : Dialect → Form → Text → VersionRefValue → Alternative
+    → List WrittenTerm → Text → Type 0
+IsOnlyRaised d form t v last terms s = IsRaised d form t v last terms s
+    × ((other : Text) → IsRaised d form t v last terms other → other ≡ s)
+
 -- the range with another text for its last alternative
 pub record IsReplaced (t : Text) (last : Alternative) (raised s : Text) : Type 0 where
   pub before : Text

@@ -1,6 +1,6 @@
-//! The text of a range whose last alternative is raised to a newer version.
+//! A range whose last alternative is raised to a newer version.
 
-ghost use Rattle.std.specs.Prelude.{◌≡◌, ◌↔◌, ◌++◌, None, IfOk, IfSome, true};
+ghost use Rattle.std.specs.Prelude.{◌≡◌, ◌↔◌, ◌++◌, None, Some, IfOk, IfSome, true, false};
 ghost use Rattle.std.specs.Prelude.{string_bytes};
 ghost use Rattle.semver_texts.specs.Texts.{Text};
 ghost use Rattle.semver_versions.specs.VersionRefs.{version_of};
@@ -8,8 +8,9 @@ ghost use Rattle.semver_ranges.specs.RangeTree.{SetTree};
 ghost use Rattle.tool_ranges.specs.Dialects.{SpellsAs};
 ghost use Rattle.range_terms.specs.WrittenTerms.{term_value, terms_in, version_value};
 ghost use Rattle.range_terms.specs.WrittenTexts.{version_text};
-ghost use Rattle.range_upgrades.specs.RaisedRanges.{IsBelow, IsExtended, IsPart, IsRaised};
-ghost use Rattle.range_upgrades.specs.RaisedRanges.{IsReplaced, IsToRaise, is_lower_bound};
+ghost use Rattle.range_upgrades.specs.Alternatives.{last_of};
+ghost use Rattle.range_upgrades.specs.RaisedRanges.{IsBelow, IsInPlace, IsOneMore, IsOnlyRaised};
+ghost use Rattle.range_upgrades.specs.RaisedRanges.{IsPart, IsRaised, IsToRaise, is_lower_bound};
 ghost use Rattle.range_upgrades.specs.RaisedRanges.{last_version};
 ghost use Rattle.range_upgrades.specs.Upgrades.{IsReadIn};
 
@@ -25,9 +26,9 @@ use tool_ranges::laws;
 use tool_ranges::meaning::Rules;
 use version_sets::PreReleases;
 
-/// Returns the text of the last alternative, in which each version that has to be raised is
-/// replaced. It is `None` if a number would be above 2^64 - 1. `Err` means out of memory.
-pub(crate) fn raised_alternative(
+/// Returns the range with its last alternative raised in place. It is `None` if the alternative
+/// isn't a part of the range, or a number would be above 2^64 - 1. `Err` means out of memory.
+pub(crate) fn raised_in_place(
     alloc: Global,
     range: &str,
     last: &Alternative,
@@ -36,18 +37,108 @@ pub(crate) fn raised_alternative(
     form: Form,
 ) -> Result<Option<String>, AllocError>
     requires { IsReadIn dialect version.now }
-    ensures some { IfOk result (λ found. IfSome found (λ raised. (tree : SetTree)
-        (spelled : SpellsAs dialect tree range.now) → IsRaised dialect form range.now version.now
-        last.now (terms_in dialect tree range.now spelled) (string_bytes raised))) }
-    ensures only { IfOk result (λ found. IfSome found (λ raised. (tree : SetTree)
-        (spelled : SpellsAs dialect tree range.now) (s : Text) → IsRaised dialect form range.now
-        version.now last.now (terms_in dialect tree range.now spelled) s
-        → s ≡ string_bytes raised)) }
+    ensures some { IfOk result (λ found. IfSome found (λ new. (tree : SetTree)
+        (spelled : SpellsAs dialect tree range.now)
+        → last_of (terms_in dialect tree range.now spelled) ≡ Some last.now
+        → IsInPlace dialect form range.now version.now
+        (terms_in dialect tree range.now spelled) (string_bytes new))) }
+    ensures only { IfOk result (λ found. IfSome found (λ new. (tree : SetTree)
+        (spelled : SpellsAs dialect tree range.now) (s : Text)
+        → last_of (terms_in dialect tree range.now spelled) ≡ Some last.now
+        → IsInPlace dialect form range.now version.now
+        (terms_in dialect tree range.now spelled) s → s ≡ string_bytes new)) }
     ensures none { IfOk result (λ found. found ≡ None → (tree : SetTree)
+        (spelled : SpellsAs dialect tree range.now) (s : Text)
+        → last_of (terms_in dialect tree range.now spelled) ≡ Some last.now
+        → ¬ (IsInPlace dialect form range.now version.now
+        (terms_in dialect tree range.now spelled) s)) }
+{
+    let Some(before) = part(range, 0, last.start) else {
+        return Ok(None);
+    };
+    let Some(after) = part(range, last.end, range.len()) else {
+        return Ok(None);
+    };
+    let mut new = String::with_capacity(alloc, range.len())?;
+    new.push_str(before)?;
+    if !push_alternative(&mut new, range, last, version, dialect, form)? {
+        return Ok(None);
+    }
+    new.push_str(after)?;
+    Ok(Some(new))
+}
+
+/// Returns the range with its last alternative, raised, as one more alternative. It is `None` if
+/// the range has only one alternative, or the last one isn't a part of it, or a number would be
+/// above 2^64 - 1. `Err` means out of memory.
+pub(crate) fn raised_as_one_more(
+    alloc: Global,
+    range: &str,
+    last: &Alternative,
+    version: &VersionRef<'_>,
+    dialect: Dialect,
+    form: Form,
+) -> Result<Option<String>, AllocError>
+    requires { IsReadIn dialect version.now }
+    ensures some { IfOk result (λ found. IfSome found (λ new. (tree : SetTree)
+        (spelled : SpellsAs dialect tree range.now)
+        → last_of (terms_in dialect tree range.now spelled) ≡ Some last.now
+        → IsOneMore dialect form range.now version.now
+        (terms_in dialect tree range.now spelled) (string_bytes new))) }
+    ensures only { IfOk result (λ found. IfSome found (λ new. (tree : SetTree)
+        (spelled : SpellsAs dialect tree range.now) (s : Text)
+        → last_of (terms_in dialect tree range.now spelled) ≡ Some last.now
+        → IsOneMore dialect form range.now version.now
+        (terms_in dialect tree range.now spelled) s → s ≡ string_bytes new)) }
+    ensures none { IfOk result (λ found. found ≡ None → (tree : SetTree)
+        (spelled : SpellsAs dialect tree range.now) (s : Text)
+        → last_of (terms_in dialect tree range.now spelled) ≡ Some last.now
+        → ¬ (IsOneMore dialect form range.now version.now
+        (terms_in dialect tree range.now spelled) s)) }
+{
+    let Some(end) = last.before else {
+        return Ok(None);
+    };
+    let Some(before) = part(range, 0, last.end) else {
+        return Ok(None);
+    };
+    let Some(between) = part(range, end, last.start) else {
+        return Ok(None);
+    };
+    let Some(after) = part(range, last.end, range.len()) else {
+        return Ok(None);
+    };
+    let mut new = String::with_capacity(alloc, range.len().saturating_mul(2))?;
+    new.push_str(before)?;
+    new.push_str(between)?;
+    if !push_alternative(&mut new, range, last, version, dialect, form)? {
+        return Ok(None);
+    }
+    new.push_str(after)?;
+    Ok(Some(new))
+}
+
+/// Appends the last alternative to a string, in which each version that has to be raised is
+/// replaced. Returns false if the alternative isn't a part of the range, or a number would be above
+/// 2^64 - 1. `Err` means out of memory.
+fn push_alternative(
+    raised: &mut String,
+    range: &str,
+    last: &Alternative,
+    version: &VersionRef<'_>,
+    dialect: Dialect,
+    form: Form,
+) -> Result<bool, AllocError>
+    requires { IsReadIn dialect version.now }
+    ensures pushed { IfOk result (λ is. is ≡ true → (s : Text)
+        × (string_bytes raised.new ≡ string_bytes raised.old ++ s)
+        × ((tree : SetTree) (spelled : SpellsAs dialect tree range.now)
+        → IsOnlyRaised dialect form range.now version.now last.now
+        (terms_in dialect tree range.now spelled) s)) }
+    ensures none { IfOk result (λ is. is ≡ false → (tree : SetTree)
         (spelled : SpellsAs dialect tree range.now) (s : Text) → ¬ (IsRaised dialect form range.now
         version.now last.now (terms_in dialect tree range.now spelled) s)) }
 {
-    let mut raised = String::new(alloc);
     let mut copied = last.start;
     for term in of_range(range, dialect) {
         if !is_to_raise(range, last, &term, version, dialect) {
@@ -55,19 +146,19 @@ pub(crate) fn raised_alternative(
         }
         let written = last_version(&term);
         let Some(new) = raised_version(dialect, term.operator, &written, version, form) else {
-            return Ok(None);
+            return Ok(false);
         };
         let Some(kept) = part(range, copied, written.span.start) else {
-            return Ok(None);
+            return Ok(false);
         };
-        push_raised(&mut raised, kept, &new)?;
+        push_raised(raised, kept, &new)?;
         copied = written.span.end;
     }
     let Some(kept) = part(range, copied, last.end) else {
-        return Ok(None);
+        return Ok(false);
     };
     raised.push_str(kept)?;
-    Ok(Some(raised))
+    Ok(true)
 }
 
 /// Appends a part of the range that is kept, and then a raised version. `Err` means out of memory.
@@ -132,56 +223,6 @@ fn last_version<'t>(term: &Term<'t>) -> PartialVersion<'t>
         Some(upper) => upper,
         None => term.version,
     }
-}
-
-/// Returns the range with another text for its last alternative, or `None` if the alternative isn't
-/// a part of the range. `Err` means out of memory.
-pub(crate) fn replaced(
-    alloc: Global,
-    range: &str,
-    last: &Alternative,
-    raised: &str,
-) -> Result<Option<String>, AllocError>
-    ensures some { IfOk result (λ found. IfSome found (λ new.
-        IsReplaced range.now last.now raised.now (string_bytes new))) }
-    ensures none { IfOk result (λ found. found ≡ None → (new : Text)
-        → ¬ (IsReplaced range.now last.now raised.now new)) }
-{
-    let Some(before) = part(range, 0, last.start) else {
-        return Ok(None);
-    };
-    let Some(after) = part(range, last.end, range.len()) else {
-        return Ok(None);
-    };
-    Ok(Some(format!(in alloc; "{before}{raised}{after}")?))
-}
-
-/// Returns the range with one more alternative after its last term, or `None` if the range has only
-/// one alternative. `Err` means out of memory.
-pub(crate) fn extended(
-    alloc: Global,
-    range: &str,
-    last: &Alternative,
-    raised: &str,
-) -> Result<Option<String>, AllocError>
-    ensures some { IfOk result (λ found. IfSome found (λ new.
-        IsExtended range.now last.now raised.now (string_bytes new))) }
-    ensures none { IfOk result (λ found. found ≡ None → (new : Text)
-        → ¬ (IsExtended range.now last.now raised.now new)) }
-{
-    let Some(end) = last.before else {
-        return Ok(None);
-    };
-    let Some(before) = part(range, 0, last.end) else {
-        return Ok(None);
-    };
-    let Some(between) = part(range, end, last.start) else {
-        return Ok(None);
-    };
-    let Some(after) = part(range, last.end, range.len()) else {
-        return Ok(None);
-    };
-    Ok(Some(format!(in alloc; "{before}{between}{raised}{after}")?))
 }
 
 /// Returns the part of a string between two offsets, or `None` if one of them divides a character

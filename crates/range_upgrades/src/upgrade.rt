@@ -18,7 +18,7 @@ ghost use Rattle.range_upgrades.specs.Upgrades.{HasVersionFromText, IsReadIn, Is
 ghost use Rattle.range_upgrades.specs.Upgrades.{IsSetOf, LosesNone};
 
 use crate::alternatives::{has_bars, last_alternative};
-use crate::raised_ranges::{extended, raised_alternative, replaced};
+use crate::raised_ranges::{raised_as_one_more, raised_in_place};
 use crate::raised_versions::Form;
 use semver_ranges::RangeError;
 use semver_versions::version::{VersionRef, read_ref_in};
@@ -90,9 +90,11 @@ impl From<AllocError> for UpgradeError {
 /// If the range has `||` and would lose a version, then the raised terms are added as one more
 /// alternative instead. Everything else stays as it is.
 ///
-/// It reads the range and the raised range, and each term of the last alternative once more. It
-/// allocates the raised range. Only if the range has `||`, it also allocates the sets of the
-/// versions that both contain.
+/// It reads the range and the raised range, and each term of the last alternative once more. If the
+/// range has no `||`, it allocates only the raised range. For a pre-release it may allocate two
+/// strings, one after the other, of which the second one has three numbers where they are needed.
+/// If the range has `||`, it also allocates the range with one more alternative, and the sets of the
+/// versions of these ranges.
 ///
 /// # Errors
 ///
@@ -226,12 +228,7 @@ fn raised_range(
     let Some(last) = last_alternative(range, meaning.dialect) else {
         return Ok(None);
     };
-    let raised = raised_alternative(alloc, range, &last, version, meaning.dialect, form)?;
-    let Some(raised) = raised else {
-        return Ok(None);
-    };
-    let text = raised.as_str();
-    let in_place = replaced(alloc, range, &last, text)?;
+    let in_place = raised_in_place(alloc, range, &last, version, meaning.dialect, form)?;
     let Some(in_place) = in_place else {
         return Ok(None);
     };
@@ -246,7 +243,7 @@ fn raised_range(
     if keeps_all(&old, &set) {
         return Ok(Some(in_place));
     }
-    let longer = extended(alloc, range, &last, text)?;
+    let longer = raised_as_one_more(alloc, range, &last, version, meaning.dialect, form)?;
     let Some(longer) = longer else {
         return Ok(None);
     };

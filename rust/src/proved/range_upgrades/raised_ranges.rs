@@ -1,5 +1,5 @@
 // Made by tools/erase.py from crates/range_upgrades/src/raised_ranges.rt; not edited by hand.
-//! The text of a range whose last alternative is raised to a newer version.
+//! A range whose last alternative is raised to a newer version.
 
 use crate::rattle_std::prelude::*;
 use crate::proved::range_upgrades::alternatives::Alternative;
@@ -13,16 +13,73 @@ use crate::proved::tool_ranges::dialect::Dialect;
 use crate::proved::tool_ranges::meaning::Rules;
 use crate::proved::version_sets::PreReleases;
 
-/// Returns the text of the last alternative, in which each version that has to be raised is
-/// replaced. It is `None` if a number would be above 2^64 - 1. `Err` means out of memory.
-pub(crate) fn raised_alternative(
+/// Returns the range with its last alternative raised in place. It is `None` if the alternative
+/// isn't a part of the range, or a number would be above 2^64 - 1. `Err` means out of memory.
+pub(crate) fn raised_in_place(
     range: &str,
     last: &Alternative,
     version: &VersionRef<'_>,
     dialect: Dialect,
     form: Form,
 ) -> Result<Option<String>, AllocError> {
-    let mut raised = String::new();
+    let Some(before) = part(range, 0, last.start) else {
+        return Ok(None);
+    };
+    let Some(after) = part(range, last.end, range.len()) else {
+        return Ok(None);
+    };
+    let mut new = String::fallible_with_capacity(range.len())?;
+    new.fallible_push_str(before)?;
+    if !push_alternative(&mut new, range, last, version, dialect, form)? {
+        return Ok(None);
+    }
+    new.fallible_push_str(after)?;
+    Ok(Some(new))
+}
+
+/// Returns the range with its last alternative, raised, as one more alternative. It is `None` if
+/// the range has only one alternative, or the last one isn't a part of it, or a number would be
+/// above 2^64 - 1. `Err` means out of memory.
+pub(crate) fn raised_as_one_more(
+    range: &str,
+    last: &Alternative,
+    version: &VersionRef<'_>,
+    dialect: Dialect,
+    form: Form,
+) -> Result<Option<String>, AllocError> {
+    let Some(end) = last.before else {
+        return Ok(None);
+    };
+    let Some(before) = part(range, 0, last.end) else {
+        return Ok(None);
+    };
+    let Some(between) = part(range, end, last.start) else {
+        return Ok(None);
+    };
+    let Some(after) = part(range, last.end, range.len()) else {
+        return Ok(None);
+    };
+    let mut new = String::fallible_with_capacity(range.len().saturating_mul(2))?;
+    new.fallible_push_str(before)?;
+    new.fallible_push_str(between)?;
+    if !push_alternative(&mut new, range, last, version, dialect, form)? {
+        return Ok(None);
+    }
+    new.fallible_push_str(after)?;
+    Ok(Some(new))
+}
+
+/// Appends the last alternative to a string, in which each version that has to be raised is
+/// replaced. Returns false if the alternative isn't a part of the range, or a number would be above
+/// 2^64 - 1. `Err` means out of memory.
+fn push_alternative(
+    raised: &mut String,
+    range: &str,
+    last: &Alternative,
+    version: &VersionRef<'_>,
+    dialect: Dialect,
+    form: Form,
+) -> Result<bool, AllocError> {
     let mut copied = last.start;
     for term in of_range(range, dialect) {
         if !is_to_raise(range, last, &term, version, dialect) {
@@ -30,19 +87,19 @@ pub(crate) fn raised_alternative(
         }
         let written = last_version(&term);
         let Some(new) = raised_version(dialect, term.operator, &written, version, form) else {
-            return Ok(None);
+            return Ok(false);
         };
         let Some(kept) = part(range, copied, written.span.start) else {
-            return Ok(None);
+            return Ok(false);
         };
-        push_raised(&mut raised, kept, &new)?;
+        push_raised(raised, kept, &new)?;
         copied = written.span.end;
     }
     let Some(kept) = part(range, copied, last.end) else {
-        return Ok(None);
+        return Ok(false);
     };
     raised.fallible_push_str(kept)?;
-    Ok(Some(raised))
+    Ok(true)
 }
 
 /// Appends a part of the range that is kept, and then a raised version. `Err` means out of memory.
@@ -92,44 +149,6 @@ fn last_version<'t>(term: &Term<'t>) -> PartialVersion<'t> {
         Some(upper) => upper,
         None => term.version,
     }
-}
-
-/// Returns the range with another text for its last alternative, or `None` if the alternative isn't
-/// a part of the range. `Err` means out of memory.
-pub(crate) fn replaced(
-    range: &str,
-    last: &Alternative,
-    raised: &str,
-) -> Result<Option<String>, AllocError> {
-    let Some(before) = part(range, 0, last.start) else {
-        return Ok(None);
-    };
-    let Some(after) = part(range, last.end, range.len()) else {
-        return Ok(None);
-    };
-    Ok(Some(crate::rattle_std::fallible_format!("{before}{raised}{after}")?))
-}
-
-/// Returns the range with one more alternative after its last term, or `None` if the range has only
-/// one alternative. `Err` means out of memory.
-pub(crate) fn extended(
-    range: &str,
-    last: &Alternative,
-    raised: &str,
-) -> Result<Option<String>, AllocError> {
-    let Some(end) = last.before else {
-        return Ok(None);
-    };
-    let Some(before) = part(range, 0, last.end) else {
-        return Ok(None);
-    };
-    let Some(between) = part(range, end, last.start) else {
-        return Ok(None);
-    };
-    let Some(after) = part(range, last.end, range.len()) else {
-        return Ok(None);
-    };
-    Ok(Some(crate::rattle_std::fallible_format!("{before}{between}{raised}{after}")?))
 }
 
 /// Returns the part of a string between two offsets, or `None` if one of them divides a character
