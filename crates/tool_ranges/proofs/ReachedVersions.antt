@@ -27,7 +27,7 @@ use Rattle.tool_ranges.specs.Dialects.{SpellsAs, grammar_of}
 use Rattle.tool_ranges.specs.NpmMeaning.{matches_everything}
 use Rattle.tool_ranges.specs.Sides.{term_fits}
 use Rattle.tool_ranges.specs.Steps.Checked.{HasEvents}
-use Rattle.tool_ranges.specs.Steps.Cursors.{events_in, ranges_of}
+use Rattle.tool_ranges.specs.Steps.TextEvents.{events_in, ranges_of}
 use Rattle.tool_ranges.specs.Steps.Matching.{after, begun, counts, ended, is_met, lower_of, taken, takes_all, takes_releases, term_met}
 use Rattle.tool_ranges.specs.Steps.Reaching.{may_count, states_some}
 use Rattle.tool_ranges.proofs.BuiltSets.{every_is_met, met_is_met, met_of}

@@ -1,11 +1,12 @@
-use Rattle.std.proofs.Common.{◌≡◌, ◌&&◌, ◌||◌, List, [], Some, ap, refl, rules, sym, ◌∙◌}
+use Rattle.std.proofs.Common.{◌≡◌, ◌&&◌, ◌||◌, List, [], Some, ap, refl, rules, subst, sym, ◌∙◌}
 use Rattle.semver_texts.specs.Texts.{Text}
 use Rattle.semver_versions.specs.VersionRefs.{version_of}
 use Rattle.semver_ranges.specs.Steps.RangeEvents.{Event}
 use Rattle.version_sets.specs.Steps.Ends.{in_each}
+use Rattle.semver_texts.specs.declared.grammar.Grammar.{Grammar}
 use Rattle.tool_ranges.specs.Dialects.{grammar_of}
 use Rattle.tool_ranges.specs.Steps.Checked.{GivesEvent, HasEvents, IsCheckedAs}
-use Rattle.tool_ranges.specs.Steps.Cursors.{events_in, ranges_of}
+use Rattle.tool_ranges.specs.Steps.TextEvents.{events_in, ranges_of}
 use Rattle.tool_ranges.specs.Steps.Matching.{after, begun, counts, ended, lower_of, taken, takes_all, term_met}
 use Rattle.tool_ranges.specs.Steps.Reaching.{states_some}
 use Rattle.tool_ranges.proofs.LeftEvents.{FirstFits, first_fits, next_first}
@@ -74,8 +75,8 @@ loop-event-preserved c = λ t is.
     let rule = c.args.rule in
     let all = takes_all rule in
     let so_far = c.loop-event.invariant t is in
-    let gives : (left : List Event) → HasEvents (grammar_of d) c.loop-event.terms left
-    → GivesEvent (grammar_of d) left (Some c.in-Some.event) c.next.new.self = search rules in
+    let gives = subst (λ (g : Grammar). (left : List Event) → HasEvents g c.loop-event.terms left
+    → GivesEvent g left (Some c.in-Some.event) c.next.new.self) c.grammar-grammar.ensures.grammar c.in-Some.ensures.gives in
     let next = next_first (grammar_of d) d so_far.1 c.next.new.self so_far.5 (rw c.in-NextRange.is at (gives so_far.1 so_far.4)) in (
       so_far.0,
       next.0,

@@ -10,7 +10,7 @@ use Rattle.tool_ranges.specs.declared.matching.Progress.{Progress}
 use Rattle.tool_ranges.specs.Dialects.{SpellsAs, grammar_of}
 use Rattle.tool_ranges.specs.Sides.{term_fits}
 use Rattle.tool_ranges.specs.Steps.Checked.{HasEvents, IsCheckedAs, size_after}
-use Rattle.tool_ranges.specs.Steps.Cursors.{events_in, ranges_of}
+use Rattle.tool_ranges.specs.Steps.TextEvents.{events_in, ranges_of}
 use Rattle.tool_ranges.specs.Steps.Matching.{after, begun, counts, lower_of, takes_all}
 use Rattle.tool_ranges.proofs.ReachedVersions.{Knows}
 use Rattle.tool_ranges.proofs.at_or_above.has_from.Given as goal
