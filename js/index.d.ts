@@ -163,6 +163,11 @@ export interface Explanation {
   readonly sentence: string
   /** The valid string that may have been meant, or null if none is known. It differs from the string only in the spans of errors. */
   readonly suggestion: string | null
+  /**
+   * Three lines for a terminal: why the string is invalid, the string, and carets below its span. Characters other than
+   * the printable ones of ASCII are escaped there. It is made when it is read, and isn't enumerable.
+   */
+  readonly withCarets: string
 }
 
 /** A version or a range is invalid. */
@@ -180,6 +185,7 @@ export declare class SemverError extends TypeError implements Explanation {
   readonly reason: Reason
   readonly sentence: string
   readonly suggestion: string | null
+  readonly withCarets: string
 }
 
 /** A requirement can't be raised to a version: the raised range wouldn't contain it. */

@@ -69,6 +69,6 @@ for source in "$work"/manual/*.c; do
 done
 manual=$work/manual/semver_parser
 [ "$("$manual" '^1.2' 1.9.0 2.0.0 1.2 1.10.0)" = "$(printf '1.9.0\n1.10.0\nhighest: 1.10.0')" ]
-[ "$("$manual" '^1,' 2>&1)" = "$(printf 'invalid range "^1," at offset 2: %s\n    ^1,\n      ^' \
+[ "$("$manual" '^1,' 2>&1)" = "$(printf 'invalid range: %s\n    ^1,\n      ^' \
     'npm separates comparators by spaces; Cargo takes commas')" ]
 echo 'C functions: passed'

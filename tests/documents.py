@@ -254,8 +254,8 @@ def is_exported(crate, path, name):
     source = read(path)
     module = os.path.basename(path)[:-3]
     top = read(f'crates/{crate}/src/lib.rt')
-    return f'pub struct {name}' in source or f'pub enum {name}' in source if f'pub mod {module};' in top else bool(
-        re.search(rf'pub use [^;]*\b{name}\b', top))
+    is_here = f'pub struct {name}' in source or f'pub enum {name}' in source
+    return f'pub mod {module};' in top and is_here or bool(re.search(rf'pub use [^;]*\b{name}\b', top))
 
 
 def returns_something(lines):

@@ -23,19 +23,30 @@ export function stringOrNull(returned) {
   return returned === 0 ? stringBack() : null
 }
 
+/**
+ * Gives an object `withCarets`, which is made when it is read. It isn't enumerable, so it isn't
+ * shown or copied together with the fields that it repeats.
+ */
+function addCarets(object, kind, string, { dialect }) {
+  const get = () => stringOrNull(callWith(`${kind}_with_carets`, string, dialect))
+  return Object.defineProperty(object, 'withCarets', { get, configurable: true })
+}
+
 /** Where and why a version or a range is invalid, and what may be meant; null if it is valid. */
-export function explained(kind, string, { dialect }) {
+export function explained(kind, string, meaning) {
+  const { dialect } = meaning
   const number = callWith(`${kind}_refused`, string, dialect)
   if (number === 0) return null
   if (number < 0) throw new RangeError('out of memory')
   const [offset, start, end] = [0, 1, 2].map(numberAt).map(indicesIn(string))
-  return {
+  const explanation = {
     offset,
     span: Object.freeze({ start, end }),
     reason: reasonOf(number),
     sentence: sentenceOf(number),
     suggestion: stringOrNull(callWith(`${kind}_suggested`, string, dialect)),
   }
+  return addCarets(explanation, kind, string, meaning)
 }
 
 /** A string, as a message shows it. */
@@ -51,11 +62,12 @@ export class SemverError extends TypeError {
     })
   }
 
-  constructor(kind, argument, input, explanation) {
+  constructor(kind, argument, input, explanation, meaning) {
     const { offset, sentence } = explanation
     super(`${BEGINS[kind]}: ${shortened(input)} (offset ${offset}: ${sentence})`)
     const fields = { kind, argument, input, ...explanation }
     for (const [name, value] of Object.entries(fields)) field(this, name, value)
+    addCarets(this, kind, input, meaning)
   }
 }
 
@@ -67,9 +79,8 @@ export class UpgradeError extends TypeError {
     })
   }
 
-  constructor(range, version) {
-    const shown = `${shortened(range)}, ${shortened(version)}`
-    super(`the requirement can't be raised to this version: ${shown}`)
+  constructor(range, version, message) {
+    super(message)
     field(this, 'range', range)
     field(this, 'version', version)
   }
@@ -77,13 +88,13 @@ export class UpgradeError extends TypeError {
 
 /** Why a string wasn't read as a version. */
 export const invalidVersion = (string, meaning, argument = 0) =>
-  new SemverError('version', argument, string, explained('version', string, meaning))
+  new SemverError('version', argument, string, explained('version', string, meaning), meaning)
 
 /** Why a string wasn't read as a range: it is invalid, or memory ran out. */
 export function invalidRange(string, meaning, argument = 0) {
   const explanation = explained('range', string, meaning)
   if (explanation === null) return new RangeError('out of memory')
-  return new SemverError('range', argument, string, explanation)
+  return new SemverError('range', argument, string, explanation, meaning)
 }
 
 export const noString = (what, value) =>

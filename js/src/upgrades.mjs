@@ -1,5 +1,5 @@
 // Requirements that are raised.
-import { upgradeOnce } from './calls.mjs'
+import { stringBack, upgradeOnce } from './calls.mjs'
 import { UpgradeError, invalidRange, invalidVersion, noString, stringOrNull } from './errors.mjs'
 import { meaningFor } from './options.mjs'
 import { stringOf } from './versions.mjs'
@@ -16,6 +16,6 @@ export function upgrade(range, version, options) {
   const returned = upgradeOnce(range, string, meaning.dialect, meaning.rule)
   if (returned === INVALID_VERSION) throw invalidVersion(string, meaning, 1)
   if (returned === INVALID_RANGE) throw invalidRange(range, meaning)
-  if (returned === CANNOT_UPGRADE) throw new UpgradeError(range, string)
+  if (returned === CANNOT_UPGRADE) throw new UpgradeError(range, string, stringBack())
   return stringOrNull(returned)
 }

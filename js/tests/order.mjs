@@ -33,7 +33,7 @@ const shown = (value) => value instanceof Promise ? 'a promise' : inspect(value,
 
 function shownError(error) {
   const kind = `${error.constructor.name} ${error.name}`
-  return `throws ${kind}: ${error.message} ${shown({ ...error })}`
+  return `throws ${kind}: ${error.message} ${shown({ ...error, withCarets: error.withCarets })}`
 }
 
 /** An instance of the package, and the objects that were made in it. */

@@ -141,6 +141,22 @@ test('the span of an error', () => {
   for (const [string, options, start, end] of ranges) assert.deepEqual(semver.explainRange(string, options).span, { start, end }, string)
 })
 
+// tests/messages.py compares more of them with what Rust prints.
+test('an error with carets', () => {
+  const lines = "invalid range: Cargo doesn't accept ||; npm does\n    1 || 2\n      ^^"
+  const why = semver.explainRange('1 || 2', cargo)
+  assert.equal(why.withCarets, lines)
+  assert.deepEqual(Object.keys(why), ['offset', 'span', 'reason', 'sentence', 'suggestion'])
+  assert.throws(() => new semver.Range('1 || 2', cargo), (error) => {
+    assert.throws(() => { error.withCarets = '' }, TypeError)
+    return error.withCarets === lines
+  })
+  assert.throws(() => semver.compare('1.2.3', '1.2.03', cargo), {
+    withCarets: 'invalid version: numbers and identifiers of digits may not have a leading zero\n    1.2.03\n        ^^',
+  })
+  assert.equal(semver.explainRange('\n\té|').withCarets, 'invalid range: unexpected character\n    \\n\\t\\u{e9}|\n        ^^^^^^')
+})
+
 test('what may have been meant', () => {
   const versions = [['v1.2', cargo, '1.2.0'], ['1.2.03', {}, '1.2.3'], ['=1.2.3', cargo, '1.2.3'], ['latest', {}, null]]
   for (const [string, options, right] of versions) assert.equal(semver.explainVersion(string, options).suggestion, right, string)
@@ -290,7 +306,7 @@ test('a requirement that cannot be raised, and invalid strings', () => {
     assert.ok(error instanceof semver.UpgradeError && error instanceof TypeError && !(error instanceof semver.SemverError))
     assert.throws(() => { error.range = '' }, TypeError)
     assert.deepEqual({ ...error }, { range: '1.x', version: '2.0.0-rc.1' })
-    return String(error) === "UpgradeError: the requirement can't be raised to this version: 1.x, 2.0.0-rc.1"
+    return String(error) === 'UpgradeError: the requirement can\'t be raised to this version: "1.x"'
   })
   assert.equal(semver.satisfies('2.0.0-rc.1', call({ preReleases: 'included' }), { preReleases: 'included' }), true)
   assert.throws(() => semver.upgrade('^1.2', '2.0.0-rc.1', { preReleases: 'excluded' }), { name: 'UpgradeError' })
@@ -589,6 +605,14 @@ test('the example of the README', () => {
     const found = Function(...Object.keys(all), `return ${call}`)(...Object.values(all))
     assert.deepEqual(found, Function(`return (${right})`)(), call)
   }
+})
+
+test('the example of an error in the README', () => {
+  const readme = readFileSync(new URL('node_modules/semver-parser-proved/README.md', import.meta.url), 'utf8')
+  const [, code, right] = /```js\n(try \{[^]*?)```[^]*?```text\n([^]*?)\n```/.exec(readme)
+  const printed = []
+  Function('Range', 'console', code)(semver.Range, { error: (line) => printed.push(line) })
+  assert.deepEqual(printed, [right])
 })
 
 // Each line with a result in the example of terms, after the lines before it.

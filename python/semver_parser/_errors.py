@@ -5,7 +5,7 @@ from typing import Literal, NamedTuple, Optional, Tuple, cast
 from ._interface import CANNOT_UPGRADE, INVALID_RANGE, INVALID_VERSION, OK, CError, CVersion
 from ._library import LIBRARY, check
 from ._options import AnyDialect, Dialect, dialect_of
-from ._strings import String, c_string, index_of, printed_or_none
+from ._strings import String, c_string, index_of, printed, printed_or_none
 
 Reason = Literal[
     "empty",
@@ -61,10 +61,9 @@ def _shown(string: String) -> str:
     return shown
 
 
-def _escaped(string: String) -> str:
-    """Returns a string in which all characters but the printable ones of ASCII are escaped."""
-    text = string if isinstance(string, str) else string.decode("utf-8", "backslashreplace")
-    return "".join(it if " " <= it <= "~" else ascii(it)[1:-1] for it in text)
+def _message_of(error: CError, string: String) -> str:
+    """Returns the message of an error of a string, with carets below its span if it has one."""
+    return printed(LIBRARY.semver_parser_error_message, error, c_string(string), True)
 
 
 class SemverError(ValueError):
@@ -206,7 +205,7 @@ class SemverError(ValueError):
 
     def __format__(self, specification: str) -> str:
         """Returns `str(self)`. With `#`, the string is in a line of its own, and carets are below its
-        span. Characters other than printable ones of ASCII are escaped there.
+        span. Characters other than printable ones of ASCII are escaped there, as in Rust: `\\u{e9}`.
 
         >>> print(f"{RangeError('1 || 2', 'cargo'):#}")
         invalid range: Cargo doesn't accept ||; npm does
@@ -215,14 +214,10 @@ class SemverError(ValueError):
         """
         if specification != "#":
             return format(str(self), specification)
-        explained = self._explained()
-        start, end = explained.span
-        before, marked = _escaped(self.string[:start]), _escaped(self.string[start:end])
-        return (
-            f"{_text_of(explained.status)}: {explained.sentence}\n"
-            f"    {before}{marked}{_escaped(self.string[end:])}\n"
-            f"    {' ' * len(before)}{'^' * max(1, len(marked))}"
-        )
+        error = self._read()
+        if error is None:
+            raise self._valid()
+        return _message_of(error, self.string)
 
 
 class VersionError(SemverError):
@@ -285,5 +280,4 @@ class UpgradeError(ValueError):
         self.version = version
 
     def __str__(self) -> str:
-        what = _text_of(CANNOT_UPGRADE)
-        return f"{what}: {_shown(self.range)}, {_shown(self.version)}"
+        return _message_of(CError(status=CANNOT_UPGRADE), self.range)

@@ -129,6 +129,7 @@ def _status_functions() -> Dict[str, List[Any]]:
         "replace_version": [one, to(CPartialVersion), one, number, printed, error],
         "terms_of_range": [one, number, to(CTerm), size, to(size), error],
         "upgrade": [one, one, COptions, printed, error],
+        "error_message": [error, one, flag, printed],
         "suggestion": [error, one, number, printed],
     }
 

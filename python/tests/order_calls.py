@@ -216,7 +216,7 @@ TEMPLATES: List[str] = [
     *("{Comparison}." + it for it in ("lost", "gained", "shared")),
     *("{Comparison}." + it for it in ("overlaps", "is_subset", "is_equal")),
     *("{Error}." + it for it in ("string", "dialect", "index", "offset", "reason", "sentence")),
-    *["{Error}.span", "{Error}.suggestion"],
+    *["{Error}.span", "{Error}.suggestion", "format({Error}, '#')"],
     *("str({Error})", "pickle.loads(pickle.dumps({Error}))", "isinstance({Error}, SemverError)"),
     "str(Comparators({Range}.comparators))",
 ]

@@ -491,11 +491,16 @@ class Errors(unittest.TestCase):
             (RangeError(">=", "npm"), "invalid range: a number is expected\n    >=\n      ^"),
             (
                 RangeError("\n\té|", "npm"),
-                "invalid range: unexpected character\n    \\n\\t\\xe9|\n        ^^^^",
+                "invalid range: unexpected character\n    \\n\\t\\u{e9}|\n        ^^^^^^",
             ),
             (
                 RangeError(b"1.2 \xff", "npm"),
-                "invalid range: the string isn't UTF-8\n    1.2 \\xff\n        ^^^^",
+                "invalid range: the string isn't UTF-8\n    1.2 \\u{fffd}\n        ^^^^^^^^",
+            ),
+            (
+                RangeError(">=9007199254740992", "npm"),
+                "invalid range: npm's numbers are at most 2^53 - 1\n    >=9007199254740992\n"
+                "      ^^^^^^^^^^^^^^^^",
             ),
             (
                 VersionError("1.2.03", "cargo"),

@@ -376,62 +376,66 @@ static void message_of(const semver_parser_error *error, const text *of, bool ca
     semver_parser_free(made);
 }
 
-/* A range, and its message with a caret. Without one, the message is only the first line. */
+/* A range, its message, and the lines with carets, which are what `{:#}` prints in Rust:
+ * tests/messages.py compares more of them. */
 static const struct {
     int dialect;
     const char *range;
     const char *message;
+    const char *lines;
 } messages[] = {
-    {CARGO, "1 || 2",
-     "invalid range \"1 || 2\" at offset 2: Cargo doesn't accept ||; npm does\n"
+    {CARGO, "1 || 2", "invalid range \"1 || 2\" at offset 2: Cargo doesn't accept ||; npm does",
+     "invalid range: Cargo doesn't accept ||; npm does\n"
      "    1 || 2\n"
-     "      ^"},
-    {CARGO, ">=",
-     "invalid range \">=\" at offset 2: a number is expected\n"
+     "      ^^"},
+    {CARGO, ">=", "invalid range \">=\" at offset 2: a number is expected",
+     "invalid range: a number is expected\n"
      "    >=\n"
      "      ^"},
-    /* Quotes, and what isn't a printable character of ASCII, are escaped in both lines. */
-    {NPM, "1\t\"",
-     "invalid range \"1\\t\\\"\" at offset 2: unexpected character\n"
+    /* Quotes, and what isn't a printable character of ASCII, are escaped. */
+    {NPM, "1\t\"", "invalid range \"1\\t\\\"\" at offset 2: unexpected character",
+     "invalid range: unexpected character\n"
      "    1\\t\\\"\n"
-     "       ^"},
-    {CARGO, "\xC3\xA9",
-     "invalid range \"\\u{e9}\" at offset 0: unexpected character\n"
+     "       ^^"},
+    {CARGO, "\xC3\xA9", "invalid range \"\\u{e9}\" at offset 0: unexpected character",
+     "invalid range: unexpected character\n"
      "    \\u{e9}\n"
-     "    ^"},
+     "    ^^^^^^"},
     {NPM, "\xC2\xA0 1 \xF0\x9B\x84\xA3",
-     "invalid range \"\\u{a0} 1 \\u{1b123}\" at offset 5: unexpected character\n"
+     "invalid range \"\\u{a0} 1 \\u{1b123}\" at offset 5: unexpected character",
+     "invalid range: unexpected character\n"
      "    \\u{a0} 1 \\u{1b123}\n"
-     "             ^"},
-    {CARGO, "1.2.\xFF",
-     "invalid range \"1.2.\\u{fffd}\" at offset 4: the string isn't UTF-8\n"
+     "             ^^^^^^^^^"},
+    {CARGO, "1.2.\xFF", "invalid range \"1.2.\\u{fffd}\" at offset 4: the string isn't UTF-8",
+     "invalid range: the string isn't UTF-8\n"
      "    1.2.\\u{fffd}\n"
-     "        ^"},
+     "        ^^^^^^^^"},
     {CARGO, "^18446744073709551616",
-     "number too large in range \"^18446744073709551616\" at offset 1: numbers are at most 2^64 - 1\n"
+     "number too large in range \"^18446744073709551616\" at offset 1: numbers are at most 2^64 - 1",
+     "invalid range: numbers are at most 2^64 - 1\n"
      "    ^18446744073709551616\n"
-     "     ^"},
+     "     ^^^^^^^^^^^^^^^^^^^^"},
     {CARGO, "~1.18446744073709551615",
      "number too large in range \"~1.18446744073709551615\" at offset 3: the bound above this number "
-     "is above 2^64 - 1\n"
+     "is above 2^64 - 1",
+     "invalid range: the bound above this number is above 2^64 - 1\n"
      "    ~1.18446744073709551615\n"
-     "       ^"},
-    /* Of a long string, 32 bytes before the offset and after it are shown. */
+     "       ^^^^^^^^^^^^^^^^^^^^"},
+    /* In a sentence, 32 bytes of a long string before the offset and after it are shown. */
     {NPM, "1.0.0 || 2.0.0 || 3.0.0 || 4.0.0 || 5.0.0, 6 || 7.0.0 || 8.0.0 || 9.0.0 || 10.0.0",
      "invalid range ...\"2.0.0 || 3.0.0 || 4.0.0 || 5.0.0, 6 || 7.0.0 || 8.0.0 || 9.0.0 |\"... at "
-     "offset 41: npm separates comparators by spaces; Cargo takes commas\n"
-     "    ...2.0.0 || 3.0.0 || 4.0.0 || 5.0.0, 6 || 7.0.0 || 8.0.0 || 9.0.0 |...\n"
-     "                                       ^"},
+     "offset 41: npm separates comparators by spaces; Cargo takes commas",
+     "invalid range: npm separates comparators by spaces; Cargo takes commas\n"
+     "    1.0.0 || 2.0.0 || 3.0.0 || 4.0.0 || 5.0.0, 6 || 7.0.0 || 8.0.0 || 9.0.0 || 10.0.0\n"
+     "                                             ^"},
 };
 
 static void messages_of_ranges(void) {
     for (size_t at = 0; at < sizeof messages / sizeof *messages; at++) {
         text range = string(messages[at].range);
         outcome told = check_range(&range, messages[at].dialect);
-        text first = string_of(messages[at].message, strcspn(messages[at].message, "\n"));
-        message_of(&told, &range, true, messages[at].message);
-        message_of(&told, &range, false, first.bytes);
-        text_free(&first);
+        message_of(&told, &range, false, messages[at].message);
+        message_of(&told, &range, true, messages[at].lines);
         text_free(&range);
     }
 }
@@ -439,23 +443,35 @@ static void messages_of_ranges(void) {
 static void other_messages(void) {
     text version = string("1.2.03");
     text empty = string("");
+    text requirement = string("1.x\t");
     semver_parser_version parsed;
     semver_parser_error error = parse(&version, CARGO, &parsed);
     message_of(&error, &version, false,
                "invalid version \"1.2.03\" at offset 5: numbers and identifiers of digits may not "
                "have a leading zero");
     /* A string that isn't the one of the error: the offset is after its end. */
-    message_of(&error, &empty, true,
+    message_of(&error, &empty, false,
                "invalid version \"\" at offset 5: numbers and identifiers of digits may not "
-               "have a leading zero\n    \n    ^");
+               "have a leading zero");
+    message_of(&error, &empty, true,
+               "invalid version: numbers and identifiers of digits may not have a leading zero\n"
+               "    \n"
+               "    ^");
     error = no_error;
     message_of(&error, &version, true, "no error");
     error.status = SEMVER_PARSER_OUT_OF_MEMORY;
     message_of(&error, &version, true, "out of memory");
     error.status = SEMVER_PARSER_INVALID_ARGUMENT;
     message_of(&error, &version, false, "invalid argument");
+    /* A requirement that can't be raised is named in both messages, as in Rust. */
+    error.status = SEMVER_PARSER_CANNOT_UPGRADE;
+    for (int caret = 0; caret < 2; caret++) {
+        message_of(&error, &requirement, caret,
+                   "the requirement can't be raised to this version: \"1.x\\t\"");
+    }
     text_free(&version);
     text_free(&empty);
+    text_free(&requirement);
 }
 
 static void library_version(void) {

@@ -175,6 +175,13 @@ static semver_parser_status message(const arguments *with, outputs *to) {
     return semver_parser_error_message(&error, with->strings[1], true, &to->string);
 }
 
+static semver_parser_status message_of_upgrade(const arguments *with, outputs *to) {
+    semver_parser_error error;
+    memset(&error, 0, sizeof error);
+    error.status = SEMVER_PARSER_CANNOT_UPGRADE;
+    return semver_parser_error_message(&error, with->strings[1], false, &to->string);
+}
+
 static semver_parser_status make_list(const arguments *with, outputs *to) {
     return semver_parser_comparators_of_range(
         with->strings[1], with->options.dialect, true, &to->list, with->error);
@@ -232,6 +239,7 @@ static const struct {
     {is_disjoint, "range_is_disjoint", NOTHING, false, true},
     {check_range, "check_range", NOTHING, false, true},
     {message, "error_message", STRING, true, false},
+    {message_of_upgrade, "error_message", STRING, true, false},
     {is_empty, "range_is_empty", NOTHING, false, false},
     {lowest_version, "range_lowest_version", STRING, true, false},
     {print, "range_to_string", STRING, true, false},

@@ -48,10 +48,13 @@ abbrev pub reason_lines : Expected → Reason → Text → Text
 reason_lines e reason t = kind_text (invalid_kind e) ++ (codes ": " ++ (sentence_of reason
     ++ (codes "\n    " ++ (escaped t ++ codes "\n    "))))
 
--- what `{:#}` prints: for an invalid text the reason, then the text, and below it carets for the
--- span; otherwise the same line
+-- an invalid text: the reason, then the text, and below it carets for the span
+abbrev pub marked_text : Expected → Reason → Text → Span → Text
+marked_text e reason t span = reason_lines e reason t ++ caret_line t span
+
+-- what `{:#}` prints: an invalid text with carets below the span; otherwise the same line
 abbrev pub marked_of : ErrorValue → Text
-marked_of (Invalid e d t place) = reason_lines e place.reason t ++ caret_line t place.span
+marked_of (Invalid e d t place) = marked_text e place.reason t place.span
 marked_of (CannotUpgrade t) = line_of (CannotUpgrade t)
 marked_of (UnknownName name known) = line_of (UnknownName name known)
 marked_of DifferentRules = line_of DifferentRules

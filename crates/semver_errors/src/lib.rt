@@ -4,6 +4,6 @@
 pub mod conversions;
 pub mod error;
 pub mod names;
-mod printing;
+pub mod printing;
 
 pub use error::{Error, Kind};

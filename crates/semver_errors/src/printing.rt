@@ -4,7 +4,7 @@ ghost use Rattle.std.specs.Prelude.{◌≡◌, ◌++◌, None};
 ghost use Rattle.std.specs.Fmt.{WritesOnOk, WritesStyledOnOk};
 ghost use Rattle.invalid_strings.specs.Escaping.{escaped};
 ghost use Rattle.semver_errors.specs.ErrorTexts.{caret_line, kind_text, line_of, marked_of};
-ghost use Rattle.semver_errors.specs.ErrorTexts.{reason_lines};
+ghost use Rattle.semver_errors.specs.ErrorTexts.{marked_text, reason_lines};
 ghost use Rattle.semver_errors.specs.ErrorValues.{HasSpan, IsBetweenCharacters, place_of, value_of};
 
 use crate::error::{Cause, Error, Kind, invalid_kind};
@@ -69,12 +69,27 @@ fn write_marked<W: fmt::Write>(f: &mut fmt::Formatter<W>, cause: &Cause) -> fmt:
             reason,
             span,
             ..
-        } => {
-            write_reason_lines(f, *expected, *reason, string.as_str())?;
-            write_carets(f, string.as_str(), *span)
-        }
+        } => write_with_carets(f, *expected, *reason, string.as_str(), *span),
         _ => write_without_place(f, cause),
     }
+}
+
+// Determined by: equation.
+/// Writes what `{:#}` prints for an invalid string: why it is invalid, the string in a line of its
+/// own, and carets below a span of it.
+pub fn write_with_carets<W: fmt::Write>(
+    f: &mut fmt::Formatter<W>,
+    expected: Expected,
+    reason: Reason,
+    text: &str,
+    span: Span,
+) -> fmt::Result
+    requires { IsBetweenCharacters text.now span }
+    ensures { WritesStyledOnOk W.write_str_gives f.old result
+        (marked_text expected reason text.now span) f.new }
+{
+    write_reason_lines(f, expected, reason, text)?;
+    write_carets(f, text, span)
 }
 
 /// Writes the line of an error that doesn't have the place of an error in a string. For others it

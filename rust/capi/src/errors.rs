@@ -35,6 +35,11 @@ impl Error {
             _ => None,
         }
     }
+
+    /// Returns whether a range can't be raised to a version.
+    pub fn is_about_upgrade(&self) -> bool {
+        self.status == CANNOT_UPGRADE
+    }
 }
 
 /// What is wrong with a call. `index` says which of its strings is wrong. If two ranges have

@@ -2,9 +2,8 @@
 
 use crate::errors::{Error, Problem};
 use crate::proved::invalid_strings::escaped::Escaped;
-use crate::rattle_std::{FallibleString, FallibleToString};
-use crate::shared::Reason;
-use alloc::string::String;
+use crate::rattle_std::FallibleToString;
+use crate::shared::{cannot_upgrade, Reason, WithCarets};
 use core::ffi::c_char;
 use core::fmt::{self, Display, Formatter};
 use core::{mem::ManuallyDrop, ptr};
@@ -51,31 +50,44 @@ pub fn printed<'a>(value: impl Display) -> Result<*mut c_char, Problem<'a>> {
     Ok(ManuallyDrop::new(string).as_mut_ptr().cast())
 }
 
+/// Makes the message of an error, whose string is `of`. With `caret`, it is what `{:#}` prints in
+/// Rust.
+pub fn of_error<'a>(error: &Error, of: &[u8], caret: bool) -> Result<*mut c_char, Problem<'a>> {
+    if error.is_about_upgrade() {
+        return printed(cannot_upgrade(&Decoded(of).fallible_to_string()?)?);
+    }
+    let status = text_of(&STATUS_TEXTS, error.status).unwrap_or("unknown error\0");
+    let status = status.trim_end_matches('\0');
+    match (Reason::from_number(error.reason), error.expected()) {
+        (None, _) => printed(status),
+        (Some(reason), Some(expected)) if caret => {
+            let (before, after) = of.split_at(of.len().min(error.offset));
+            let before = Decoded(before).fallible_to_string()?;
+            let string = format_args!("{before}{}", Decoded(after)).fallible_to_string()?;
+            printed(WithCarets { expected, reason, string: &string, offset: before.len() })
+        }
+        (Some(reason), _) => sentence(status, of, error.offset, reason),
+    }
+}
+
 /// How many bytes of a long string are shown before and after the offset.
 const REACH: usize = 32;
 
-pub fn of_error<'a>(error: &Error, of: &[u8], caret: bool) -> Result<*mut c_char, Problem<'a>> {
-    let status = text_of(&STATUS_TEXTS, error.status).unwrap_or("unknown error\0");
-    let status = status.trim_end_matches('\0');
-    let Some(reason) = Reason::from_number(error.reason) else { return printed(status) };
-    let offset = of.len().min(error.offset);
-    let begin = boundary(of, offset.saturating_sub(REACH));
-    let end = boundary(of, of.len().min(offset + REACH)).max(offset);
+/// Makes the sentence of an error in a string, of which it shows the part around the offset.
+fn sentence<'a>(
+    status: &str,
+    of: &[u8],
+    offset: usize,
+    reason: Reason,
+) -> Result<*mut c_char, Problem<'a>> {
+    let at = of.len().min(offset);
+    let begin = boundary(of, at.saturating_sub(REACH));
+    let end = boundary(of, of.len().min(at + REACH)).max(at);
     let left = if begin > 0 { "..." } else { "" };
     let right = if end < of.len() { "..." } else { "" };
-    let shown = Shown(&of[begin..end]);
-    let before = format_args!("{left}{}", Shown(&of[begin..offset])).fallible_to_string()?;
-    let mut text = String::new();
-    text.write_fmt(format_args!("{status} {left}\"{shown}\"{right} at offset "))?;
-    text.write_fmt(format_args!("{}: {reason}", error.offset))?;
-    if caret {
-        text.write_fmt(format_args!("\n    {left}{shown}{right}\n    "))?;
-        for _ in before.bytes() {
-            text.write_fmt(format_args!(" "))?;
-        }
-        text.write_fmt(format_args!("^"))?;
-    }
-    printed(text)
+    let shown = Decoded(&of[begin..end]).fallible_to_string()?;
+    let shown = Escaped { text: &shown };
+    printed(format_args!("{status} {left}\"{shown}\"{right} at offset {offset}: {reason}"))
 }
 
 /// Returns the last offset up to the given one that isn't within a character.
@@ -84,14 +96,14 @@ fn boundary(bytes: &[u8], offset: usize) -> usize {
     (offset.saturating_sub(3)..=offset).rev().find(|at| !is_within(at)).unwrap_or(offset)
 }
 
-/// A string as it is shown. Bytes that aren't UTF-8 are shown as U+FFFD.
-struct Shown<'a>(&'a [u8]);
+/// A string from its bytes, with U+FFFD instead of those that aren't UTF-8.
+struct Decoded<'a>(&'a [u8]);
 
-impl Display for Shown<'_> {
+impl Display for Decoded<'_> {
     fn fmt(&self, f: &mut Formatter<'_>) -> fmt::Result {
         self.0.utf8_chunks().try_for_each(|it| {
-            let wrong = if it.invalid().is_empty() { "" } else { "\u{FFFD}" };
-            write!(f, "{}{}", Escaped { text: it.valid() }, Escaped { text: wrong })
+            f.write_str(it.valid())?;
+            f.write_str(if it.invalid().is_empty() { "" } else { "\u{FFFD}" })
         })
     }
 }

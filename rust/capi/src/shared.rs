@@ -11,6 +11,7 @@ pub use crate::proved::repaired_strings::errors::Expected;
 pub use crate::proved::repaired_strings::repairs::repaired;
 pub(crate) use crate::proved::repaired_strings::spans::span_at;
 pub use crate::proved::requirements::requirement::requirement;
+pub use crate::proved::semver_errors::{Error, Kind};
 pub use crate::proved::semver_ranges::RangeError;
 pub use crate::proved::semver_versions::version::{read_ref_in, VersionRef};
 pub use crate::proved::tool_ranges::dialect::{rewrite, Dialect};
@@ -22,6 +23,8 @@ pub use crate::proved::version_sets::{Combination, PreReleases};
 pub use crate::rattle_std::AllocError;
 
 use crate::proved::invalid_strings::refusals::{explain, Refusal};
+use crate::proved::semver_errors::printing::write_with_carets;
+use core::fmt::{self, Display, Formatter};
 
 /// Returns where and why bytes are an invalid version in a dialect, or `None` if they are valid. It
 /// allocates only if they are invalid.
@@ -42,4 +45,29 @@ pub fn version_at(
     Ok(versions.find(|it| it.span.start == start).map(|written| {
         (&range[..start], written, &range[written.span.end..])
     }))
+}
+
+/// An error of a string, which is printed as `{:#}` prints it in Rust.
+pub struct WithCarets<'a> {
+    pub expected: Expected,
+    pub reason: Reason,
+    pub string: &'a str,
+    /// The offset of the error, which is between characters of the string.
+    pub offset: usize,
+}
+
+impl Display for WithCarets<'_> {
+    fn fmt(&self, f: &mut Formatter<'_>) -> fmt::Result {
+        let span = span_at(self.string, self.offset, self.reason);
+        write_with_carets(f, self.expected, self.reason, self.string, span)
+    }
+}
+
+/// Returns the error of a range that can't be raised to a version. `Err` means out of memory.
+pub fn cannot_upgrade(range: &str) -> Result<Error, AllocError> {
+    let error = Error::cannot_upgrade(range);
+    match error.kind() {
+        Kind::OutOfMemory => Err(AllocError),
+        _ => Ok(error),
+    }
 }

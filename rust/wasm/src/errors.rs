@@ -1,7 +1,8 @@
 //! Errors of strings: which part of a string is invalid, and what may have been meant.
 
+use crate::proved::repaired_strings::errors::first_error;
 use crate::ranges::show;
-use crate::shared::{repaired, span_at, Dialect, Expected, Reason, Span};
+use crate::shared::{repaired, span_at, Dialect, Expected, Reason, Span, WithCarets};
 use crate::{state, status};
 use alloc::string::String;
 use core::str::from_utf8;
@@ -18,6 +19,21 @@ pub fn refused(string: &[u8], offset: usize, reason: Reason) -> i32 {
         }
     });
     reason.number()
+}
+
+/// Outputs what `{:#}` prints in Rust for the error of a string. Returns 0, or 1 if the string is
+/// valid, or the status for out of memory.
+pub fn show_with_carets(expected: Expected, string: &[u8], dialect: i32) -> i32 {
+    let (Some(dialect), Ok(string)) = (Dialect::from_number(dialect), from_utf8(string)) else {
+        return 1;
+    };
+    match first_error(expected, dialect, string) {
+        Ok(Some(it)) => {
+            show(WithCarets { expected, reason: it.reason, string, offset: it.offset })
+        }
+        Ok(None) => 1,
+        Err(_) => status::OUT_OF_MEMORY,
+    }
 }
 
 /// Outputs the valid string that may have been meant. Returns 0, or 1 if none is known, or the

@@ -2,9 +2,9 @@
 
 use crate::proved::tool_ranges::npm::rewrite_included;
 use crate::shared::{self, rewrite, Combination, Dialect, Extreme, PreReleases, RangeError, Reason};
-use crate::errors::{refused, show_if_any, suggest};
+use crate::errors::{refused, show_if_any, show_with_carets, suggest};
+use crate::shared::{cannot_upgrade, upgraded, UpgradeError};
 use crate::shared::{requirement, Expected, Rules, SatisfiesError, VersionRange as Range};
-use crate::shared::{upgraded, UpgradeError};
 use crate::{bytes, state, status};
 use alloc::alloc::{alloc, Layout};
 use alloc::boxed::Box;
@@ -52,7 +52,8 @@ pub unsafe extern "C" fn range_satisfied(
 }
 
 /// Outputs a requirement that is raised, so that it contains a newer version. Returns 0, or 1 if it
-/// has a version at or above that, or a status.
+/// has a version at or above that, or a status. With the status `CANNOT_UPGRADE` the output is the
+/// message of the error.
 ///
 /// # Safety
 /// The addresses have as many bytes as their lengths say.
@@ -73,7 +74,10 @@ pub unsafe extern "C" fn range_upgraded(
         Ok(string) => show_if_any(string),
         Err(UpgradeError::InvalidVersion) => status::INVALID_VERSION,
         Err(UpgradeError::InvalidRange(_)) => status::INVALID_RANGE,
-        Err(UpgradeError::CannotUpgrade) => status::CANNOT_UPGRADE,
+        Err(UpgradeError::CannotUpgrade) => match cannot_upgrade(range).map(show) {
+            Ok(0) => status::CANNOT_UPGRADE,
+            _ => status::OUT_OF_MEMORY,
+        },
         Err(UpgradeError::OutOfMemory) => status::OUT_OF_MEMORY,
     }
 }
@@ -95,6 +99,16 @@ pub unsafe extern "C" fn range_refused(at: *const u8, len: usize, dialect: i32) 
         Ok(None) => 0,
         Err(_) => status::OUT_OF_MEMORY,
     }
+}
+
+/// Outputs what `{:#}` prints in Rust for the error of a range. Returns 0, or 1 if it is valid, or the
+/// status for out of memory.
+///
+/// # Safety
+/// There are `len` bytes at the address.
+#[no_mangle]
+pub unsafe extern "C" fn range_with_carets(at: *const u8, len: usize, dialect: i32) -> i32 {
+    show_with_carets(Expected::Range, unsafe { bytes(at, len) }, dialect)
 }
 
 /// Outputs the valid range that may have been meant by a string. Returns 0, or 1 if none is known,

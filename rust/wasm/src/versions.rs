@@ -1,6 +1,6 @@
 //! Versions: reading one, why a string is invalid, and how two compare.
 
-use crate::errors::{refused, suggest};
+use crate::errors::{refused, show_with_carets, suggest};
 use crate::shared::{explain_version, read_ref_in, Dialect, Expected, VersionRef};
 use crate::{bytes, state, status};
 
@@ -63,6 +63,16 @@ pub unsafe extern "C" fn version_refused(at: *const u8, len: usize, dialect: i32
         Ok(None) => 0,
         Err(_) => status::OUT_OF_MEMORY,
     }
+}
+
+/// Outputs what `{:#}` prints in Rust for the error of a version. Returns 0, or 1 if it is valid, or
+/// the status for out of memory.
+///
+/// # Safety
+/// There are `len` bytes at the address.
+#[no_mangle]
+pub unsafe extern "C" fn version_with_carets(at: *const u8, len: usize, dialect: i32) -> i32 {
+    show_with_carets(Expected::Version, unsafe { bytes(at, len) }, dialect)
 }
 
 /// Outputs the valid version that may have been meant by a string. Returns 0, or 1 if none is

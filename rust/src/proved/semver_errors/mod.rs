@@ -5,6 +5,6 @@ use crate::rattle_std::prelude::*;
 pub mod conversions;
 pub mod error;
 pub mod names;
-mod printing;
+pub mod printing;
 
 pub use error::{Error, Kind};

@@ -48,12 +48,22 @@ fn write_marked(f: &mut fmt::Formatter<'_>, cause: &Cause) -> fmt::Result {
             reason,
             span,
             ..
-        } => {
-            write_reason_lines(f, *expected, *reason, string.as_str())?;
-            write_carets(f, string.as_str(), *span)
-        }
+        } => write_with_carets(f, *expected, *reason, string.as_str(), *span),
         _ => write_without_place(f, cause),
     }
+}
+
+/// Writes what `{:#}` prints for an invalid string: why it is invalid, the string in a line of its
+/// own, and carets below a span of it.
+pub(crate) fn write_with_carets(
+    f: &mut fmt::Formatter<'_>,
+    expected: Expected,
+    reason: Reason,
+    text: &str,
+    span: Span,
+) -> fmt::Result {
+    write_reason_lines(f, expected, reason, text)?;
+    write_carets(f, text, span)
 }
 
 /// Writes the line of an error that doesn't have the place of an error in a string. For others it
