@@ -97,8 +97,8 @@ enum Error<'a> {
     Neither(RangeError, RangeError),
     /// The version to which the range has to be raised is invalid.
     Version(&'a str),
-    /// The range can't be raised to this version.
-    CannotUpgrade(&'a str),
+    /// The range can't be raised to the version.
+    CannotUpgrade,
     /// An allocation failed after the ranges were read.
     OutOfMemory,
 }
@@ -190,15 +190,12 @@ fn failed(rt: &HostRuntime, question: &Question, error: &Error<'_>) -> ExitCode 
             PROGRAM.refuse_range_of_each(rt, &tools, question.range.as_str())
         }
         Error::Version(version) => { PROGRAM.refuse_version(rt, question.meaning.dialect, version) }
-        Error::CannotUpgrade(version) => {
-            let range = Escaped {
+        Error::CannotUpgrade => {
+            let shown = Escaped {
                 text: question.range.as_str(),
             };
-            let version = Escaped { text: version };
-            let _ = crate::rattle_std::fallible_eprintln!(rt;
-                "{}: \"{range}\" can't be raised to {version}",
-                PROGRAM.name
-            );
+            let error = UpgradeError::CannotUpgrade;
+            let _ = crate::rattle_std::fallible_eprintln!(rt; "{}: {error}: \"{shown}\"", PROGRAM.name);
             ExitCode::from(1)
         }
         Error::OutOfMemory => {
@@ -245,7 +242,7 @@ fn upgraded<'a>(
         Ok(None) => crate::rattle_std::fallible_format!("{range}\n"),
         Err(UpgradeError::InvalidVersion) => return Err(Error::Version(version)),
         Err(UpgradeError::InvalidRange(error)) => return Err(Error::Range(error, range)),
-        Err(UpgradeError::CannotUpgrade) => return Err(Error::CannotUpgrade(version)),
+        Err(UpgradeError::CannotUpgrade) => return Err(Error::CannotUpgrade),
         Err(UpgradeError::OutOfMemory) => return Err(Error::OutOfMemory),
     };
     line.map_err(|_| Error::OutOfMemory)
