@@ -122,8 +122,34 @@ cp cases/monorepo/web/package.json cases/monorepo/web/yarn.lock "$work"
 mkdir "$work/a,b:c%d" && mv "$work/package.json" "$work/yarn.lock" "$work/a,b:c%d"
 echo '::error file=a%2Cb%3Ac%25d/package.json,line=1::react ^18.2.0 is missing, required by the project' > "$work/lines"
 same "GitHub's escapes" 1 /dev/null "$work/lines" /dev/null sh -c 'cd "$1" && exec "$2" --quiet --format github a,*' - "$work" "$here/$check"
-echo "::error file=cases/cut-off.json::it isn't JSON: line 1 column 37" > "$work/lines"
+echo "::error file=cases/cut-off.json,line=1::it isn't JSON: line 1 column 37" > "$work/lines"
 same 'the annotation of an error' 2 /dev/null "$work/lines" cases/cut-off.told $check --format github cases/cut-off.json
+
+# The annotation of a file that is rejected is at the line that its reader names, in each notation.
+rejected() {
+    (cd "$work" && "$here/$check" --quiet --format github "$1" 2> "$work/errors") > "$work/annotations" || :
+    grep -q "^::error file=$1,line=$2::.*line $2" "$work/annotations" || { cat "$work/annotations" && exit 1; }
+    echo "the line of the rejected $1: passed"
+}
+printf '{\n"lockfileVersion": 3,\n}' > "$work/package-lock.json"
+rejected package-lock.json 3
+printf '{\n<<<<<<< ours\n}' > "$work/npm-shrinkwrap.json"
+rejected npm-shrinkwrap.json 2
+printf '{\n"lockfileVersion": 1,\n"\377": 1}' > "$work/bun.lock"
+rejected bun.lock 3
+printf '# yarn lockfile v1\n\nnumbers@^1:\n  version "1.0.0\n' > "$work/yarn.lock"
+rejected yarn.lock 4
+if has_toml; then
+    printf '[package]\nname = "app"\n' > "$work/Cargo.toml"
+    printf 'version = 4\n\n[[package]]\nname = app\n' > "$work/Cargo.lock"
+    rejected Cargo.lock 4
+fi
+if has_yaml; then
+    printf "lockfileVersion: '9.0'\npackages: {}\npackages: {}\n" > "$work/pnpm-lock.yaml"
+    rejected pnpm-lock.yaml 3
+    printf "lockfileVersion: '9.0'\npackages: }\n" > "$work/pnpm-lock.yaml"
+    rejected pnpm-lock.yaml 2
+fi
 
 # Below the root of a repository, and with a root that GitHub didn't name.
 mkdir "$work/rooted" && git init -q "$work/rooted" && cp -R cases/monorepo/web "$work/rooted"
@@ -228,7 +254,7 @@ echo 'sums: passed'
 
 # ---- bytes and characters
 
-# in_each_form TOLD FILE: checks a file that is rejected with this message, in each format.
+# in_each_form TOLD FILE [LINE]: checks a file that is rejected with this message, in each format.
 in_each_form() {
     echo "check-lock-file: $2: $1" > "$work/told"
     for form in text tsv json github sarif; do
@@ -238,7 +264,7 @@ in_each_form() {
         case $form in
         text | tsv) diff -u /dev/null "$work/output" ;;
         json) grep -qxF "      \"error\": \"$1\"," "$work/output" ;;
-        github) echo "::error file=$2::$1" | diff -u - "$work/output" ;;
+        github) echo "::error file=$2${3:+,line=$3}::$1" | diff -u - "$work/output" ;;
         sarif) grep -qF "\"text\": \"$1\"" "$work/output" ;;
         esac
     done
@@ -249,9 +275,9 @@ for encoding in UTF-16 UTF-16LE UTF-16BE; do
     in_each_form 'it is in UTF-16, not in UTF-8' "$work/encoded"
 done
 printf '\n{"lockfileVersion": 3, "packages": {"node_modules/\200": {"version": "1.0.0"}}}' > "$work/encoded"
-in_each_form "it isn't UTF-8: line 2" "$work/encoded"
+in_each_form "it isn't UTF-8: line 2" "$work/encoded" 2
 printf '# yarn lockfile v1\n\n"a\377@1":\n  version "1.0.0"\n' > "$work/encoded"
-in_each_form "it isn't UTF-8: line 3" "$work/encoded"
+in_each_form "it isn't UTF-8: line 3" "$work/encoded" 3
 
 # A version that looks like a merge conflict: the status is the same in each format.
 if has_toml; then

@@ -7,7 +7,7 @@ import re
 import stat
 import sys
 from contextlib import contextmanager
-from typing import Any, Dict, Iterator, List, NoReturn
+from typing import Any, Dict, Iterator, List, NoReturn, Optional
 
 from .toml_text import toml_1_0
 from .yaml_events import Repeated, Unusual, documents_by_nodes, documents_of
@@ -27,6 +27,9 @@ MOST_PARTS = 1000
 PART = r"""[ \t]*(?:[\w-]+|"[^"\n]*"|'[^'\n]*')[ \t]*"""
 LONG_KEY = re.compile(rf"^[ \t]*\[{{0,2}}(?:{PART}\.){{{MOST_PARTS}}}", re.M)
 
+# How Python's reader of TOML says where an error is.
+LINE_OF_TOML = re.compile(r"\(at line (\d+), column \d+\)\Z")
+
 BYTE_ORDER_MARK = b"\xef\xbb\xbf"
 
 # How a text in UTF-16 begins: with a byte order mark, or with an ASCII character, which has a zero
@@ -40,11 +43,11 @@ def name_of(path: str) -> str:
 
 
 class Refusal(Exception):
-    """A file is rejected, and why."""
+    """A file is rejected, why, and at which line, if that is known."""
 
-    def __init__(self, path: str, why: str) -> None:
-        super().__init__(path, why)
-        self.path, self.why = path, why
+    def __init__(self, path: str, why: str, line: Optional[int] = None) -> None:
+        super().__init__(path, why, line)
+        self.path, self.why, self.line = path, why, line
 
     def __str__(self) -> str:
         return f"{name_of(self.path)}: {self.why}"
@@ -59,7 +62,11 @@ def version_stated(file: Entry, field: str = "lockfileVersion") -> str:
 
 
 class Unreadable(Exception):
-    """A text isn't in its notation, and why."""
+    """A text isn't in its notation, why, and at which line, if that is known."""
+
+    def __init__(self, why: str, line: Optional[int] = None) -> None:
+        super().__init__(why)
+        self.line = line
 
 
 class WrongShape(Exception):
@@ -110,7 +117,7 @@ def taking(path: str, what: str) -> Iterator[None]:
     except OSError as error:
         raise Refusal(path, f"it can't be read: {error.strerror}") from None
     except Unreadable as error:
-        raise Refusal(path, str(error)) from None
+        raise Refusal(path, str(error), error.line) from None
     except WrongShape as error:
         valid = "valid " if str(error).startswith(":") else ""
         raise Refusal(path, f"it isn't a {valid}{what}{error}") from None
@@ -133,7 +140,7 @@ def refuse_conflict(text: bytes) -> None:
     found = CONFLICT.search(text) if b"<<<<<<< " in text else None
     if found is not None:
         line = text.count(b"\n", 0, found.end()) + 1
-        raise Unreadable(f"merge conflict at line {line}")
+        raise Unreadable(f"merge conflict at line {line}", line)
 
 
 def json_object(text: bytes) -> Entry:
@@ -142,7 +149,8 @@ def json_object(text: bytes) -> Entry:
     try:
         value = json.loads(whole, parse_constant=refuse_constant)
     except json.JSONDecodeError as error:
-        raise Unreadable(f"it isn't JSON: line {error.lineno} column {error.colno}") from None
+        why = f"it isn't JSON: line {error.lineno} column {error.colno}"
+        raise Unreadable(why, error.lineno) from None
     except ValueError:
         raise Unreadable("it isn't JSON") from None
     return object_at(value, "the file")
@@ -164,7 +172,8 @@ def toml_object(text: bytes) -> Entry:
             why = f": {error}"
         except ValueError:
             why = ""
-    raise Unreadable(f"it isn't TOML{why}")
+    found = LINE_OF_TOML.search(why)
+    raise Unreadable(f"it isn't TOML{why}", None if found is None else int(found.group(1)))
 
 
 def yaml_objects(text: bytes) -> List[Entry]:
@@ -181,9 +190,12 @@ def yaml_objects(text: bytes) -> List[Entry]:
         except Unusual:
             documents = documents_by_nodes(whole)
     except Repeated as error:
-        raise Unreadable(f"line {error.line}: the key {error.key} is there twice") from None
+        why = f"line {error.line}: the key {error.key} is there twice"
+        raise Unreadable(why, error.line) from None
     except yaml.YAMLError as error:
-        raise Unreadable(f"it isn't YAML: {' '.join(str(error).split())}") from None
+        mark = getattr(error, "problem_mark", None)
+        why = f"it isn't YAML: {' '.join(str(error).split())}"
+        raise Unreadable(why, None if mark is None else mark.line + 1) from None
     except (ValueError, OverflowError):
         raise Unreadable("it isn't YAML") from None
     return [object_at(document, "the file") for document in documents or [None]]
@@ -204,7 +216,7 @@ def utf8(text: bytes) -> str:
         return text.decode("utf-8")
     except UnicodeDecodeError as error:
         line = text.count(b"\n", 0, error.start) + 1
-        raise Unreadable(f"it isn't UTF-8: line {line}") from None
+        raise Unreadable(f"it isn't UTF-8: line {line}", line) from None
 
 
 # ---- shapes

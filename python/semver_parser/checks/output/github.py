@@ -18,9 +18,9 @@ def lines(results: Results) -> Iterator[str]:
             yield annotation(*report.position(finding), message, level)
         error = error_of(report)
         if error is not None:
-            yield annotation(error.path, None, error.why)
+            yield annotation(error.path, error.line, error.why)
     for refusal in results.refusals:
-        yield annotation(refusal.path, None, refusal.why)
+        yield annotation(refusal.path, refusal.line, refusal.why)
     for it in results.unused:
         yield annotation(it.path, it.line, f"no longer applies: {it.text}")
 

@@ -72,9 +72,9 @@ def all_results(results: Results) -> Iterator[Object]:
             yield result(it.kind, level, path, line, "\n".join(told(report, it)))
         error = error_of(report)
         if error is not None:
-            yield result(REFUSED, "error", error.path, None, error.why)
+            yield result(REFUSED, "error", error.path, error.line, error.why)
     for refusal in results.refusals:
-        yield result(REFUSED, "error", refusal.path, None, refusal.why)
+        yield result(REFUSED, "error", refusal.path, refusal.line, refusal.why)
     for unused in results.unused:
         yield result(NO_LONGER_APPLIES, "error", unused.path, unused.line, unused.text)
 

@@ -62,14 +62,14 @@ def lines_of(text: str) -> Iterator[Tuple[int, int, str, str, bool]]:
         if not bare or bare.startswith("#"):
             continue
         if bool(key) != bare.startswith(":"):
-            raise Unreadable(f"it isn't a yarn.lock: line {number}")
+            raise Unreadable(f"it isn't a yarn.lock: line {number}", number)
         if bare.startswith("? "):
             key = bare[2:]
             continue
         yield (number, len(line) - len(line.lstrip(" ")), *cut(key + bare, number))
         key = ""
     if key:
-        raise Unreadable(f"it isn't a yarn.lock: line {number}")
+        raise Unreadable(f"it isn't a yarn.lock: line {number}", number)
 
 
 def tree_of(text: bytes) -> Tree:
@@ -97,7 +97,7 @@ def cut(line: str, number: int) -> Tuple[str, str, bool]:
     while True:
         found = TOKEN.match(line, at)
         if found is None:
-            raise Unreadable(f"it isn't a yarn.lock: line {number}")
+            raise Unreadable(f"it isn't a yarn.lock: line {number}", number)
         word, at = found.group(), found.end()
         if not word.startswith('"') and word.endswith(":"):
             word, at = word[:-1], at - 1
@@ -111,7 +111,7 @@ def cut(line: str, number: int) -> Tuple[str, str, bool]:
         return key, "", True
     value = (rest[1:] if rest.startswith(":") else rest).strip()
     if not value:
-        raise Unreadable(f"it isn't a yarn.lock: line {number}")
+        raise Unreadable(f"it isn't a yarn.lock: line {number}", number)
     return key, unquoted(value, number), False
 
 
@@ -129,7 +129,7 @@ def unquoted(word: str, number: int) -> str:
     try:
         text = json.loads(word)
     except ValueError:
-        raise Unreadable(f"it isn't a yarn.lock: line {number}") from None
+        raise Unreadable(f"it isn't a yarn.lock: line {number}", number) from None
     assert isinstance(text, str)
     return text
 
