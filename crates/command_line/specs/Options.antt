@@ -16,11 +16,11 @@ use Rattle.command_line.specs.declared.error.ArgumentError.TheVariants.{GivenTwi
 use Rattle.command_line.specs.declared.error.ArgumentError.TheVariants.{UnknownDialect, OutOfMemory}
 use Rattle.command_line.specs.declared.error.ArgumentError.TheVariants.{NotUtf8}
 
--- the options that were taken: the dialect and the option that requested it, the rule for
--- pre-releases, and whether the next argument is the name of the dialect
+-- the options that were taken: the dialect and the rule for pre-releases, each with the option that
+-- requested it, and whether the next argument is the name of the dialect
 pub record OptionsValue : Type 0 where
   pub dialect : Option (Dialect × Text)
-  pub rule : Option PreReleases
+  pub rule : Option (PreReleases × Text)
   pub wants_name : Bool
 
 abbrev pub no_options : OptionsValue
@@ -39,21 +39,13 @@ dialect_option_of dialect = codes "--dialect " ++ name_of dialect
 abbrev pub WantsName : Text → Type 0
 WantsName argument = (argument ≡ codes "--dialect") ⊎ (argument ≡ codes "--as")
 
--- the option for a rule
-abbrev pub option_of : PreReleases → Text
-option_of Excluded = codes "--releases-only"
-option_of ByDialect = codes "--pre-stated"
-option_of Included = codes "--include-prerelease"
-
--- the short form of the option for a rule; that of the default rule is the option itself
-abbrev pub short_option_of : PreReleases → Text
-short_option_of Excluded = codes "--releases"
-short_option_of ByDialect = codes "--pre-stated"
-short_option_of Included = codes "--pre"
-
--- the argument is the option for a rule, in either form
-abbrev pub IsOptionOf : PreReleases → Text → Type 0
-IsOptionOf rule argument = (argument ≡ option_of rule) ⊎ (argument ≡ short_option_of rule)
+-- the argument is the option for a rule, or its short form; the default rule has no option
+abbrev pub IsOptionOf : PreReleases → Text → Text → Type 0
+IsOptionOf rule option argument =
+    ((rule ≡ Excluded) × (option ≡ codes "--releases-only")
+    × ((argument ≡ codes "--releases-only") ⊎ (argument ≡ codes "--releases")))
+    ⊎ ((rule ≡ Included) × (option ≡ codes "--include-prerelease")
+    × ((argument ≡ codes "--include-prerelease") ⊎ (argument ≡ codes "--pre")))
 
 -- the dialect, which is Cargo's without an option
 abbrev pub dialect_or_cargo : Option (Dialect × Text) → Dialect
@@ -61,9 +53,9 @@ dialect_or_cargo None = Cargo
 dialect_or_cargo (Some r) = r.0
 
 -- the rule, which is the default without an option
-abbrev pub rule_or_default : Option PreReleases → PreReleases
+abbrev pub rule_or_default : Option (PreReleases × Text) → PreReleases
 rule_or_default None = ByDialect
-rule_or_default (Some rule) = rule
+rule_or_default (Some r) = r.0
 
 abbrev pub meant : OptionsValue → Result Rules ArgumentError
 meant o = if o.wants_name then Err NoDialect else Ok (record {
@@ -92,7 +84,7 @@ AsksFor o argument dialect option =
 -- the argument is one of these options
 abbrev pub IsOption : Text → Type 0
 IsOption argument = WantsName argument ⊎ (argument ≡ codes "--npm")
-    ⊎ ((rule : PreReleases) × IsOptionOf rule argument)
+    ⊎ ((rule : PreReleases) × (option : Text) × IsOptionOf rule option argument)
     ⊎ ((name : Text) × (argument ≡ codes "--dialect=" ++ name))
     ⊎ ((name : Text) × (argument ≡ codes "--as=" ++ name))
 

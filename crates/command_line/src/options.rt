@@ -11,7 +11,7 @@ ghost use Rattle.tool_ranges.specs.declared.dialect.Dialect.{Dialect};
 ghost use Rattle.command_line.specs.Options.{AsksFor, Fails, IsDialectName, IsOption, Names};
 ghost use Rattle.command_line.specs.Options.{TellsContradiction, TellsTwice, TellsUnknown};
 ghost use Rattle.command_line.specs.Options.{IsOptionOf, WantsName, dialect_option_of, meant};
-ghost use Rattle.command_line.specs.Options.{no_options, option_of};
+ghost use Rattle.command_line.specs.Options.{no_options};
 
 use crate::error::{ArgumentError, Quoted};
 use std::alloc::Global;
@@ -25,8 +25,8 @@ use version_sets::PreReleases;
 pub struct MeaningOptions {
     /// The dialect that was requested, and the option that requested it.
     dialect: Option<(Dialect, &'static str)>,
-    /// The rule for pre-releases that was requested.
-    rule: Option<PreReleases>,
+    /// The rule for pre-releases that was requested, and the option that requested it.
+    rule: Option<(PreReleases, &'static str)>,
     /// Whether the next argument names the dialect.
     wants_name: bool,
 }
@@ -39,7 +39,7 @@ impl Model for MeaningOptions {
 
     ghost view = { λ o. record {
       dialect = option_map (λ asked. (asked.0, asked.1.now)) o.dialect;
-      rule = o.rule;
+      rule = option_map (λ asked. (asked.0, asked.1.now)) o.rule;
       wants_name = o.wants_name;
     } };
 }
@@ -83,9 +83,9 @@ impl MeaningOptions {
             → self.old.dialect ≡ None → (result ≡ Ok true)
             × (self.new ≡ record self.old { dialect = Some (Dialect.Npm, codes "--npm") }) }
         // An option for pre-releases requests its rule, if none was requested before.
-        ensures rule { (rule : PreReleases) → IsOptionOf rule argument.now
+        ensures rule { (rule : PreReleases) (option : Text) → IsOptionOf rule option argument.now
             → self.old.wants_name ≡ false → self.old.rule ≡ None
-            → (result ≡ Ok true) × (self.new ≡ record self.old { rule = Some rule }) }
+            → (result ≡ Ok true) × (self.new ≡ record self.old { rule = Some (rule, option) }) }
         // Other arguments are left to the program.
         ensures left { self.old.wants_name ≡ false → ¬ (IsOption argument.now) → result ≡ Ok false }
         // An argument that is left to the program changes nothing.
@@ -104,13 +104,15 @@ impl MeaningOptions {
             → self.old.dialect ≡ Some (other, earlier) → dialect ≢ other
             → Fails (TellsContradiction option earlier) result }
         // A rule that was requested before is given twice.
-        ensures rule_twice { (rule : PreReleases) → IsOptionOf rule argument.now
-            → self.old.wants_name ≡ false → self.old.rule ≡ Some rule
-            → Fails (TellsTwice (option_of rule)) result }
+        ensures rule_twice { (rule : PreReleases) (option earlier : Text)
+            → IsOptionOf rule option argument.now
+            → self.old.wants_name ≡ false → self.old.rule ≡ Some (rule, earlier)
+            → Fails (TellsTwice option) result }
         // Another rule contradicts it.
-        ensures two_rules { (rule earlier : PreReleases) → IsOptionOf rule argument.now
-            → self.old.wants_name ≡ false → self.old.rule ≡ Some earlier → rule ≢ earlier
-            → Fails (TellsContradiction (option_of rule) (option_of earlier)) result }
+        ensures two_rules { (rule other : PreReleases) (option earlier : Text)
+            → IsOptionOf rule option argument.now
+            → self.old.wants_name ≡ false → self.old.rule ≡ Some (other, earlier) → rule ≢ other
+            → Fails (TellsContradiction option earlier) result }
         // After an error no name is expected, and what was requested is as it was.
         ensures error { IfErr result (λ _. self.new ≡ record self.old { wants_name = false }) }
     {
@@ -130,9 +132,12 @@ impl MeaningOptions {
         match argument {
             "--dialect" | "--as" => self.wants_name = true,
             "--npm" => self.set_dialect(Dialect::Npm, "--npm")?,
-            "--releases-only" | "--releases" => self.set_pre_releases(PreReleases::Excluded)?,
-            "--include-prerelease" | "--pre" => self.set_pre_releases(PreReleases::Included)?,
-            "--pre-stated" => self.set_pre_releases(PreReleases::ByDialect)?,
+            "--releases-only" | "--releases" => {
+                self.set_pre_releases(PreReleases::Excluded, "--releases-only")?;
+            }
+            "--include-prerelease" | "--pre" => {
+                self.set_pre_releases(PreReleases::Included, "--include-prerelease")?;
+            }
             _ => return Ok(false),
         }
         Ok(true)
@@ -161,7 +166,7 @@ impl MeaningOptions {
         }
         Ok(Rules {
             dialect: self.dialect.map_or(Dialect::Cargo, |(dialect, _)| dialect),
-            pre_releases: self.rule.unwrap_or(PreReleases::ByDialect),
+            pre_releases: self.rule.map_or(PreReleases::ByDialect, |(rule, _)| rule),
         })
     }
 
@@ -217,35 +222,29 @@ impl MeaningOptions {
     }
 
     /// Takes the rule for pre-releases that an option requests.
-    fn set_pre_releases(&mut self, rule: PreReleases) -> Result<(), ArgumentError>
+    fn set_pre_releases(
+        &mut self,
+        rule: PreReleases,
+        option: &'static str,
+    ) -> Result<(), ArgumentError>
         ensures first { self.old.rule ≡ None → IfErr result (λ _. ⊥) }
-        ensures asked { IfOk result (λ _. self.new ≡ record self.old { rule = Some rule }) }
-        ensures twice { self.old.rule ≡ Some rule → Fails (TellsTwice (option_of rule)) result }
-        ensures contradiction { (earlier : PreReleases) → self.old.rule ≡ Some earlier
-            → rule ≢ earlier
-            → Fails (TellsContradiction (option_of rule) (option_of earlier)) result }
+        ensures asked { IfOk result (λ _. self.new
+            ≡ record self.old { rule = Some (rule, option.now) }) }
+        ensures twice { (earlier : Text) → self.old.rule ≡ Some (rule, earlier)
+            → Fails (TellsTwice option.now) result }
+        ensures contradiction { (other : PreReleases) (earlier : Text)
+            → self.old.rule ≡ Some (other, earlier) → rule ≢ other
+            → Fails (TellsContradiction option.now earlier) result }
         ensures error { IfErr result (λ _. self.new ≡ self.old) }
     {
-        let option = option_of(rule);
         let earlier = self.rule;
         match earlier {
-            Some(earlier) if earlier == rule => Err(ArgumentError::GivenTwice(option)),
-            Some(earlier) => Err(ArgumentError::Contradiction(option, option_of(earlier))),
+            Some((earlier, _)) if earlier == rule => Err(ArgumentError::GivenTwice(option)),
+            Some((_, earlier)) => Err(ArgumentError::Contradiction(option, earlier)),
             None => {
-                self.rule = Some(rule);
+                self.rule = Some((rule, option));
                 Ok(())
             }
         }
-    }
-}
-
-/// Returns the option that requests a rule for pre-releases.
-fn option_of(rule: PreReleases) -> &'static str
-    ensures { result.now ≡ option_of rule }
-{
-    match rule {
-        PreReleases::Excluded => "--releases-only",
-        PreReleases::ByDialect => "--pre-stated",
-        PreReleases::Included => "--include-prerelease",
     }
 }

@@ -31,7 +31,7 @@ const ARGUMENTS: [(&[&str], &str, &[&str], &str); 8] = [
     (&[], "^1.2", &[], "^1.2"),
     (&["--dialect", "crate-cargo"], ">=1.0.0 <3.0.0", &[], ">=1.0.0, <3.0.0"),
     (&[], ">=1.0.0, <3.0.0", &[], ">=1.0.0, <3.0.0"),
-    (&["--dialect", "crate-cargo", "--pre-stated"], "^1.2.3-a", &["--pre-stated"], "^1.2.3-a"),
+    (&["--dialect", "crate-cargo"], "^1.2.3-a", &["--pre-stated"], "^1.2.3-a"),
     (&[], "^1.2.3-a", &["--pre-stated"], "^1.2.3-a"),
     (&["--dialect", "crate-cargo", "--highest"], "^1.2", &["--highest"], "^1.2"),
     (&["--highest"], "^1.2", &["--highest"], "^1.2"),

@@ -13,8 +13,8 @@ use crate::proved::version_sets::PreReleases;
 pub struct MeaningOptions {
     /// The dialect that was requested, and the option that requested it.
     dialect: Option<(Dialect, &'static str)>,
-    /// The rule for pre-releases that was requested.
-    rule: Option<PreReleases>,
+    /// The rule for pre-releases that was requested, and the option that requested it.
+    rule: Option<(PreReleases, &'static str)>,
     /// Whether the next argument names the dialect.
     wants_name: bool,
 }
@@ -55,9 +55,12 @@ impl MeaningOptions {
         match argument {
             "--dialect" | "--as" => self.wants_name = true,
             "--npm" => self.set_dialect(Dialect::Npm, "--npm")?,
-            "--releases-only" | "--releases" => self.set_pre_releases(PreReleases::Excluded)?,
-            "--include-prerelease" | "--pre" => self.set_pre_releases(PreReleases::Included)?,
-            "--pre-stated" => self.set_pre_releases(PreReleases::ByDialect)?,
+            "--releases-only" | "--releases" => {
+                self.set_pre_releases(PreReleases::Excluded, "--releases-only")?;
+            }
+            "--include-prerelease" | "--pre" => {
+                self.set_pre_releases(PreReleases::Included, "--include-prerelease")?;
+            }
             _ => return Ok(false),
         }
         Ok(true)
@@ -80,7 +83,7 @@ impl MeaningOptions {
         }
         Ok(Rules {
             dialect: self.dialect.map_or(Dialect::Cargo, |(dialect, _)| dialect),
-            pre_releases: self.rule.unwrap_or(PreReleases::ByDialect),
+            pre_releases: self.rule.map_or(PreReleases::ByDialect, |(rule, _)| rule),
         })
     }
 
@@ -111,25 +114,19 @@ impl MeaningOptions {
     }
 
     /// Takes the rule for pre-releases that an option requests.
-    fn set_pre_releases(&mut self, rule: PreReleases) -> Result<(), ArgumentError> {
-        let option = option_of(rule);
+    fn set_pre_releases(
+        &mut self,
+        rule: PreReleases,
+        option: &'static str,
+    ) -> Result<(), ArgumentError> {
         let earlier = self.rule;
         match earlier {
-            Some(earlier) if earlier == rule => Err(ArgumentError::GivenTwice(option)),
-            Some(earlier) => Err(ArgumentError::Contradiction(option, option_of(earlier))),
+            Some((earlier, _)) if earlier == rule => Err(ArgumentError::GivenTwice(option)),
+            Some((_, earlier)) => Err(ArgumentError::Contradiction(option, earlier)),
             None => {
-                self.rule = Some(rule);
+                self.rule = Some((rule, option));
                 Ok(())
             }
         }
-    }
-}
-
-/// Returns the option that requests a rule for pre-releases.
-fn option_of(rule: PreReleases) -> &'static str {
-    match rule {
-        PreReleases::Excluded => "--releases-only",
-        PreReleases::ByDialect => "--pre-stated",
-        PreReleases::Included => "--include-prerelease",
     }
 }
