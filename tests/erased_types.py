@@ -60,7 +60,7 @@ KNOWN = {
     'Split as IntoIterator': 'into_iter', 'Split as Iterator': 'enumerate next',
     'Stderr as IsTerminal': 'is_terminal',
     'String': 'as_bytes as_str clear is_empty new truncate', 'String as Deref': 'deref',
-    'T as Fn': 'call',
+    'T as Fn': 'call', 'T as FnOnce': 'call_once',
     'T as PartialOrd': 'ge', 'T as Read': 'read', 'T as Write': 'flush write write_all write_fmt',
     'TakeWhile as Iterator': 'count', 'Utf8Error': 'valid_up_to',
     # `extend` is from `fallible_vec!`, which has allocated.
@@ -95,7 +95,7 @@ CALLS = {f'{kind}::{name}' for kind, names in KNOWN.items() for name in names.sp
 # can't grow.
 CALLS |= {'run of a Vec'}
 # Types and traits whose functions the compiler and macros call, such as those of signs.
-UNWRITTEN = set('''Argument Deref DerefMut Extend Fn FromResidual Index IndexMut IntoIterator
+UNWRITTEN = set('''Argument Deref DerefMut Extend Fn FnOnce FromResidual Index IndexMut IntoIterator
     PartialEq PartialOrd RangeInclusive Sub Try'''.split())
 
 

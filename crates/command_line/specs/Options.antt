@@ -1,5 +1,7 @@
 -- What the options for the dialect and for pre-releases mean.
-use Rattle.std.specs.Prelude.{◌≡◌, ◌⊎◌, ◌++◌, ⊤, Bool, true, false, if◌then◌else◌, codes}
+use Rattle.std.specs.Prelude.{◌≡◌, ◌⊎◌, ◌++◌, ◌<◌, ◌==◌, ⊤, Bool, true, false, if◌then◌else◌}
+use Rattle.std.specs.Prelude.{codes, length}
+use Rattle.std.specs.List.{before_first, position_or_len}
 use Rattle.std.specs.Prelude.{Option, Some, None, Result, Ok, Err, MatchResult, string_bytes}
 use Rattle.std.specs.declared.io.ErrorKind.{ErrorKind}
 use Rattle.std.specs.declared.io.ErrorKind.TheVariants as kind
@@ -14,6 +16,7 @@ use Rattle.command_line.specs.declared.error.ArgumentError.{ArgumentError}
 use Rattle.command_line.specs.declared.error.ArgumentError.TheVariants.{NoDialect}
 use Rattle.command_line.specs.declared.error.ArgumentError.TheVariants.{GivenTwice, Contradiction}
 use Rattle.command_line.specs.declared.error.ArgumentError.TheVariants.{UnknownDialect, OutOfMemory}
+use Rattle.command_line.specs.declared.error.ArgumentError.TheVariants.{NeedlessValue, UnknownOption}
 use Rattle.command_line.specs.declared.error.ArgumentError.TheVariants.{NotUtf8}
 
 -- the options that were taken: the dialect and the rule for pre-releases, each with the option that
@@ -98,6 +101,20 @@ abbrev pub TellsContradiction : Text → Text → ArgumentError → Type 0
 TellsContradiction option earlier (Contradiction told other) =
     (told.now ≡ option) × (other.now ≡ earlier)
 TellsContradiction option earlier _ = ⊥
+
+-- what is before the first `=` of an option
+abbrev pub name_in : Text → Text
+name_in option = before_first (λ b. b == 61) option
+
+-- the option has a value after `=`
+abbrev pub HasValue : Text → Type 0
+HasValue option = position_or_len (λ b. b == 61) option < length option
+
+-- the error of an option that isn't taken: it doesn't accept its value, or it is unknown
+abbrev pub TellsNotTaken : (has_needless_value : Bool) → Text → ArgumentError → Type 0
+TellsNotTaken true option (NeedlessValue told) = string_bytes told.text ≡ option
+TellsNotTaken false option (UnknownOption told) = string_bytes told.text ≡ option
+TellsNotTaken _ option _ = ⊥
 
 -- the error is that no dialect has the name, or it is `OutOfMemory`, which is returned if memory
 -- runs out

@@ -2,7 +2,8 @@
 //! `--include-prerelease`, `--releases-only` and their short forms.
 
 ghost use Rattle.std.specs.Prelude.{◌≡◌, ◌≢◌, ◌++◌, codes, Ok, None, Some, true, false};
-ghost use Rattle.std.specs.Prelude.{IfErr, IfOk};
+ghost use Rattle.std.specs.Prelude.{IfErr, IfOk, string_bytes};
+ghost use Rattle.std.specs.Fn.{FnOnceReturnsAt};
 ghost use Rattle.std.specs.Option.{is_some};
 ghost use Rattle.semver_parser.specs.Texts.{Text};
 ghost use Rattle.version_sets.specs.declared.PreReleases.{PreReleases};
@@ -11,6 +12,7 @@ ghost use Rattle.tool_ranges.specs.declared.dialect.Dialect.{Dialect};
 ghost use Rattle.command_line.specs.Options.{AsksFor, Fails, IsDialectName, IsOption, Names};
 ghost use Rattle.command_line.specs.Options.{TellsContradiction, TellsTwice, TellsUnknown};
 ghost use Rattle.command_line.specs.Options.{IsOptionOf, WantsName, dialect_option_of, meant};
+ghost use Rattle.command_line.specs.Options.{HasValue, TellsNotTaken, name_in};
 ghost use Rattle.command_line.specs.Options.{no_options};
 
 use crate::error::{ArgumentError, Quoted};
@@ -245,6 +247,54 @@ impl MeaningOptions {
                 self.rule = Some((rule, option));
                 Ok(())
             }
+        }
+    }
+}
+
+// Determined by: equation.
+/// Takes an option without a value.
+///
+/// # Errors
+///
+/// `GivenTwice` if it was given before.
+pub fn take_once(option: &'static str, is_given: &mut bool) -> Result<(), ArgumentError>
+    ensures first { is_given.old ≡ false → IfErr result (λ _. ⊥) }
+    ensures twice { is_given.old ≡ true → Fails (TellsTwice option.now) result }
+    ensures given { is_given.new ≡ true }
+{
+    if *is_given {
+        return Err(ArgumentError::GivenTwice(option));
+    }
+    *is_given = true;
+    Ok(())
+}
+
+impl ArgumentError {
+    // Determined by: equation.
+    /// Returns whether an option has a value after `=`, and what is before that is an option, as
+    /// `is_known` says.
+    pub fn has_needless_value<F: FnOnce(&str) -> bool>(option: &str, is_known: F) -> bool
+        requires { F.IsAlwaysCallable is_known }
+        ensures without_value { ¬ (HasValue option.now) → result ≡ false }
+        ensures with_value { HasValue option.now
+            → FnOnceReturnsAt F.FnOnce is_known (name_in option.now) result }
+    {
+        match option.split_once('=') {
+            Some((name, _)) => is_known(name),
+            None => false,
+        }
+    }
+
+    // Determined by: equation.
+    /// Returns the error of an option that isn't taken, with or without a needless value.
+    pub fn not_taken(option: String, has_needless_value: bool) -> ArgumentError
+        ensures { TellsNotTaken has_needless_value (string_bytes option) result }
+    {
+        let option = Quoted { text: option };
+        if has_needless_value {
+            ArgumentError::NeedlessValue(option)
+        } else {
+            ArgumentError::UnknownOption(option)
         }
     }
 }

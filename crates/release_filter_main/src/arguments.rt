@@ -1,6 +1,6 @@
 //! Reads the arguments.
 
-use command_line::{ArgumentError, MeaningOptions, Quoted};
+use command_line::{ArgumentError, MeaningOptions, take_once};
 use release_filter::{LineEnd, LineOptions, Selection};
 use std::alloc::Global;
 use std::env;
@@ -96,9 +96,9 @@ impl Options {
 
     /// Takes an option, and returns whether it is known. It is an error if an earlier option has
     /// the same subject.
-    fn take(&mut self, rt: &impl AllocGlobal, option: &str) -> Result<bool, ArgumentError> {
+    fn take(&mut self, alloc: Global, option: &str) -> Result<bool, ArgumentError> {
         if let Some(prefix) = option.strip_prefix("--prefix=") {
-            push(&mut self.prefixes, prefix.to_string(rt.alloc())?)?;
+            push(&mut self.prefixes, prefix.to_string(alloc)?)?;
             return Ok(true);
         }
         if let Some(kind) = option.strip_prefix("--only=") {
@@ -124,13 +124,13 @@ impl Options {
     /// Takes an option without a value, and returns whether it is known.
     fn take_switch(&mut self, option: &str) -> Result<bool, ArgumentError> {
         match option {
-            "--invert" => given_once("--invert", &mut self.is_inverted)?,
-            "--reverse" => given_once("--reverse", &mut self.is_reversed)?,
-            "--strip-prefix" => given_once("--strip-prefix", &mut self.lines.strips_prefix)?,
-            "--json" => given_once("--json", &mut self.is_json)?,
-            "--count" => given_once("--count", &mut self.is_counted)?,
-            "--strict" => given_once("--strict", &mut self.lines.is_strict)?,
-            "--line-buffered" => given_once("--line-buffered", &mut self.is_line_buffered)?,
+            "--invert" => take_once("--invert", &mut self.is_inverted)?,
+            "--reverse" => take_once("--reverse", &mut self.is_reversed)?,
+            "--strip-prefix" => take_once("--strip-prefix", &mut self.lines.strips_prefix)?,
+            "--json" => take_once("--json", &mut self.is_json)?,
+            "--count" => take_once("--count", &mut self.is_counted)?,
+            "--strict" => take_once("--strict", &mut self.lines.is_strict)?,
+            "--line-buffered" => take_once("--line-buffered", &mut self.is_line_buffered)?,
             _ => return Ok(false),
         }
         Ok(true)
@@ -214,15 +214,6 @@ fn push(texts: &mut Vec<String>, text: String) -> Result<(), ArgumentError> {
     }
 }
 
-/// Takes an option that has no value.
-fn given_once(option: &'static str, is_given: &mut bool) -> Result<(), ArgumentError> {
-    if *is_given {
-        return Err(ArgumentError::GivenTwice(option));
-    }
-    *is_given = true;
-    Ok(())
-}
-
 /// Returns the request of the arguments. An argument that begins with a hyphen is an option, up to
 /// the first `--`. This doesn't apply to a single `-`, and to the values of `--prefix`, `--only`,
 /// `--dialect` and `--as`.
@@ -245,8 +236,12 @@ pub fn requested(rt: &(impl Env + AllocGlobal)) -> Result<Request, ArgumentError
             "-h" | "--help" if options.has_more => return Ok(Request::Help),
             "--version" if options.has_more => return Ok(Request::Version),
             text if options.has_more && text.starts_with('-') && text != "-" => {
-                if !options.take(rt, text)? {
-                    return Err(unknown(rt, argument, meaning, options));
+                if !options.take(rt.alloc(), text)? {
+                    let is_needless = ArgumentError::has_needless_value(text, |name| {
+                        !matches!(meaning.take(rt.alloc(), name), Ok(false))
+                            || !matches!(options.take(rt.alloc(), name), Ok(false))
+                    });
+                    return Err(ArgumentError::not_taken(argument, is_needless));
                 }
             }
             _ if range.is_some() => push(&mut files, argument)?,
@@ -254,27 +249,6 @@ pub fn requested(rt: &(impl Env + AllocGlobal)) -> Result<Request, ArgumentError
         }
     }
     request_of(range, files, meaning, options)
-}
-
-/// Returns the error for an option that isn't known. What is before `=` in it may be known.
-fn unknown(
-    rt: &impl AllocGlobal,
-    option: String,
-    mut meaning: MeaningOptions,
-    mut options: Options,
-) -> ArgumentError {
-    let is_known = match option.as_str().split_once('=') {
-        Some((name, _)) => {
-            !matches!(meaning.take(rt.alloc(), name), Ok(false))
-                || !matches!(options.take(rt, name), Ok(false))
-        }
-        None => false,
-    };
-    if is_known {
-        ArgumentError::NeedlessValue(Quoted { text: option })
-    } else {
-        ArgumentError::UnknownOption(Quoted { text: option })
-    }
 }
 
 /// Returns the request of arguments that are taken one by one.

@@ -11,7 +11,7 @@ mod program;
 mod refused;
 
 pub use error::{ArgumentError, Quoted};
-pub use options::MeaningOptions;
+pub use options::{MeaningOptions, take_once};
 pub use program::Program;
 pub use refused::refused_line;
 pub use crate::proved::semver_texts::writing::write_whole;

@@ -130,3 +130,37 @@ impl MeaningOptions {
         }
     }
 }
+
+/// Takes an option without a value.
+///
+/// # Errors
+///
+/// `GivenTwice` if it was given before.
+pub fn take_once(option: &'static str, is_given: &mut bool) -> Result<(), ArgumentError> {
+    if *is_given {
+        return Err(ArgumentError::GivenTwice(option));
+    }
+    *is_given = true;
+    Ok(())
+}
+
+impl ArgumentError {
+    /// Returns whether an option has a value after `=`, and what is before that is an option, as
+    /// `is_known` says.
+    pub(crate) fn has_needless_value<F: FnOnce(&str) -> bool>(option: &str, is_known: F) -> bool {
+        match option.split_once('=') {
+            Some((name, _)) => is_known(name),
+            None => false,
+        }
+    }
+
+    /// Returns the error of an option that isn't taken, with or without a needless value.
+    pub fn not_taken(option: String, has_needless_value: bool) -> ArgumentError {
+        let option = Quoted { text: option };
+        if has_needless_value {
+            ArgumentError::NeedlessValue(option)
+        } else {
+            ArgumentError::UnknownOption(option)
+        }
+    }
+}

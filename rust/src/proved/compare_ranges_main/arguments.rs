@@ -3,7 +3,7 @@
 #![cfg(feature = "std")]
 
 use crate::rattle_std::prelude::*;
-use crate::proved::command_line::{ArgumentError, MeaningOptions, Quoted};
+use crate::proved::command_line::{ArgumentError, MeaningOptions, take_once};
 use crate::rattle_std::env;
 use crate::rattle_std::rt::Env;
 use crate::proved::tool_ranges::meaning::Rules;
@@ -96,8 +96,7 @@ impl Options {
         }
         match option {
             "--lowest" | "--least" => self.take_lowest()?,
-            "--json" if self.is_json => return Err(ArgumentError::GivenTwice("--json")),
-            "--json" => self.is_json = true,
+            "--json" => take_once("--json", &mut self.is_json)?,
             "--fail-on" => self.wants_change = true,
             "--upgrade" => self.wants_version = true,
             "--" => self.has_more = false,
@@ -186,7 +185,11 @@ pub fn requested(rt: &(impl Env + AllocGlobal)) -> Result<Request, ArgumentError
             "--version" if options.has_more => return Ok(Request::Version),
             text if options.has_more && text.starts_with('-') => {
                 if !options.take(text)? {
-                    return Err(unknown(rt, argument, meaning, options));
+                    let is_needless = ArgumentError::has_needless_value(text, |name| {
+                        !matches!(meaning.take(name), Ok(false))
+                            || !matches!(options.take(name), Ok(false))
+                    });
+                    return Err(ArgumentError::not_taken(argument, is_needless));
                 }
             }
             _ if new.is_some() => return Err(ArgumentError::MoreThanTwoRanges),
@@ -195,27 +198,6 @@ pub fn requested(rt: &(impl Env + AllocGlobal)) -> Result<Request, ArgumentError
         }
     }
     request_of(range, new, meaning, options)
-}
-
-/// Returns the error for an option that isn't known. What is before `=` in it may be known.
-fn unknown(
-    rt: &impl AllocGlobal,
-    option: String,
-    mut meaning: MeaningOptions,
-    mut options: Options,
-) -> ArgumentError {
-    let is_known = match option.as_str().split_once('=') {
-        Some((name, _)) => {
-            !matches!(meaning.take(name), Ok(false))
-                || !matches!(options.take(name), Ok(false))
-        }
-        None => false,
-    };
-    if is_known {
-        ArgumentError::NeedlessValue(Quoted { text: option })
-    } else {
-        ArgumentError::UnknownOption(Quoted { text: option })
-    }
 }
 
 /// Returns the request of arguments that are taken one by one.
