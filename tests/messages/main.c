@@ -25,7 +25,8 @@ static semver_parser_status call(char *const *fields, semver_parser_error *error
     case 'v': return semver_parser_parse_version(string, options.dialect, &version, error);
     case 'r': return semver_parser_check_range(string, options.dialect, error);
     default:
-        status = semver_parser_upgrade(string, semver_parser_str(fields[3]), options, &upgraded, error);
+        status = semver_parser_upgrade(
+            string, semver_parser_str(fields[3]), options, &upgraded, error);
         semver_parser_free(upgraded);
         return status;
     }

@@ -231,13 +231,14 @@ typedef struct {
 /* Makes an English sentence for an error:
  * `invalid range "1 || 2" at offset 2: Cargo doesn't accept ||; npm does`. With `caret`, it makes
  * three lines for a terminal instead: `invalid range: Cargo doesn't accept ||; npm does`, then the
- * string, and below it carets under the span of semver_parser_error_span. The string and the carets
- * are indented by four spaces. `string` is the string of the call that `error->index` refers to. The
- * sentence has only a part of a long string, and the lines have all of it. Characters other than the
- * printable ones of ASCII are escaped: `\t`, `\u{2013}`, and `\u{fffd}` for bytes that aren't UTF-8.
- * If a requirement can't be raised, the sentence has the requirement. For any other error that isn't
- * about an invalid string, such as that of ranges in different dialects, it is only the
- * semver_parser_status_text, whatever `string` is. semver_parser_free frees the message. */
+ * string, and below it carets under the span of semver_parser_error_span. The string and the
+ * carets are indented by four spaces. `string` is the string of the call that `error->index`
+ * refers to. The sentence has only a part of a long string, and the lines have all of it.
+ * Characters other than the printable ones of ASCII are escaped: `\t`, `\u{2013}`, and
+ * `\u{fffd}` for bytes that aren't UTF-8. If a requirement can't be raised, the sentence has the
+ * requirement. For any other error that isn't about an invalid string, such as that of ranges in
+ * different dialects, it is only the semver_parser_status_text, whatever `string` is.
+ * semver_parser_free frees the message. */
 SEMVER_PARSER_CHECKED(1, 4)
 semver_parser_status semver_parser_error_message(
     const semver_parser_error *error, semver_parser_string string, bool caret, char **message);

@@ -101,8 +101,8 @@ pub unsafe extern "C" fn range_refused(at: *const u8, len: usize, dialect: i32) 
     }
 }
 
-/// Outputs what `{:#}` prints in Rust for the error of a range. Returns 0, or 1 if it is valid, or the
-/// status for out of memory.
+/// Outputs what `{:#}` prints in Rust for the error of a range. Returns 0, or 1 if it is valid, or
+/// the status for out of memory.
 ///
 /// # Safety
 /// There are `len` bytes at the address.

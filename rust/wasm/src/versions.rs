@@ -65,8 +65,8 @@ pub unsafe extern "C" fn version_refused(at: *const u8, len: usize, dialect: i32
     }
 }
 
-/// Outputs what `{:#}` prints in Rust for the error of a version. Returns 0, or 1 if it is valid, or
-/// the status for out of memory.
+/// Outputs what `{:#}` prints in Rust for the error of a version. Returns 0, or 1 if it is valid,
+/// or the status for out of memory.
 ///
 /// # Safety
 /// There are `len` bytes at the address.
