@@ -113,6 +113,7 @@ impl<'text> Building<'text> {
     }
 
     /// Adds a term. `Err` means out of memory.
+    #[inline(always)]
     fn push_term(
         &mut self,
         simple: &Simple<'text>,
@@ -135,6 +136,7 @@ impl<'text> Building<'text> {
     }
 
     /// Ends a range. `Err` means out of memory.
+    #[inline(never)]
     fn end_range(&mut self, all: bool) -> Result<(), AllocError>
         ensures known { IfOk result (λ _. (v : PlainVersion) → Fits v
             → known all v self.new ≡ ended (counts all v) (known all v self.old)) }

@@ -69,6 +69,7 @@ impl VersionRange {
     ///   one, is above 2^64 - 1, or above 2^53 - 1 in npm's dialect.
     /// - `OutOfMemory` if an allocation failed. The first two errors are returned without
     ///   allocating.
+    #[inline(always)]
     pub fn parse(alloc: Global, range: &str, meaning: Rules) -> Result<VersionRange, RangeError>
         // `NotARange` and `NumberTooLarge` are returned for exactly the strings for which they are
         // defined.

@@ -103,6 +103,7 @@ impl<'text> PreReleaseEnd<'text> {
     /// Returns the beginning of the pre-releases above a cut, if there are any. Above a release
     /// they begin with the next numbers, since no pre-release with the same numbers is above it.
     /// Directly above a pre-release comes the one that has the number 0 as one more identifier.
+    #[inline(always)]
     pub(crate) fn first(cut: &Cut<'text>, digits: Digits) -> Option<PreReleaseEnd<'text>>
         ensures meaning { (v : PlainVersion) → IsPreRelease v
             → reached precedence (option_map end_place result) v ≡ is_above_cut digits cut.now v }

@@ -1,11 +1,12 @@
 //! The set of the versions that are in at least one range, where a range is the intersection of
 //! intervals.
 
-ghost use Rattle.std.specs.Prelude.{◌≡◌, ◌&&◌, ◌||◌, true, false, map, if◌then◌else◌, IfOk, not};
+ghost use Rattle.std.specs.Prelude.{◌≡◌, ◌&&◌, ◌||◌, Bool, true, false, map, if◌then◌else◌, IfOk, not};
 ghost use Rattle.semver_texts.specs.Precedence.{precedence};
 ghost use Rattle.semver_texts.specs.Texts.{is_empty};
 ghost use Rattle.semver_texts.specs.Versions.{PlainVersion};
 ghost use Rattle.semver_texts.specs.declared.grammar.Digits.{Digits as SomeDigits};
+ghost use Rattle.semver_versions.specs.ReadVersions.{read_plain};
 ghost use Rattle.version_sets.specs.Boundaries.{is_inside};
 ghost use Rattle.version_sets.specs.Printable.{IsPrintable, prints_by};
 ghost use Rattle.version_sets.specs.Releases.{release_value};
@@ -17,6 +18,8 @@ ghost use Rattle.version_sets.specs.Steps.Ends.{each_prints, has_numbers, in_eac
 ghost use Rattle.version_sets.specs.Steps.Ends.{in_ranges, ranges_print};
 ghost use Rattle.version_sets.specs.Steps.Spans.{in_some, some_empty};
 ghost use Rattle.version_sets.specs.Steps.SpanViews.{bounds_hold, is_within, span_value};
+ghost use Rattle.version_sets.specs.Steps.SpanViews.{spans_hold};
+ghost use Rattle.std.specs.List.{list_all};
 
 use crate::above_cuts::first_release;
 use crate::conjunction::{Conjunction, Ranges};
@@ -26,6 +29,7 @@ use crate::release::{LOWEST, Release};
 use crate::spans::{Bounds, Span, boundaries_of};
 use crate::version_set::VersionSet;
 use semver_texts::grammar::Digits;
+use semver_versions::read_version::ReadVersion;
 use std::alloc::{AllocError, Global};
 
 impl<'text> Conjunction<'text> {
@@ -50,6 +54,7 @@ impl<'text> Conjunction<'text> {
     // Determined by: equation.
     /// Returns the intersection with one more term, which has an interval for releases and one for
     /// pre-releases. `digits` says how numeric identifiers are read.
+    #[inline(always)]
     pub fn and(
         self,
         releases: &Interval<'text>,
@@ -70,6 +75,7 @@ impl<'text> Conjunction<'text> {
 }
 
 /// Returns the releases of an interval.
+#[inline(always)]
 fn released(interval: &Interval<'_>) -> Bounds<Release>
     ensures { (digits : SomeDigits) (v : PlainVersion) → IsRelease v
         → is_within release_value result v ≡ is_in_interval digits interval.now v }
@@ -86,6 +92,7 @@ fn released(interval: &Interval<'_>) -> Bounds<Release>
 }
 
 /// Returns the pre-releases of an interval.
+#[inline(always)]
 fn pre_released<'text>(interval: &Interval<'text>, digits: Digits) -> Bounds<PreReleaseEnd<'text>>
     ensures meaning { (v : PlainVersion) → IsPreRelease v
         → is_within end_place result v ≡ is_in_interval digits interval.now v }
@@ -160,6 +167,7 @@ impl<'text> Ranges<'text> {
     // Determined by: equation.
     /// Returns the set of the versions in these ranges, and of the releases in one last range.
     /// `Err` means out of memory.
+    #[inline(always)]
     pub fn into_set(
         self,
         alloc: Global,
@@ -172,8 +180,7 @@ impl<'text> Ranges<'text> {
         ensures digits { IfOk result (λ set. set.digits ≡ digits) }
     {
         let releases = all_releases(alloc, self.releases, &last.releases)?;
-        let mut spans = self.pre_releases;
-        let pre_releases = boundaries_of(alloc, &mut spans)?;
+        let pre_releases = all_pre_releases(alloc, self.pre_releases)?;
         Ok(VersionSet::of_boundaries(digits, releases, pre_releases))
     }
 }
@@ -193,6 +200,7 @@ pub(crate) fn among<'text>(numbers: Release) -> Bounds<PreReleaseEnd<'text>>
 
 /// Returns the boundaries of the releases, together with those of a last range. Nothing is sorted
 /// if there is only the last range, for speed, since most range strings have one range.
+#[inline(always)]
 fn all_releases(
     alloc: Global,
     spans: Vec<Span<Release>>,
@@ -211,5 +219,29 @@ fn all_releases(
     }
     let mut spans = spans;
     last.push_to(&mut spans)?;
+    boundaries_of(alloc, &mut spans)
+}
+
+/// Returns the boundaries of spans of pre-releases. Nothing is sorted if there are none, for speed,
+/// since most range strings name no pre-release.
+#[inline(always)]
+fn all_pre_releases(
+    alloc: Global,
+    spans: Vec<Span<PreReleaseEnd<'_>>>,
+) -> Result<Vec<ReadVersion>, AllocError>
+    requires { some_empty precedence (map (span_value end_place) spans.items) ≡ false }
+    ensures boundaries { IfOk result (λ boundaries.
+        AreBoundaries IsPreRelease (map read_plain boundaries.items)) }
+    ensures meaning { IfOk result (λ boundaries. (v : PlainVersion)
+        → is_inside precedence (map read_plain boundaries.items) v
+        ≡ in_some precedence (map (span_value end_place) spans.entry.items) v) }
+    ensures holds { IfOk result (λ boundaries. (p : PlainVersion → Bool)
+        → spans_hold end_place p spans.entry.items ≡ true
+        → list_all p (map read_plain boundaries.items) ≡ true) }
+{
+    if spans.is_empty() {
+        return Ok(Vec::new(alloc));
+    }
+    let mut spans = spans;
     boundaries_of(alloc, &mut spans)
 }

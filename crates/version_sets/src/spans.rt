@@ -71,6 +71,7 @@ fn earlier<L: SpanEnd>(first: Option<L>, second: Option<L>) -> Option<L>
 
 impl<L: SpanEnd> Bounds<L> {
     /// Returns the versions that are within other bounds, too.
+    #[inline(always)]
     pub(crate) fn and(self, other: Bounds<L>) -> Bounds<L>
         ensures meaning { (v : PlainVersion) → is_within L.place result v
             ≡ (is_within L.place self v && is_within L.place other v) }
@@ -119,6 +120,7 @@ impl<L: SpanEnd> Bounds<L> {
     }
 
     /// Returns the boundaries of the versions. `Err` means out of memory.
+    #[inline(always)]
     pub(crate) fn boundaries(self, alloc: Global) -> Result<Vec<L::Boundary>, AllocError>
         ensures boundaries { IfOk result (λ boundaries.
             AreBoundaries (IsOfKind L.Boundary.are_releases)
@@ -193,6 +195,7 @@ fn is_apart<L: SpanEnd>(end: Option<L>, boundary: &L) -> bool
 }
 
 /// Adds the boundaries of a span. `Err` means out of memory.
+#[inline(always)]
 fn push_boundaries<L: SpanEnd>(
     alloc: Global,
     span: &Span<L>,

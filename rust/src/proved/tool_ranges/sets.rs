@@ -74,6 +74,7 @@ impl<'text> Building<'text> {
     }
 
     /// Adds a term. `Err` means out of memory.
+    #[inline(always)]
     fn push_term(
         &mut self,
         simple: &Simple<'text>,
@@ -89,6 +90,7 @@ impl<'text> Building<'text> {
     }
 
     /// Ends a range. `Err` means out of memory.
+    #[inline(never)]
     fn end_range(&mut self, all: bool) -> Result<(), AllocError> {
         self.ranges.push_releases(&self.here)?;
         push_pre_releases(&mut self.ranges, &self.here, &self.stated, all)?;

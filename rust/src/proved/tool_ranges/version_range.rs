@@ -41,6 +41,7 @@ impl VersionRange {
     ///   one, is above 2^64 - 1, or above 2^53 - 1 in npm's dialect.
     /// - `OutOfMemory` if an allocation failed. The first two errors are returned without
     ///   allocating.
+    #[inline(always)]
     pub fn try_parse(range: &str, meaning: Rules) -> Result<VersionRange, RangeError> {
         let versions = meaning::read(meaning, range)?;
         Ok(VersionRange { versions, meaning })

@@ -71,6 +71,7 @@ impl<'text> PreReleaseEnd<'text> {
     /// Returns the beginning of the pre-releases above a cut, if there are any. Above a release
     /// they begin with the next numbers, since no pre-release with the same numbers is above it.
     /// Directly above a pre-release comes the one that has the number 0 as one more identifier.
+    #[inline(always)]
     pub(crate) fn first(cut: &Cut<'text>, digits: Digits) -> Option<PreReleaseEnd<'text>> {
         match cut.side {
             Side::Below => Some(PreReleaseEnd::lowest(cut.numbers)),

@@ -11,6 +11,7 @@ use crate::proved::version_sets::release::{LOWEST, Release};
 use crate::proved::version_sets::spans::{Bounds, Span, boundaries_of};
 use crate::proved::version_sets::version_set::VersionSet;
 use crate::proved::semver_texts::grammar::Digits;
+use crate::proved::semver_versions::read_version::ReadVersion;
 use crate::rattle_std::AllocError;
 
 impl<'text> Conjunction<'text> {
@@ -30,6 +31,7 @@ impl<'text> Conjunction<'text> {
 
     /// Returns the intersection with one more term, which has an interval for releases and one for
     /// pre-releases. `digits` says how numeric identifiers are read.
+    #[inline(always)]
     pub fn and(
         self,
         releases: &Interval<'text>,
@@ -44,6 +46,7 @@ impl<'text> Conjunction<'text> {
 }
 
 /// Returns the releases of an interval.
+#[inline(always)]
 fn released(interval: &Interval<'_>) -> Bounds<Release> {
     let from = match &interval.lower {
         Some(cut) => first_release(cut),
@@ -57,6 +60,7 @@ fn released(interval: &Interval<'_>) -> Bounds<Release> {
 }
 
 /// Returns the pre-releases of an interval.
+#[inline(always)]
 fn pre_released<'text>(interval: &Interval<'text>, digits: Digits) -> Bounds<PreReleaseEnd<'text>> {
     let from = match &interval.lower {
         Some(cut) => PreReleaseEnd::first(cut, digits),
@@ -103,14 +107,14 @@ impl<'text> Ranges<'text> {
 
     /// Returns the set of the versions in these ranges, and of the releases in one last range.
     /// `Err` means out of memory.
+    #[inline(always)]
     pub fn into_set(
         self,
         last: &Conjunction<'text>,
         digits: Digits,
     ) -> Result<VersionSet, AllocError> {
         let releases = all_releases(self.releases, &last.releases)?;
-        let mut spans = self.pre_releases;
-        let pre_releases = boundaries_of(&mut spans)?;
+        let pre_releases = all_pre_releases(self.pre_releases)?;
         Ok(VersionSet::of_boundaries(digits, releases, pre_releases))
     }
 }
@@ -125,6 +129,7 @@ pub(crate) fn among<'text>(numbers: Release) -> Bounds<PreReleaseEnd<'text>> {
 
 /// Returns the boundaries of the releases, together with those of a last range. Nothing is sorted
 /// if there is only the last range, for speed, since most range strings have one range.
+#[inline(always)]
 fn all_releases(
     spans: Vec<Span<Release>>,
     last: &Bounds<Release>,
@@ -134,5 +139,18 @@ fn all_releases(
     }
     let mut spans = spans;
     last.push_to(&mut spans)?;
+    boundaries_of(&mut spans)
+}
+
+/// Returns the boundaries of spans of pre-releases. Nothing is sorted if there are none, for speed,
+/// since most range strings name no pre-release.
+#[inline(always)]
+fn all_pre_releases(
+    spans: Vec<Span<PreReleaseEnd<'_>>>,
+) -> Result<Vec<ReadVersion>, AllocError> {
+    if spans.is_empty() {
+        return Ok(Vec::new());
+    }
+    let mut spans = spans;
     boundaries_of(&mut spans)
 }

@@ -51,6 +51,7 @@ fn earlier<L: SpanEnd>(first: Option<L>, second: Option<L>) -> Option<L> {
 
 impl<L: SpanEnd> Bounds<L> {
     /// Returns the versions that are within other bounds, too.
+    #[inline(always)]
     pub(crate) fn and(self, other: Bounds<L>) -> Bounds<L> {
         Bounds {
             from: later(self.from, other.from),
@@ -79,6 +80,7 @@ impl<L: SpanEnd> Bounds<L> {
     }
 
     /// Returns the boundaries of the versions. `Err` means out of memory.
+    #[inline(always)]
     pub(crate) fn boundaries(self) -> Result<Vec<L::Boundary>, AllocError> {
         let Some(span) = self.span() else {
             return Ok(Vec::new());
@@ -125,6 +127,7 @@ fn is_apart<L: SpanEnd>(end: Option<L>, boundary: &L) -> bool {
 }
 
 /// Adds the boundaries of a span. `Err` means out of memory.
+#[inline(always)]
 fn push_boundaries<L: SpanEnd>(
     span: &Span<L>,
     boundaries: &mut Vec<L::Boundary>,

@@ -8,4 +8,4 @@ pub returns-clause-printable : goal.returns-clause-printable
 returns-clause-printable c = λ prints.
     let d = c.args.digits in
     rw c.of_boundaries.ensures (either_prints d (map read_plain c.in_ok-pre_releases.pre_releases.items)
-    (c.in_ok-pre_releases.ensures.holds (prints_by d) (rw c.deref_mut.ensures.value prints)))
+    (c.in_ok-pre_releases.ensures.holds (prints_by d) prints))
