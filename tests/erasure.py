@@ -238,7 +238,10 @@ class Source:
                 self.code = re.sub(rf'\bimpl (?:<[^{{]*?> )?{owner} (?:<[^{{]*?> )?{pair("b")}',
                                    lambda match, name=name: self.unlisted(match[0], name), self.code)
             if not names:
-                self.put(8, rf'\bpub (?=(?:struct|enum) {owner} )', '#[non_exhaustive] pub ')
+                crate, kind, traits = re.fullmatch(r'(?:(\w+)/)?(\w+)(?:: (.*))?', owner).groups()
+                given = f'derive({traits})' if traits else 'non_exhaustive'
+                if crate in (None, self.crate):
+                    self.put(8, rf'\bpub (?=(?:struct|enum) {kind} )', f'#[{given}] pub ')
         self.calls(12, r'(push|push_str|extend_from_slice|reserve_exact)', 1, r'fallible_\1')
         for step in LAST:
             self.put(*step)

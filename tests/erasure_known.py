@@ -64,7 +64,8 @@ IMPLEMENTATIONS = {
 # The functions of the traits of std that the sources implement, and the types that implement
 # `Write`: Rust may pass a text on in other pieces than Rattle.
 TRAITS = {'Display': {'fmt'}, 'Eq': set(), 'From': {'from'}, 'Iterator': {'next'}, 'Model': set(),
-          'PartialEq': {'eq'}, 'Write': {'flush', 'write', 'write_str'}}
+          'Ord': {'cmp'}, 'PartialEq': {'eq'}, 'PartialOrd': {'partial_cmp'},
+          'Write': {'flush', 'write', 'write_str'}}
 WRITERS = {'Checksum', 'Fixed', 'Limited'}
 
 # Files with `{:?}`, which prints a text otherwise than in Rattle: the messages that are as in

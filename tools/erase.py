@@ -217,11 +217,16 @@ def laws(code, files):
 
 
 def listed(top):
-    """Returns what rust/interface.txt lists: functions as pairs of a type and a name, and types as
-    pairs without a name."""
+    """Returns what rust/interface.txt lists, with the attribute of each type: functions as pairs of
+    a type and a name, and types as pairs without a name."""
     path = f'{top}/rust/interface.txt'
     lines = open(path).read().splitlines() if os.path.exists(path) else []
-    return {(*line.split('::'), '')[:2] for line in lines if line and not line.startswith('#')}
+    found = {}
+    for line in (line for line in lines if line and not line.startswith('#')):
+        name, _, traits = line.partition(': ')
+        found[(*name.split('::'), '')[:2]] = (
+            f'#[derive({traits})]' if traits else '#[non_exhaustive]')
+    return found
 
 
 def type_with(code, i):
@@ -240,15 +245,16 @@ def type_with(code, i):
 
 def visible(code, private, seen):
     """Rule 8: makes a function with a `requires`, and one that rust/interface.txt lists,
-    `pub(crate)`, and a type that it lists `#[non_exhaustive]`. Rule 17: makes `main` callable from
+    `pub(crate)`, and gives a type that it lists its attribute. Rule 17: makes `main` callable from
     another file."""
     for kind in ('struct', 'enum'):
         for pub, _, name in ((*found, code.after(found[1])) for found in code.find('pub', kind)):
-            if (code.text(name), '') in private:
-                if (code.text(name), '') in seen:
+            for key in ((code.text(name), ''), (f'{code.crate}/{code.text(name)}', '')):
+                if key in seen:
                     code.stop(name, 'no rule for the name of two types, which is listed')
-                seen.add((code.text(name), ''))
-                code.t[pub].text = '#[non_exhaustive]\npub'
+                if key in private:
+                    seen.add(key)
+                    code.t[pub].text = f'{private[key]}\n{code.t[pub].text}'
     for (i,) in code.find('fn'):
         before = code.before(i)
         if code.text(before) == 'const':
@@ -486,7 +492,7 @@ def erase():
         check(code)
         inner = 'mod' if code.module in ('lib', 'main') else code.module
         yield f'{code.crate}/{inner}.rs', layout(code, (code.crate, code.module) in needing)
-    for owner, name in sorted(private - seen):
+    for owner, name in sorted(set(private) - seen):
         sys.exit(f'rust/interface.txt: no public type or function {owner} {name}')
 
 

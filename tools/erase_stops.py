@@ -26,7 +26,8 @@ CAST_TO = {'u8', 'u32', 'u64'}
 # The functions of the traits of std that the sources implement. `Write` only for these types: Rust
 # may pass a text on in other pieces than Rattle.
 TRAITS = {'Display': {'fmt'}, 'Eq': set(), 'From': {'from'}, 'Iterator': {'next'},
-          'PartialEq': {'eq'}, 'Write': {'flush', 'write', 'write_str'}, 'Model': set()}
+          'Ord': {'cmp'}, 'PartialEq': {'eq'}, 'PartialOrd': {'partial_cmp'},
+          'Write': {'flush', 'write', 'write_str'}, 'Model': set()}
 WRITERS = {'Checksum', 'Fixed', 'Limited'}
 # Formats of a value in a text. Files with `{:?}`, which prints a text otherwise than in Rattle: the
 # messages that are as in 0.10.3, which nothing reads again, and tests.

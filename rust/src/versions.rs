@@ -6,7 +6,7 @@ use crate::proved::semver_texts::grammar::Digits;
 use crate::proved::semver_versions::version::read_ref_in;
 use crate::{version, Dialect, Error, Version, VersionRef};
 use alloc::string::String;
-use core::cmp::Ordering;
+use alloc::vec::Vec;
 use core::fmt::{self, Debug, Formatter};
 use core::hash::{Hash, Hasher};
 use core::str::FromStr;
@@ -21,7 +21,7 @@ impl Version {
     /// ```
     #[must_use]
     pub const fn new(major: u64, minor: u64, patch: u64) -> Version {
-        Version { major, minor, patch, parts: String::new(), pre_len: 0 }
+        Version { major, minor, patch, parts: Vec::new(), pre_len: 0 }
     }
 
     /// Reads a version in a dialect.
@@ -39,14 +39,17 @@ impl Version {
     /// ```
     #[inline]
     pub fn parse(string: &str, dialect: Dialect) -> Result<Version, Error> {
-        VersionRef::parse(string, dialect)?.owned().map_err(|_| Error::out_of_memory())
+        match read_ref_in(string.as_bytes(), dialect.grammar()) {
+            Some(version) => version.owned().map_err(|_| Error::out_of_memory()),
+            None => Err(Error::from_string(Expected::Version, dialect, string)),
+        }
     }
 
     /// Returns a version without build metadata that is given as data of 0.10. What is printed after
     /// the first hyphen is the pre-release.
     pub(crate) fn without_build(version: &version::Version) -> Version {
         let printed = printed(version);
-        let parts: String = printed.split_once('-').map_or("", |(_, pre)| pre).into();
+        let parts: Vec<u8> = printed.split_once('-').map_or("", |(_, pre)| pre).into();
         let pre_len = parts.len();
         Version { parts, pre_len, ..Version::new(version.major, version.minor, version.patch) }
     }
@@ -101,67 +104,31 @@ impl<'t> VersionRef<'t> {
     pub fn to_version(&self) -> Version {
         self.owned().unwrap_or_else(|_| out_of_memory())
     }
+}
 
-    #[inline(always)]
-    fn as_version_ref(&self) -> VersionRef<'t> {
-        *self
-    }
-
-    fn parts(&self) -> (u64, u64, u64, &'t str, &'t str) {
-        (self.major(), self.minor(), self.patch(), self.pre(), self.build())
+impl Hash for VersionRef<'_> {
+    fn hash<H: Hasher>(&self, state: &mut H) {
+        (self.major, self.minor, self.patch, self.pre, self.build).hash(state);
     }
 }
 
-impl Copy for VersionRef<'_> {}
-
-impl Clone for VersionRef<'_> {
-    fn clone(&self) -> Self {
-        *self
+impl Hash for Version {
+    fn hash<H: Hasher>(&self, state: &mut H) {
+        self.as_version_ref().hash(state);
     }
 }
 
-macro_rules! versions {
-    ($($type:ty),*) => {$(
-        impl PartialEq for $type {
-            /// Returns whether both have the same numbers, pre-release and build metadata.
-            fn eq(&self, other: &Self) -> bool {
-                self.as_version_ref().parts() == other.as_version_ref().parts()
-            }
-        }
-
-        impl Eq for $type {}
-
-        impl Hash for $type {
-            fn hash<H: Hasher>(&self, state: &mut H) {
-                self.as_version_ref().parts().hash(state);
-            }
-        }
-
-        impl Ord for $type {
-            /// Compares by precedence (SemVer 2.0.0, section 11), and versions of equal precedence
-            /// by their pre-releases and then by their build metadata, as strings.
-            #[inline]
-            fn cmp(&self, other: &Self) -> Ordering {
-                self.cmp_all(other)
-            }
-        }
-
-        impl PartialOrd for $type {
-            #[inline]
-            fn partial_cmp(&self, other: &Self) -> Option<Ordering> {
-                Some(self.cmp(other))
-            }
-        }
-
-        impl Debug for $type {
-            fn fmt(&self, f: &mut Formatter<'_>) -> fmt::Result {
-                write!(f, "\"{self}\"")
-            }
-        }
-    )*};
+impl Debug for VersionRef<'_> {
+    fn fmt(&self, f: &mut Formatter<'_>) -> fmt::Result {
+        write!(f, "\"{self}\"")
+    }
 }
 
-versions!(Version, VersionRef<'_>);
+impl Debug for Version {
+    fn fmt(&self, f: &mut Formatter<'_>) -> fmt::Result {
+        self.as_version_ref().fmt(f)
+    }
+}
 
 impl FromStr for Version {
     type Err = Error;
@@ -198,13 +165,6 @@ impl From<VersionRef<'_>> for Version {
     /// Returns [`VersionRef::to_version`].
     fn from(version: VersionRef<'_>) -> Version {
         version.to_version()
-    }
-}
-
-impl<'t> From<&'t Version> for VersionRef<'t> {
-    /// Returns [`Version::as_version_ref`].
-    fn from(version: &'t Version) -> VersionRef<'t> {
-        version.as_version_ref()
     }
 }
 

@@ -8,3 +8,4 @@ pub mod ReadVersions
 pub mod TextSlices
 pub mod WhiteSpaces
 mod ClonedIdentifiers
+pub mod SameParts

@@ -1,11 +1,12 @@
 //! Versions that own their strings.
 
-ghost use Rattle.std.specs.Prelude.{◌≡◌, ◌++◌, ◌⊎◌, ◌<◌, IfOk, IfErr, length, string_bytes};
-ghost use Rattle.std.specs.Prelude.{Some, not};
+ghost use Rattle.std.specs.Prelude.{◌≡◌, ◌++◌, ◌⊎◌, ◌<◌, IfOk, IfErr, length};
+ghost use Rattle.std.specs.Prelude.{◌↔◌, Some, not, true};
+ghost use Rattle.std.specs.Ordering.{eq_by_cmp};
 ghost use Rattle.semver_texts.specs.Precedence.{precedence};
 ghost use Rattle.semver_texts.specs.Texts.{is_empty};
 ghost use Rattle.semver_texts.specs.declared.grammar.Digits.TheVariants.{AnySize};
-ghost use Rattle.semver_versions.specs.VersionOrder.{order, semver_of};
+ghost use Rattle.semver_versions.specs.VersionOrder.{HaveSameParts, order, semver_of};
 
 use crate::version_ref::VersionRef;
 use semver_texts::grammar::Digits;
@@ -29,13 +30,14 @@ use std::marker::Model;
 /// assert!(version < Version::new(1, 2, 3));
 /// # Ok::<(), semver_parser::Error>(())
 /// ```
-#[derive(Clone, Drop)]
+#[derive(Drop)]
 pub struct Version {
     pub(crate) major: u64,
     pub(crate) minor: u64,
     pub(crate) patch: u64,
-    /// The pre-release, and then the build metadata.
-    pub(crate) parts: String,
+    /// The bytes of the pre-release, and then those of the build metadata. They aren't a `String`,
+    /// whose bytes would have to be checked for UTF-8 when a version is read.
+    pub(crate) parts: Vec<u8>,
     pub(crate) pre_len: usize,
 }
 
@@ -143,14 +145,13 @@ impl Version {
             .cmp_precedence(&other.as_version_ref())
     }
 
-    // Determined by: equation.
-    /// Compares two versions like `VersionRef::cmp_all`.
-    #[must_use]
-    #[inline(always)]
-    pub fn cmp_all(&self, other: &Version) -> Ordering
+    /// Returns the result of `cmp`. It is compiled separately, for speed: most versions differ in
+    /// their numbers.
+    #[inline(never)]
+    fn cmp_parts(&self, other: &Version) -> Ordering
         ensures { result ≡ order self.now other.now }
     {
-        self.as_version_ref().cmp_all(&other.as_version_ref())
+        self.as_version_ref().cmp_parts(&other.as_version_ref())
     }
 
     // Determined by: equation.
@@ -166,7 +167,7 @@ impl Version {
     pub fn as_version_ref(&self) -> VersionRef<'_>
         ensures { result ≡ self.now }
     {
-        let (pre, build) = self.parts.as_bytes().split_at(self.pre_len);
+        let (pre, build) = self.parts.as_slice().split_at(self.pre_len);
         VersionRef {
             major: self.major,
             minor: self.minor,
@@ -181,7 +182,7 @@ impl Version {
 }
 
 impl Model for Version {
-    ghost use Rattle.std.specs.Prelude.{◌≤◌, drop, length, string_bytes, take};
+    ghost use Rattle.std.specs.Prelude.{◌≤◌, drop, length, take};
     ghost use Rattle.semver_texts.specs.declared.grammar.Digits.TheVariants.{AnySize};
     ghost use Rattle.semver_versions.specs.VersionRefs.{VersionRefValue};
     ghost use Rattle.semver_versions.specs.Steps.Reading.{ArePartTexts};
@@ -192,16 +193,101 @@ impl Model for Version {
       major = o.major;
       minor = o.minor;
       patch = o.patch;
-      pre = take o.pre_len (string_bytes o.parts);
-      build = drop o.pre_len (string_bytes o.parts);
+      pre = take o.pre_len o.parts.items;
+      build = drop o.pre_len o.parts.items;
       pre_offset = 0;
       build_offset = 0;
       digits = AnySize;
     } };
 
-    ghost invariant = { λ o. (o.pre_len ≤ length (string_bytes o.parts))
-        × (ArePartTexts (take o.pre_len (string_bytes o.parts))
-        × ArePartTexts (drop o.pre_len (string_bytes o.parts))) };
+    ghost invariant = { λ o. (o.pre_len ≤ length o.parts.items)
+        × (ArePartTexts (take o.pre_len o.parts.items)
+        × ArePartTexts (drop o.pre_len o.parts.items)) };
+}
+
+// Determined by: equation.
+impl PartialEq for Version {
+    ghost use Rattle.std.specs.Cmp.{partial_equiv_from_equiv};
+    ghost use Rattle.std.specs.Ordering.{eq_by_cmp};
+    ghost use Rattle.semver_versions.specs.Steps.OrderLaws.{same_equiv};
+    ghost use Rattle.semver_versions.specs.VersionOrder.{order};
+
+    ghost eq = { eq_by_cmp order };
+
+    ghost laws = { partial_equiv_from_equiv same_equiv };
+
+    /// Returns whether both have the same numbers, pre-release and build metadata.
+    fn eq(&self, other: &Version) -> bool
+        ensures value { result ≡ eq_by_cmp order self.now other.now }
+        ensures same { (result ≡ true) ↔ HaveSameParts self.now other.now }
+    {
+        self.as_version_ref() == other.as_version_ref()
+    }
+}
+
+impl Eq for Version {
+    ghost use Rattle.semver_versions.specs.Steps.OrderLaws.{same_equiv};
+
+    ghost laws = { same_equiv };
+}
+
+// Determined by: equation.
+impl Ord for Version {
+    ghost use Rattle.std.specs.Prelude.{refl};
+    ghost use Rattle.semver_versions.specs.Steps.OrderLaws.{order_total};
+    ghost use Rattle.semver_versions.specs.VersionOrder.{order};
+
+    ghost cmp = { order };
+
+    ghost total = { order_total };
+
+    ghost matches_partial_cmp = { λ a b. refl };
+
+    ghost matches_eq = { λ a b. refl };
+
+    /// Compares by precedence (SemVer 2.0.0, section 11), and versions of equal precedence by their
+    /// pre-releases and then by their build metadata, as strings. It does not allocate.
+    #[inline]
+    fn cmp(&self, other: &Version) -> Ordering {
+        // Comparing tuples instead, sorting takes half again as many instructions.
+        if self.major != other.major {
+            return self.major.cmp(&other.major);
+        }
+        if self.minor != other.minor {
+            return self.minor.cmp(&other.minor);
+        }
+        if self.patch != other.patch {
+            return self.patch.cmp(&other.patch);
+        }
+        self.cmp_parts(other)
+    }
+}
+
+// Determined by: equation.
+impl PartialOrd for Version {
+    ghost use Rattle.std.specs.Cmp.{partial_order_from_total};
+    ghost use Rattle.std.specs.Ordering.{as_partial_cmp};
+    ghost use Rattle.semver_versions.specs.Steps.OrderLaws.{order_total};
+    ghost use Rattle.semver_versions.specs.VersionOrder.{order};
+
+    ghost partial_cmp = { as_partial_cmp order };
+
+    ghost laws = { partial_order_from_total order_total };
+
+    #[inline]
+    fn partial_cmp(&self, other: &Version) -> Option<Ordering> {
+        Some(self.cmp(other))
+    }
+}
+
+// Determined by: equation.
+impl<'t> From<&'t Version> for VersionRef<'t> {
+    ghost from_gives = { λ version result. result ≡ version.now };
+
+    /// Returns [`Version::as_version_ref`].
+    fn from(version: &'t Version) -> VersionRef<'t> {
+        version.as_version_ref()
+    }
 }
 
 impl<'t> VersionRef<'t> {
@@ -224,24 +310,30 @@ impl<'t> VersionRef<'t> {
         })
     }
 
-    /// Returns the pre-release and the build metadata in one string.
-    fn joined(&self, alloc: Global) -> Result<String, AllocError>
-        ensures joined { IfOk result (λ parts.
-            string_bytes parts ≡ self.now.pre ++ self.now.build) }
+    /// Returns the bytes of the pre-release, and then those of the build metadata.
+    #[inline(always)]
+    fn joined(&self, alloc: Global) -> Result<Vec<u8>, AllocError>
+        ensures joined { IfOk result (λ parts. parts.items ≡ self.now.pre ++ self.now.build) }
         ensures out_of_memory { IfErr result
             (λ _. (0 < length self.now.pre) ⊎ (0 < length self.now.build)) }
     {
         if self.pre.is_empty() && self.build.is_empty() {
-            return Ok(String::new(alloc));
+            return Ok(Vec::new(alloc));
         }
-        let mut parts = String::with_capacity(
-            alloc,
-            self.pre.len().saturating_add(self.build.len()),
-        )?;
-        parts.push_str(self.pre())?;
-        parts.push_str(self.build())?;
-        Ok(parts)
+        joined(alloc, self.pre, self.build)
     }
+}
+
+/// Returns the bytes of both slices in one list. It is compiled separately, for speed: most
+/// versions have no identifiers.
+#[inline(never)]
+fn joined(alloc: Global, first: &[u8], second: &[u8]) -> Result<Vec<u8>, AllocError>
+    ensures { IfOk result (λ bytes. bytes.items ≡ first.now ++ second.now) }
+{
+    let mut bytes = Vec::with_capacity(alloc, first.len().saturating_add(second.len()))?;
+    bytes.extend_from_slice(first)?;
+    bytes.extend_from_slice(second)?;
+    Ok(bytes)
 }
 
 // Determined by: equation.

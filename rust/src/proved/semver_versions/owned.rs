@@ -28,17 +28,10 @@ pub struct Version {
     pub(crate) major: u64,
     pub(crate) minor: u64,
     pub(crate) patch: u64,
-    /// The pre-release, and then the build metadata.
-    pub(crate) parts: String,
+    /// The bytes of the pre-release, and then those of the build metadata. They aren't a `String`,
+    /// whose bytes would have to be checked for UTF-8 when a version is read.
+    pub(crate) parts: Vec<u8>,
     pub(crate) pre_len: usize,
-}
-
-impl crate::rattle_std::FallibleClone for Version {
-    fn fallible_clone(&self) -> Result<Self, crate::rattle_std::AllocError> {
-        match self {
-            Version { major, minor, patch, parts, pre_len } => Ok(Version { major: *major, minor: *minor, patch: *patch, parts: parts.fallible_clone()?, pre_len: *pre_len }),
-        }
-    }
 }
 
 impl Version {
@@ -124,11 +117,11 @@ impl Version {
             .cmp_precedence(&other.as_version_ref())
     }
 
-    /// Compares two versions like `VersionRef::cmp_all`.
-    #[must_use]
-    #[inline(always)]
-    pub(crate) fn cmp_all(&self, other: &Version) -> Ordering {
-        self.as_version_ref().cmp_all(&other.as_version_ref())
+    /// Returns the result of `cmp`. It is compiled separately, for speed: most versions differ in
+    /// their numbers.
+    #[inline(never)]
+    fn cmp_parts(&self, other: &Version) -> Ordering {
+        self.as_version_ref().cmp_parts(&other.as_version_ref())
     }
 
     /// Returns the version as one that borrows this one's strings.
@@ -141,7 +134,7 @@ impl Version {
     #[must_use]
     #[inline(always)]
     pub fn as_version_ref(&self) -> VersionRef<'_> {
-        let (pre, build) = self.parts.as_bytes().split_at(self.pre_len);
+        let (pre, build) = self.parts.as_slice().split_at(self.pre_len);
         VersionRef {
             major: self.major,
             minor: self.minor,
@@ -152,6 +145,49 @@ impl Version {
             before_build: 0,
             digits: Digits::AnySize,
         }
+    }
+}
+
+impl PartialEq for Version {
+    /// Returns whether both have the same numbers, pre-release and build metadata.
+    fn eq(&self, other: &Version) -> bool {
+        self.as_version_ref() == other.as_version_ref()
+    }
+}
+
+impl Eq for Version {
+}
+
+impl Ord for Version {
+    /// Compares by precedence (SemVer 2.0.0, section 11), and versions of equal precedence by their
+    /// pre-releases and then by their build metadata, as strings. It does not allocate.
+    #[inline]
+    fn cmp(&self, other: &Version) -> Ordering {
+        // Comparing tuples instead, sorting takes half again as many instructions.
+        if self.major != other.major {
+            return self.major.cmp(&other.major);
+        }
+        if self.minor != other.minor {
+            return self.minor.cmp(&other.minor);
+        }
+        if self.patch != other.patch {
+            return self.patch.cmp(&other.patch);
+        }
+        self.cmp_parts(other)
+    }
+}
+
+impl PartialOrd for Version {
+    #[inline]
+    fn partial_cmp(&self, other: &Version) -> Option<Ordering> {
+        Some(self.cmp(other))
+    }
+}
+
+impl<'t> From<&'t Version> for VersionRef<'t> {
+    /// Returns [`Version::as_version_ref`].
+    fn from(version: &'t Version) -> VersionRef<'t> {
+        version.as_version_ref()
     }
 }
 
@@ -169,18 +205,24 @@ impl<'t> VersionRef<'t> {
         })
     }
 
-    /// Returns the pre-release and the build metadata in one string.
-    fn joined(&self) -> Result<String, AllocError> {
+    /// Returns the bytes of the pre-release, and then those of the build metadata.
+    #[inline(always)]
+    fn joined(&self) -> Result<Vec<u8>, AllocError> {
         if self.pre.is_empty() && self.build.is_empty() {
-            return Ok(String::new());
+            return Ok(Vec::new());
         }
-        let mut parts = String::fallible_with_capacity(
-            self.pre.len().saturating_add(self.build.len()),
-        )?;
-        parts.fallible_push_str(self.pre())?;
-        parts.fallible_push_str(self.build())?;
-        Ok(parts)
+        joined(self.pre, self.build)
     }
+}
+
+/// Returns the bytes of both slices in one list. It is compiled separately, for speed: most
+/// versions have no identifiers.
+#[inline(never)]
+fn joined(first: &[u8], second: &[u8]) -> Result<Vec<u8>, AllocError> {
+    let mut bytes = Vec::fallible_with_capacity(first.len().saturating_add(second.len()))?;
+    bytes.fallible_extend_from_slice(first)?;
+    bytes.fallible_extend_from_slice(second)?;
+    Ok(bytes)
 }
 
 impl fmt::Display for Version {

@@ -35,13 +35,10 @@ impl<'t> VersionRef<'t> {
         )
     }
 
-    /// Compares two borrowed versions by precedence. Versions of equal precedence are compared by
-    /// the bytes of their pre-releases, and then by those of their build metadata. So the result is
-    /// `Equal` if and only if both have the same numbers, pre-release and build metadata. It does
-    /// not allocate.
-    #[must_use]
-    #[inline(always)]
-    pub(crate) fn cmp_all(&self, other: &VersionRef<'_>) -> Ordering {
+    /// Returns the result of `cmp`. It is compiled separately, for speed: most versions differ in
+    /// their numbers.
+    #[inline(never)]
+    pub(crate) fn cmp_parts(&self, other: &VersionRef<'_>) -> Ordering {
         let by_precedence = self.cmp_precedence(other);
         if by_precedence.is_ne() {
             return by_precedence;
@@ -51,6 +48,46 @@ impl<'t> VersionRef<'t> {
             return by_pre;
         }
         self.build.cmp(other.build)
+    }
+}
+
+impl<'t> PartialEq for VersionRef<'t> {
+    /// Returns whether both have the same numbers, pre-release and build metadata.
+    fn eq(&self, other: &VersionRef<'t>) -> bool {
+        self.major == other.major
+            && self.minor == other.minor
+            && self.patch == other.patch
+            && self.pre == other.pre
+            && self.build == other.build
+    }
+}
+
+impl<'t> Eq for VersionRef<'t> {
+}
+
+impl<'t> Ord for VersionRef<'t> {
+    /// Compares by precedence (SemVer 2.0.0, section 11), and versions of equal precedence by their
+    /// pre-releases and then by their build metadata, as strings. It does not allocate.
+    #[inline]
+    fn cmp(&self, other: &VersionRef<'t>) -> Ordering {
+        // Comparing tuples instead, sorting takes half again as many instructions.
+        if self.major != other.major {
+            return self.major.cmp(&other.major);
+        }
+        if self.minor != other.minor {
+            return self.minor.cmp(&other.minor);
+        }
+        if self.patch != other.patch {
+            return self.patch.cmp(&other.patch);
+        }
+        self.cmp_parts(other)
+    }
+}
+
+impl<'t> PartialOrd for VersionRef<'t> {
+    #[inline]
+    fn partial_cmp(&self, other: &VersionRef<'t>) -> Option<Ordering> {
+        Some(self.cmp(other))
     }
 }
 

@@ -23,6 +23,7 @@ use crate::rattle_std::cmp::Ordering;
 /// assert_eq!((version.pre(), version.build()), ("rc.4", "5aedf"));
 /// # Ok::<(), semver_parser::Error>(())
 /// ```
+#[derive(Clone, Copy)]
 pub struct VersionRef<'t> {
     pub(crate) major: u64,
     pub(crate) minor: u64,
