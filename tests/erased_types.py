@@ -41,7 +41,7 @@ KNOWN = {
     'Chars as IntoIterator': 'into_iter', 'Chars as Iterator': 'all next',
     'Enumerate as IntoIterator': 'into_iter', 'Enumerate as Iterator': 'next',
     'Error': 'kind', 'Error as From': 'from', 'ErrorKind as PartialEq': 'eq ne',
-    'ExitCode as From': 'from', 'Formatter': 'alternate write_fmt write_str',
+    'ExitCode as From': 'from', 'Formatter': 'alternate pad write_fmt write_str',
     'IntoIter as IntoIterator': 'into_iter', 'IntoIter as Iterator': 'next',
     'Iter as IntoIterator': 'into_iter',
     'Iter as Iterator': 'all any enumerate next skip take_while zip',

@@ -25,14 +25,6 @@ impl Error {
     }
 }
 
-impl PartialEq for Error {
-    fn eq(&self, other: &Error) -> bool {
-        self.cause == other.cause
-    }
-}
-
-impl Eq for Error {}
-
 impl From<RangeError> for Error {
     /// Converts the error of [`RangeSet::try_parse`](crate::RangeSet::try_parse), which doesn't
     /// have the string.

@@ -2,7 +2,6 @@
 
 use crate::proved::semver_errors::names::{dialect_named, rule_named};
 use crate::{Dialect, Error, PreReleases, Rules};
-use core::fmt::{self, Display, Formatter};
 use core::str::FromStr;
 
 impl Dialect {
@@ -36,13 +35,6 @@ impl Dialect {
     }
 }
 
-impl From<Dialect> for Rules {
-    /// Returns `dialect.with(PreReleases::ByDialect)`.
-    fn from(dialect: Dialect) -> Rules {
-        dialect.with(PreReleases::ByDialect)
-    }
-}
-
 impl Default for PreReleases {
     /// Returns [`PreReleases::ByDialect`].
     fn default() -> PreReleases {
@@ -50,27 +42,20 @@ impl Default for PreReleases {
     }
 }
 
-macro_rules! named {
-    ($($type:ident: $named:ident;)*) => {$(
-        impl Display for $type {
-            /// Writes the name.
-            fn fmt(&self, f: &mut Formatter<'_>) -> fmt::Result {
-                f.pad(self.name())
-            }
-        }
+impl FromStr for Dialect {
+    type Err = Error;
 
-        impl FromStr for $type {
-            type Err = Error;
-
-            /// Returns the value that has the name.
-            fn from_str(name: &str) -> Result<$type, Error> {
-                $named(name)
-            }
-        }
-    )*};
+    /// Returns the dialect that has the name.
+    fn from_str(name: &str) -> Result<Dialect, Error> {
+        dialect_named(name)
+    }
 }
 
-named! {
-    Dialect: dialect_named;
-    PreReleases: rule_named;
+impl FromStr for PreReleases {
+    type Err = Error;
+
+    /// Returns the rule that has the name.
+    fn from_str(name: &str) -> Result<PreReleases, Error> {
+        rule_named(name)
+    }
 }

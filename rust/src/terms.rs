@@ -1,8 +1,6 @@
 //! The terms of a range, as they are written.
 
-use crate::proved::range_terms::terms::copy;
-use crate::{Dialect, Error, Operator, Span, Terms};
-use core::fmt::{self, Display, Formatter};
+use crate::{Dialect, Error, Span, Terms};
 use core::iter::FusedIterator;
 use core::ops::Range;
 
@@ -31,12 +29,6 @@ pub fn terms(range: &str, dialect: Dialect) -> Result<Terms<'_>, Error> {
     Terms::try_parse(range, dialect).map_err(|error| Error::from_range(error, range, dialect))
 }
 
-impl Clone for Terms<'_> {
-    fn clone(&self) -> Self {
-        copy(self)
-    }
-}
-
 impl FusedIterator for Terms<'_> {}
 
 impl Span {
@@ -56,13 +48,5 @@ impl Span {
 impl From<Span> for Range<usize> {
     fn from(span: Span) -> Range<usize> {
         span.range()
-    }
-}
-
-impl Display for Operator {
-    /// Writes the operator as it is written in a range. [`Operator::Bare`] is written as nothing,
-    /// and [`Operator::Hyphen`] as `-`.
-    fn fmt(&self, f: &mut Formatter<'_>) -> fmt::Result {
-        f.pad(self.sign())
     }
 }

@@ -6,7 +6,7 @@ use crate::proved::tool_ranges::satisfying;
 use crate::proved::tool_ranges::version_range as proved;
 use crate::proved::requirements::requirement::requirement;
 use crate::proved::tool_ranges::dialect::rewrite;
-use crate::proved::version_sets::{Combination, Release, VersionSet};
+use crate::proved::version_sets::{Combination, Release};
 use crate::{AsVersion, Dialect, Error, ErrorKind, RangeSet, Rules, Version};
 use alloc::string::String;
 use core::fmt::{self, Debug, Display, Formatter};
@@ -76,7 +76,7 @@ pub fn comparators(range: &str, dialect: Dialect) -> Result<RangeSet, Error> {
 /// assert_eq!((&old - &new).to_string(), "=1.2.0 || >=1.9.0, <2.0.0");
 /// # Ok::<(), semver_parser::Error>(())
 /// ```
-#[derive(PartialEq, Eq)]
+#[derive(Clone, PartialEq, Eq)]
 pub struct VersionRange(pub(crate) proved::VersionRange);
 
 impl VersionRange {
@@ -140,7 +140,7 @@ impl VersionRange {
     /// Returns the highest of the given versions that the range contains, or `None` if it contains
     /// none of them. Versions are compared by precedence, and the first of equal versions is
     /// returned. Strings that are invalid versions in the range's dialect are skipped; to find
-    /// them, read the versions first.
+    /// them, read the versions first. All strings are collected before one is chosen.
     ///
     /// ```
     /// use semver_parser::{Dialect, Version, VersionRange};
@@ -377,15 +377,6 @@ impl Display for VersionRange {
 impl Debug for VersionRange {
     fn fmt(&self, f: &mut Formatter<'_>) -> fmt::Result {
         write!(f, "VersionRange({self}, {:?})", self.rules())
-    }
-}
-
-impl Clone for VersionRange {
-    fn clone(&self) -> VersionRange {
-        let VersionSet { releases, pre_releases, digits } = self.0.versions();
-        let (releases, pre_releases) = (releases.clone(), pre_releases.clone());
-        let versions = VersionSet { releases, pre_releases, digits: *digits };
-        VersionRange(proved::VersionRange { versions, meaning: self.rules() })
     }
 }
 

@@ -1,7 +1,7 @@
 //! A term of a range string, as it is written.
 
-ghost use Rattle.std.specs.Prelude.{◌≡◌, option_map};
-ghost use Rattle.std.specs.Fmt.{WritesOnOk};
+ghost use Rattle.std.specs.Prelude.{◌≡◌, Some, option_map};
+ghost use Rattle.std.specs.Fmt.{WritesOnOk, padded};
 ghost use Rattle.range_terms.specs.OperatorTable.{number_of, sign_of};
 ghost use Rattle.range_terms.specs.Rewriting.{component_with, states_three, with_version};
 ghost use Rattle.range_terms.specs.WrittenTerms.{version_value};
@@ -81,6 +81,19 @@ impl Operator {
             Operator::Caret => "^",
             Operator::Hyphen => "-",
         }
+    }
+}
+
+// Determined by: equation.
+impl fmt::Display for Operator {
+    ghost output = { λ operator. Some (sign_of operator) };
+
+    ghost styled_output = { λ operator spec. Some (padded spec (sign_of operator)) };
+
+    /// Writes the operator as it is written in a range. [`Operator::Bare`] is written as nothing,
+    /// and [`Operator::Hyphen`] as `-`.
+    fn fmt<W: fmt::Write>(&self, f: &mut fmt::Formatter<W>) -> fmt::Result {
+        f.pad(self.sign())
     }
 }
 

@@ -172,20 +172,6 @@ pub fn of_range(range: &str, dialect: Dialect) -> Terms<'_>
     }
 }
 
-// Determined by: equation.
-/// Returns an iterator that has the same terms left.
-#[must_use]
-pub fn copy<'text>(terms: &Terms<'text>) -> Terms<'text>
-    ensures { result ≡ terms.now }
-{
-    Terms {
-        len: terms.len,
-        grammar: terms.grammar,
-        range: terms.range,
-        cursor: terms.cursor,
-    }
-}
-
 /// Returns a term of the range with an index, in a string with a length of `len` bytes.
 fn term_of<'text>(read: &RawTerm<'text>, range: usize, len: usize) -> Term<'text>
     requires { (d : some.Grammar) × (x : FoundTerm) × IsTermOf d x read.now

@@ -1,7 +1,8 @@
 //! The dialects of range strings: Cargo's, npm's, and the two modes of the crate `semver-parser`,
 //! with their numbers and names.
 
-ghost use Rattle.std.specs.Prelude.{◌≡◌, [], IfOk, IsTrue, MatchOption};
+ghost use Rattle.std.specs.Prelude.{◌≡◌, [], IfOk, IsTrue, MatchOption, Some};
+ghost use Rattle.std.specs.Fmt.{padded};
 ghost use Rattle.semver_texts.specs.Versions.{PlainVersion};
 ghost use Rattle.semver_ranges.specs.SatisfiedComparators.{meets_set};
 ghost use Rattle.semver_ranges.specs.PrintedRanges.{IsPrintableSet, set_text};
@@ -17,6 +18,7 @@ use crate::{cargo, npm};
 use semver_ranges::{Compat, RangeError, RangeSet};
 use semver_texts::grammar::Grammar;
 use std::alloc::Global;
+use std::fmt;
 
 /// A dialect of range strings. The page `docs::ranges` compares them.
 ///
@@ -115,6 +117,18 @@ impl Dialect {
             Dialect::Cargo => ", ",
             Dialect::Npm | Dialect::CrateCargo | Dialect::CrateNpm => " ",
         }
+    }
+}
+
+// Determined by: equation.
+impl fmt::Display for Dialect {
+    ghost output = { λ dialect. Some (name_of dialect) };
+
+    ghost styled_output = { λ dialect spec. Some (padded spec (name_of dialect)) };
+
+    /// Writes the name.
+    fn fmt<W: fmt::Write>(&self, f: &mut fmt::Formatter<W>) -> fmt::Result {
+        f.pad(self.name())
     }
 }
 

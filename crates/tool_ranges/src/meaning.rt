@@ -16,6 +16,7 @@ ghost use Rattle.semver_ranges.specs.RangeTexts.{RefusesExactly};
 ghost use Rattle.semver_ranges.specs.RangeTree.{SetTree, Spells};
 ghost use Rattle.version_sets.specs.Printable.{IsPrintable};
 ghost use Rattle.version_sets.specs.PreReleaseRules.{meant_with, numbers_fit};
+ghost use Rattle.version_sets.specs.declared.rules.PreReleases.TheVariants.{ByDialect};
 ghost use Rattle.tool_ranges.specs.Dialects.{RefusesAs, SpellsAs, grammar_of};
 ghost use Rattle.tool_ranges.specs.Meanings.{MeansAs, meant_as};
 
@@ -46,6 +47,20 @@ pub struct Rules {
     /// default; with `Included`, every one within the bounds, as with node-semver's
     /// `includePrerelease`; with `Excluded`, none.
     pub pre_releases: PreReleases,
+}
+
+// Determined by: equation.
+impl From<Dialect> for Rules {
+    ghost from_gives = { λ it rules.
+        rules ≡ record { dialect = it; pre_releases = ByDialect } };
+
+    /// Returns `dialect.with(PreReleases::ByDialect)`.
+    fn from(dialect: Dialect) -> Rules {
+        Rules {
+            dialect,
+            pre_releases: PreReleases::ByDialect,
+        }
+    }
 }
 
 // Determined by: law result_laws::sets::one_read.

@@ -1,8 +1,11 @@
 //! The three rules for pre-releases, with their numbers and names.
 
-ghost use Rattle.std.specs.Prelude.{◌≡◌, MatchOption};
+ghost use Rattle.std.specs.Prelude.{◌≡◌, MatchOption, Some};
+ghost use Rattle.std.specs.Fmt.{padded};
 ghost use Rattle.version_sets.specs.PreReleaseTable.{name_of, number_of};
 ghost use Rattle.version_sets.specs.declared.rules.PreReleases.{PreReleases as SomePreReleases};
+
+use std::fmt;
 
 /// Which pre-releases satisfy a range (page `docs::ranges`, "Pre-releases"). Releases count with
 /// every rule.
@@ -73,5 +76,17 @@ impl PreReleases {
             PreReleases::Included => "included",
             PreReleases::Excluded => "excluded",
         }
+    }
+}
+
+// Determined by: equation.
+impl fmt::Display for PreReleases {
+    ghost output = { λ rule. Some (name_of rule) };
+
+    ghost styled_output = { λ rule spec. Some (padded spec (name_of rule)) };
+
+    /// Writes the name.
+    fn fmt<W: fmt::Write>(&self, f: &mut fmt::Formatter<W>) -> fmt::Result {
+        f.pad(self.name())
     }
 }

@@ -1,6 +1,5 @@
 //! The terms of a range, as they are written.
 
-use crate::proved::range_terms::terms::copy;
 use crate::shared::{version_at, Component, Dialect, PartialVersion, Term, Terms};
 use crate::versions::read_ref;
 use crate::{bytes, ranges, state, status};
@@ -31,7 +30,7 @@ pub unsafe extern "C" fn range_terms(at: *const u8, len: usize, dialect: i32) ->
     let Ok(terms) = Terms::try_parse(range, dialect) else { return status::INVALID_RANGE };
     state::with(|state| {
         state.terms.clear();
-        if state.terms.try_reserve(NUMBERS * copy(&terms).count()).is_err() {
+        if state.terms.try_reserve(NUMBERS * terms.clone().count()).is_err() {
             return status::OUT_OF_MEMORY;
         }
         let mut count = 0;

@@ -73,6 +73,14 @@ impl Operator {
     }
 }
 
+impl fmt::Display for Operator {
+    /// Writes the operator as it is written in a range. [`Operator::Bare`] is written as nothing,
+    /// and [`Operator::Hyphen`] as `-`.
+    fn fmt(&self, f: &mut fmt::Formatter<'_>) -> fmt::Result {
+        f.pad(self.sign())
+    }
+}
+
 /// A part of a partial version.
 ///
 /// ```

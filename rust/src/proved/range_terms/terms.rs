@@ -34,6 +34,7 @@ use crate::proved::version_sets::PreReleases;
 /// # Ok::<(), semver_parser::Error>(())
 /// ```
 #[derive(Debug)]
+#[derive(Clone)]
 pub struct Terms<'text> {
     /// The length of the whole string.
     len: usize,
@@ -106,17 +107,6 @@ pub fn of_range(range: &str, dialect: Dialect) -> Terms<'_> {
         grammar,
         range: 0,
         cursor: Cursor::new(range.as_bytes(), grammar),
-    }
-}
-
-/// Returns an iterator that has the same terms left.
-#[must_use]
-pub fn copy<'text>(terms: &Terms<'text>) -> Terms<'text> {
-    Terms {
-        len: terms.len,
-        grammar: terms.grammar,
-        range: terms.range,
-        cursor: terms.cursor,
     }
 }
 

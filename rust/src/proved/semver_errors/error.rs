@@ -61,6 +61,7 @@ pub enum Kind {
 /// assert_eq!(error.suggestion().as_deref(), Some(">=1.2"));
 /// ```
 #[derive(Clone, Debug)]
+#[derive(PartialEq, Eq)]
 pub struct Error {
     pub(crate) cause: Cause,
 }

@@ -6,6 +6,7 @@ use crate::rattle_std::prelude::*;
 use crate::proved::tool_ranges::{cargo, npm};
 use crate::proved::semver_ranges::{Compat, RangeError, RangeSet};
 use crate::proved::semver_texts::grammar::Grammar;
+use crate::rattle_std::fmt;
 
 /// A dialect of range strings. The page `docs::ranges` compares them.
 ///
@@ -88,6 +89,13 @@ impl Dialect {
             Dialect::Cargo => ", ",
             Dialect::Npm | Dialect::CrateCargo | Dialect::CrateNpm => " ",
         }
+    }
+}
+
+impl fmt::Display for Dialect {
+    /// Writes the name.
+    fn fmt(&self, f: &mut fmt::Formatter<'_>) -> fmt::Result {
+        f.pad(self.name())
     }
 }
 

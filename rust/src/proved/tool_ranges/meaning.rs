@@ -34,6 +34,16 @@ pub struct Rules {
     pub pre_releases: PreReleases,
 }
 
+impl From<Dialect> for Rules {
+    /// Returns `dialect.with(PreReleases::ByDialect)`.
+    fn from(dialect: Dialect) -> Rules {
+        Rules {
+            dialect,
+            pre_releases: PreReleases::ByDialect,
+        }
+    }
+}
+
 /// Reads a range string into the set of the versions that satisfy it.
 ///
 /// The set of `^1.2.0, <1.5` contains 1.4.0 in Cargo's dialect; in the others that string is not a

@@ -26,6 +26,7 @@ use crate::proved::version_sets::{OperationError, VersionSet};
 /// # Ok::<(), semver_parser::Error>(())
 /// ```
 #[derive(Debug)]
+#[derive(Clone)]
 pub struct VersionRange {
     pub(crate) versions: VersionSet,
     pub(crate) meaning: Rules,

@@ -2,6 +2,8 @@
 //! The three rules for pre-releases, with their numbers and names.
 
 use crate::rattle_std::prelude::*;
+use crate::rattle_std::fmt;
+
 /// Which pre-releases satisfy a range (page `docs::ranges`, "Pre-releases"). Releases count with
 /// every rule.
 ///
@@ -62,5 +64,12 @@ impl PreReleases {
             PreReleases::Included => "included",
             PreReleases::Excluded => "excluded",
         }
+    }
+}
+
+impl fmt::Display for PreReleases {
+    /// Writes the name.
+    fn fmt(&self, f: &mut fmt::Formatter<'_>) -> fmt::Result {
+        f.pad(self.name())
     }
 }

@@ -21,6 +21,7 @@ use crate::rattle_std::AllocError;
 ///
 /// The releases of `>=1.2.0 <2.0.0 || 3.1.4` have the boundaries 1.2.0, 2.0.0, 3.1.4 and 3.1.5.
 #[derive(Debug)]
+#[derive(Clone)]
 pub struct VersionSet {
     /// The boundaries of the releases.
     pub(crate) releases: Vec<Release>,
