@@ -6,7 +6,7 @@ use crate::proved::tool_ranges::{cargo, meaning};
 use crate::proved::version_sets::VersionSet;
 use crate::shared::{self, version_at, PreReleases, Rules};
 use here::filters::filter_text;
-use here::{satisfies, terms, Compat, Dialect};
+use here::{satisfies, terms, Compat, Dialect, VersionRange, VersionRef};
 use semver::{Version, VersionReq};
 use semver_parser::{version, RangeSet};
 use std::hint::black_box;
@@ -39,6 +39,31 @@ pub fn semver_version(text: &str) -> u64 {
     Version::parse(text).map_or(REFUSED, |version| {
         let bytes = (version.pre.len() + version.build.len()) as u64;
         sum([version.major, version.minor, version.patch, bytes])
+    })
+}
+
+/// Parses a version of SemVer 2.0.0 here. Returns the sum of its numbers, and of 1 if it has a
+/// pre-release.
+pub fn here_owned(text: &str) -> u64 {
+    here::Version::parse(text, Dialect::Cargo).map_or(REFUSED, |version| {
+        let pre_release = u64::from(version.is_pre_release());
+        sum([version.major(), version.minor(), version.patch(), pre_release])
+    })
+}
+
+/// Does the same, and borrows the text.
+pub fn here_borrowed(text: &str) -> u64 {
+    VersionRef::parse(text, Dialect::Cargo).map_or(REFUSED, |version| {
+        let pre_release = u64::from(version.is_pre_release());
+        sum([version.major(), version.minor(), version.patch(), pre_release])
+    })
+}
+
+/// Does the same with the crate `semver`.
+pub fn semver_owned(text: &str) -> u64 {
+    Version::parse(text).map_or(REFUSED, |version| {
+        let pre_release = u64::from(!version.pre.is_empty());
+        sum([version.major, version.minor, version.patch, pre_release])
     })
 }
 
@@ -80,6 +105,11 @@ pub fn semver_range(text: &str) -> u64 {
 /// Returns 1 if a text is a requirement in Cargo's dialect here. Its comparators are made.
 pub fn here_requirement(text: &str) -> u64 {
     is_read(cargo::rewrite(text).is_ok())
+}
+
+/// Returns 1 if a text is a range in Cargo's dialect here. The set of its versions is made.
+pub fn here_version_range(text: &str) -> u64 {
+    is_read(VersionRange::parse(text, Dialect::Cargo).is_ok())
 }
 
 /// Returns whether a version satisfies a requirement in Cargo's dialect here. A text has both,

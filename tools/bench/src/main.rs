@@ -27,6 +27,7 @@ mod forms;
 mod generation;
 mod growth;
 mod npm;
+mod ordering;
 mod programs;
 #[path = "../../comparisons/src/random.rs"]
 mod random;

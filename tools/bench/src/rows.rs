@@ -1,9 +1,10 @@
 //! The rows whose texts are parsed one by one, and the calls that parse them.
 
 use crate::calls::{
-    here_is_version, here_meets, here_range, here_requirement, here_set, here_version,
-    parser_is_range, parser_is_version, parser_range, parser_version, semver_is_range,
-    semver_is_version, semver_meets, semver_range, semver_version, Call,
+    here_borrowed, here_is_version, here_meets, here_owned, here_range, here_requirement, here_set,
+    here_version, here_version_range, parser_is_range, parser_is_version, parser_range,
+    parser_version, semver_is_range, semver_is_version, semver_meets, semver_owned, semver_range,
+    semver_version, Call,
 };
 use crate::generation::Make;
 
@@ -17,9 +18,22 @@ pub struct Row {
 }
 
 /// The rows, in the order of the table.
-pub const ROWS: [Row; 14] = [
+pub const ROWS: [Row; 21] = [
     versions("plain versions", Make::Plain),
     versions("versions, plain and with identifiers", Make::Mixed),
+    owned("`Version`, plain", Make::Plain),
+    owned("`Version`, with identifiers", Make::Identified),
+    owned("`Version`, plain and with identifiers", Make::Mixed),
+    borrowed("`VersionRef`, plain", Make::Plain),
+    borrowed("`VersionRef`, with identifiers", Make::Identified),
+    borrowed("`VersionRef`, plain and with identifiers", Make::Mixed),
+    Row {
+        title: "`VersionRange` of one comparator, in Cargo's dialect",
+        make: Make::Simples,
+        here: here_version_range,
+        parser: None,
+        semver: semver_is_range,
+    },
     versions("invalid versions", Make::Refused),
     Row {
         title: "invalid versions, only checked",
@@ -55,6 +69,16 @@ impl Row {
 
 const fn versions(title: &'static str, make: Make) -> Row {
     Row { title, make, here: here_version, parser: Some(parser_version), semver: semver_version }
+}
+
+/// Returns a row of versions of SemVer 2.0.0 that own their strings.
+const fn owned(title: &'static str, make: Make) -> Row {
+    Row { title, make, here: here_owned, parser: None, semver: semver_owned }
+}
+
+/// Returns a row of versions of SemVer 2.0.0 that borrow their strings here.
+const fn borrowed(title: &'static str, make: Make) -> Row {
+    Row { title, make, here: here_borrowed, parser: None, semver: semver_owned }
 }
 
 const fn ranges(title: &'static str, make: Make) -> Row {

@@ -6,6 +6,7 @@ use crate::calls::{
 };
 use crate::cells::grouped;
 use crate::generation::Make;
+use crate::ordering::{self, Parsed};
 use crate::rows::{Row, ROWS};
 use crate::texts::{self, COUNT};
 use crate::timing::{best, Side};
@@ -39,10 +40,14 @@ pub fn print_table(seed: u64) -> Result<(), String> {
     }
     check_filter(&filters, &released)?;
     check_has(&filters, &mixed)?;
+    let parsed = ordering::parsed(seed)?;
 
     print_head();
     for (row, texts) in ROWS.iter().zip(&made) {
         print_times(&row_times(row, texts));
+    }
+    for (title, here, semver) in ordering::ROWS {
+        print_times(&ordering_times(title, [here, semver], &parsed));
     }
     print_times(&reading_times(&filters, &released));
     for times in filter_times(&filters, &released) {
@@ -72,6 +77,19 @@ fn row_times(row: &Row, texts: &[&str]) -> Times {
 /// Returns a side that parses texts one by one.
 pub fn side<'a>(call: Call) -> Side<'a, &'a [&'a str]> {
     Box::new(move |texts| texts.iter().fold(0, |sum: u64, text| sum.wrapping_add(call(text))))
+}
+
+/// Returns the times of a row of versions that were parsed before.
+fn ordering_times(title: &str, calls: [ordering::Call; 2], parsed: &[Parsed]) -> Times {
+    let sides = calls.map(|call| -> Side<'_, Parsed> { Box::new(call) });
+    let best = best(parsed, &sides);
+    Times {
+        title: title.to_string(),
+        here: best[0] / COUNT as f64,
+        parser: None,
+        semver: best[1] / COUNT as f64,
+        semver_reads: format!("all of {}", grouped(COUNT as u64)),
+    }
 }
 
 /// Returns the times of a filter that parses each version as far as needed: the mean for some
