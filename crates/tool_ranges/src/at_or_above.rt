@@ -33,8 +33,9 @@ use version_sets::{Conjunction, PreReleases};
 /// Returns whether some version that satisfies a range isn't below a borrowed version by
 /// precedence. The numeric identifiers of the borrowed version are read as in the dialect.
 ///
-/// The range is checked first, and then its terms are read once, or twice if some of them have a
-/// pre-release. Nothing is allocated.
+/// The range is checked first, and then its terms are read once more. With `ByDialect`, an
+/// alternative without such a release is read a third time, for the pre-releases that its terms
+/// name. Nothing is allocated.
 ///
 /// # Errors
 ///
