@@ -24,6 +24,7 @@ use Rattle.semver_ranges.specs.Steps.RangeEvents.{event_fits, set_events}
 use Rattle.semver_ranges.proofs.ReadingSound.{read_sound}
 use Rattle.semver_ranges.proofs.Tables.{IsTable}
 use Rattle.semver_ranges.proofs.EventLists.{set_fits}
+use Rattle.semver_ranges.proofs.FoundEvents.{first_bars}
 
 -- whether the events that are left fit, and those before them did; `None` if the text isn't in the
 -- grammar
@@ -41,15 +42,15 @@ pub fit_more : (fits : Simple → Bool) (whole : Option Bool) (fit here : Bool) 
     → whole ≡ fitted fits fit o → o ≡ put (one_simple s) left → here ≡ fits s → whole ≡ fitted fits (fit && here) left
 fit_more fits whole fit here o left s so_far first is = rw (so_far, first, is) (fit_simple fits fit s left)
 
-fit_bars : (fits : Simple → Bool) (fit : Bool) (o : Option (List Event)) → fitted fits fit (put next_range o) ≡ fitted fits fit o
+pub fit_bars : (fits : Simple → Bool) (fit : Bool) (o : Option (List Event)) → fitted fits fit (put next_range o) ≡ fitted fits fit o
 fit_bars fits fit None = refl
 fit_bars fits fit (Some es) = refl
 
 pub fit_next : (d : Grammar) (fits : Simple → Bool) (whole : Option Bool) (fit : Bool) (o : Option (List Event)) (cursor : Events)
     → whole ≡ fitted fits fit o → IsFirst d o event.NextRange cursor
     → (left : Option (List Event)) × HasLeft d cursor left × (whole ≡ fitted fits fit left)
-fit_next d fits whole fit o cursor so_far (one_simple s, left, is, has, e) = absurd is
-fit_next d fits whole fit o cursor so_far (next_range, left, is, has, e) =
+fit_next d fits whole fit o cursor so_far first =
+    let (left, has, e) = first_bars d o cursor first in
     (left, has, so_far ∙ ap (fitted fits fit) e ∙ fit_bars fits fit left)
 
 -- at the end of a text

@@ -49,6 +49,12 @@ module _ (d : Grammar) where
   first_simple o simple cursor (one_simple s, left, is, has, e) = record { s = s; left = left; is = is; has = has; whole = e }
   first_simple o simple cursor (next_range, left, is, has, e) = absurd is
 
+  -- two bars that are the first event, and the events that are left after them
+  pub first_bars : (o : Option (List Event)) (cursor : Events) → IsFirst d o event.NextRange cursor
+      → (left : Option (List Event)) × HasLeft d cursor left × (o ≡ put next_range left)
+  first_bars o cursor (next_range, left, is, has, e) = (left, has, e)
+  first_bars o cursor (one_simple s, left, is, has, e) = absurd is
+
   -- a term that is the first of the events `es`, and the events after it
   pub record NextSimple (es : List Event) (simple : read.Simple) (cursor : Events) : Type 0 where
     pub s : Simple

@@ -27,56 +27,36 @@ use Rattle.semver_ranges.specs.Steps.CursorViews.{HasLeft}
 use Rattle.tool_ranges.specs.Steps.TextEvents.{events_in, ranges_of, read_as, text_events}
 use Rattle.tool_ranges.specs.Steps.Reading.{IsRead, IsRefusedAs}
 use Rattle.tool_ranges.specs.Sides.{term_fits}
+use Rattle.semver_ranges.proofs.EventSums.{fit_bars, fit_more, fitted}
 use Rattle.tool_ranges.proofs.MatchedEvents.{ranges_fit}
 use Rattle.tool_ranges.proofs.ReadTrees.{sound_as}
 
 module _ (d : Dialect) where
-  -- whether `fit` is true and the numbers of the remaining terms fit; `None` if the text is not a
-  -- range
-  abbrev pub all_fit : Bool → Option (List Event) → Option Bool
-  all_fit fit None = None
-  all_fit fit (Some es) = Some (fit && list_all (event_fits (term_fits d)) es)
-
-  and_assoc : (a b c : Bool) → (a && (b && c)) ≡ ((a && b) && c)
-  and_assoc true b c = refl
-  and_assoc false b c = refl
-
-  pub one_fits : (fit f : Bool) (s : Simple) (left : Option (List Event)) → f ≡ term_fits d s
-      → all_fit fit (put (one_simple s) left) ≡ all_fit (fit && f) left
-  one_fits fit f s None is = refl
-  one_fits fit f s (Some es) is =
-      ap Some (and_assoc fit (term_fits d s) (list_all (event_fits (term_fits d)) es))
-      ∙ ap (λ b. Some ((fit && b) && list_all (event_fits (term_fits d)) es)) (sym is)
-
-  range_fits : (fit : Bool) (left : Option (List Event)) → all_fit fit (put next_range left) ≡ all_fit fit left
-  range_fits fit None = refl
-  range_fits fit (Some es) = refl
-
   -- the events `o` are surveyed, with `fit0` before them and `fit` before those that are left
   module _ (fit0 : Bool) (o : Option (List Event)) where
     abbrev pub SoFar : Bool → Bool → Option (List Event) → Type 0
-    SoFar fit is_end left = (all_fit fit0 o ≡ all_fit fit left) × (is_end ≡ true → left ≡ o)
+    SoFar fit is_end left = (fitted (term_fits d) fit0 o ≡ fitted (term_fits d) fit left) × (is_end ≡ true → left ≡ o)
 
     goes_on : {A : Type 0} → false ≡ true → A
     goes_on e = cc
 
     module _ (fit is_end : Bool) (before left : Option (List Event)) (so_far : SoFar fit is_end before) where
       pub after_term : (f : Bool) (s : Simple) → before ≡ put (one_simple s) left → f ≡ term_fits d s → SoFar (fit && f) false left
-      after_term f s e is = (so_far.0 ∙ ap (all_fit fit) e ∙ one_fits fit f s left is, λ wrong. goes_on wrong)
+      after_term f s e is = (fit_more (term_fits d) (fitted (term_fits d) fit0 o) fit f before left s so_far.0 e is, λ wrong. goes_on wrong)
 
       pub after_separator : before ≡ put next_range left → SoFar fit false left
-      after_separator e = (so_far.0 ∙ ap (all_fit fit) e ∙ range_fits fit left, λ wrong. goes_on wrong)
+      after_separator e = (so_far.0 ∙ ap (fitted (term_fits d) fit) e ∙ fit_bars (term_fits d) fit left, λ wrong. goes_on wrong)
 
       pub stopped : before ≡ None → o ≡ None
-      stopped e = none o (so_far.0 ∙ ap (all_fit fit) e) where
-        none : (o : Option (List Event)) → all_fit fit0 o ≡ None → o ≡ None
+      stopped e = none o (so_far.0 ∙ ap (fitted (term_fits d) fit) e) where
+        none : (o : Option (List Event)) → fitted (term_fits d) fit0 o ≡ None → o ≡ None
         none None e = refl
         none (Some es) e = cc
 
       pub ended : before ≡ Some [] → (es : List Event) × (o ≡ Some es) × ((fit0 && list_all (event_fits (term_fits d)) es) ≡ fit)
           × (is_end ≡ true → es ≡ [])
-      ended e = known o (so_far.0 ∙ ap (all_fit fit) e) (λ is. sym e ∙ so_far.1 is) where
-        known : (o : Option (List Event)) → all_fit fit0 o ≡ Some (fit && true) → (is_end ≡ true → Some [] ≡ o)
+      ended e = known o (so_far.0 ∙ ap (fitted (term_fits d) fit) e) (λ is. sym e ∙ so_far.1 is) where
+        known : (o : Option (List Event)) → fitted (term_fits d) fit0 o ≡ Some (fit && true) → (is_end ≡ true → Some [] ≡ o)
             → (es : List Event) × (o ≡ Some es) × ((fit0 && list_all (event_fits (term_fits d)) es) ≡ fit) × (is_end ≡ true → es ≡ [])
         known None e last = cc
         known (Some es) e last =

@@ -13,11 +13,6 @@ use Rattle.semver_ranges.specs.RewritingTable.{term_fits_by}
 use Rattle.semver_ranges.specs.StatedPreReleases.{states_pre_release_at}
 use Rattle.semver_ranges.specs.Terms.{of_simple}
 use Rattle.semver_ranges.specs.Steps.RangeEvents.{Event, one_simple, next_range, put, in_front, event_fits, yielded}
-use Rattle.semver_texts.specs.declared.grammar.Grammar.{Grammar}
-use Rattle.semver_ranges.specs.declared.events.Event.TheVariants as event
-use Rattle.semver_ranges.specs.declared.grammar.Simple as read
-use Rattle.semver_ranges.specs.Steps.CursorViews.{IsSimpleOf}
-use Rattle.semver_ranges.specs.declared.events.Events.{Events}
 use Rattle.semver_ranges.proofs.EventLists.{set_fits}
 use Rattle.tool_ranges.specs.declared.dialect.Dialect.{Dialect}
 use Rattle.tool_ranges.specs.declared.dialect.Dialect.TheVariants.{Cargo, Npm}
@@ -26,7 +21,6 @@ use Rattle.semver_ranges.specs.CargoGrammar.{as_read}
 use Rattle.semver_ranges.specs.CargoGrammar.{comparators_of}
 use Rattle.tool_ranges.specs.Dialects.{SpellsAs, fits_as}
 use Rattle.tool_ranges.specs.NpmMeaning.{matches_everything}
-use Rattle.semver_ranges.specs.Steps.CursorViews.{IsFirst, HasLeft}
 use Rattle.tool_ranges.specs.Steps.TextEvents.{events_in, ranges_of, read_as, text_events}
 use Rattle.tool_ranges.specs.Steps.Matching.{Says, after, begun, counts, ended, lower_of, range_every, range_met, taken, term_met}
 use Rattle.tool_ranges.specs.Sides.{term_fits}
@@ -34,25 +28,6 @@ use Rattle.tool_ranges.specs.Steps.Reading.{IsRead, IsRefusedAs}
 use Rattle.tool_ranges.proofs.Comparators.{same_ranges}
 use Rattle.tool_ranges.proofs.ReadTrees.{sound_as}
 use Rattle.tool_ranges.proofs.PrintableSets.{term_table}
-
--- ---- the next term
-pub record FirstTerm (g : Grammar) (o : Option (List Event)) (simple : read.Simple) (cursor : Events) : Type 0 where
-  pub s : Simple
-  pub left : Option (List Event)
-  pub is : IsSimpleOf s simple
-  pub has : HasLeft g cursor left
-  pub whole : o ≡ put (one_simple s) left
-
-pub first_term : (g : Grammar) (o : Option (List Event)) (simple : read.Simple) (cursor : Events) → IsFirst g o (event.Simple simple) cursor
-    → FirstTerm g o simple cursor
-first_term g o simple cursor (one_simple s, left, is, has, e) = record { s = s; left = left; is = is; has = has; whole = e }
-first_term g o simple cursor (next_range, left, is, has, e) = absurd is
-
--- the next event is the separator between two ranges
-pub first_separator : (g : Grammar) (o : Option (List Event)) (cursor : Events) → IsFirst g o event.NextRange cursor
-    → (left : Option (List Event)) × HasLeft g cursor left × (o ≡ put next_range left)
-first_separator g o cursor (next_range, left, is, has, e) = (left, has, e)
-first_separator g o cursor (one_simple s, left, is, has, e) = absurd is
 
 -- ---- whether the numbers of the events fit
 

@@ -4,7 +4,7 @@ use Rattle.tool_ranges.specs.Dialects.{grammar_of}
 use Rattle.semver_ranges.specs.Steps.CursorViews.{Gives, HasLeft}
 use Rattle.tool_ranges.proofs.CheckedEvents.{after_separator, after_term, ended, stopped}
 use Rattle.tool_ranges.proofs.FitCells.{read_fits}
-use Rattle.tool_ranges.proofs.MatchedEvents.{first_separator, first_term}
+use Rattle.semver_ranges.proofs.FoundEvents.{first_bars, first_simple}
 use Rattle.tool_ranges.proofs.checked.survey.Goals as goal
 use Rattle.tool_ranges.proofs.checked.survey.Goals.{In-Some, In_default}
 
@@ -20,7 +20,7 @@ pub loop-event-preserved-in-Simple : goal.loop-event-preserved-in-Simple
 loop-event-preserved-in-Simple c = λ o has.
     let so_far = c.loop-event.invariant o has in
     let d = c.args.dialect in
-    let here = first_term (grammar_of d) so_far.0 c.in-Simple.simple c.next_in.new.self
+    let here = first_simple (grammar_of d) so_far.0 c.in-Simple.simple c.next_in.new.self
     (rw (c.in_ok-simple.was, c.in-Simple.is) at (gives (goal.at.loop-event-preserved-in-Simple c).In-Some so_far.0 so_far.1)) in (
       here.left,
       here.has,
@@ -32,7 +32,7 @@ pub loop-event-preserved : goal.loop-event-preserved
 loop-event-preserved c = λ o has.
     let so_far = c.loop-event.invariant o has in
     let d = c.args.dialect in
-    let here = first_separator (grammar_of d) so_far.0 c.next_in.new.self
+    let here = first_bars (grammar_of d) so_far.0 c.next_in.new.self
     (rw (c.in_ok-simple.was, c.in-NextRange.is) at (gives (goal.at.loop-event-preserved c).In-Some so_far.0 so_far.1)) in
     (here.0, here.1, after_separator d c.args.fit o c.loop-event.fit c.loop-event.is_end so_far.0 here.0 so_far.2 here.2)
 

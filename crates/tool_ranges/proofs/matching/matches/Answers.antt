@@ -5,7 +5,8 @@ use Rattle.semver_ranges.specs.Steps.RangeEvents.{Event}
 use Rattle.tool_ranges.specs.Dialects.{grammar_of}
 use Rattle.semver_ranges.specs.Steps.CursorViews.{Gives, HasLeft}
 use Rattle.tool_ranges.specs.Steps.Matching.{counts, ended, plain_of}
-use Rattle.tool_ranges.proofs.MatchedEvents.{FirstTerm, first_term, large, says, term_more, told}
+use Rattle.semver_ranges.proofs.FoundEvents.{FirstSimple, first_simple}
+use Rattle.tool_ranges.proofs.MatchedEvents.{large, says, term_more, told}
 use Rattle.tool_ranges.proofs.FitCells.{read_fits}
 use Rattle.tool_ranges.proofs.matching.matches.Goals as goal
 use Rattle.tool_ranges.proofs.matching.matches.Goals.{In-Simple}
@@ -15,12 +16,12 @@ not_counted true v = refl
 not_counted false v = refl
 
 -- the next event is a term
-first : (c : In-Simple) → FirstTerm (grammar_of c.args.dialect) c.loop-event.invariant.0 c.in-Simple.simple c.next_in.new.self
+first : (c : In-Simple) → FirstSimple (grammar_of c.args.dialect) c.loop-event.invariant.0 c.in-Simple.simple c.next_in.new.self
 first c =
     let so_far = c.loop-event.invariant in
     let gives : (o : Option (List Event)) → HasLeft (grammar_of c.args.dialect) c.loop-event.events o
     → Gives (grammar_of c.args.dialect) o (Some c.in-Some.event) c.next_in.new.self = search rules in
-    first_term (grammar_of c.args.dialect) so_far.0 c.in-Simple.simple c.next_in.new.self
+    first_simple (grammar_of c.args.dialect) so_far.0 c.in-Simple.simple c.next_in.new.self
     (rw (c.in_ok-simple.was, c.in-Simple.is) at (gives so_far.0 so_far.1))
 
 pub with_term-progress-requires : goal.with_term-progress-requires

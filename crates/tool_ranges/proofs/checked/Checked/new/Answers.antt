@@ -7,7 +7,7 @@ use Rattle.semver_ranges.specs.Steps.CursorViews.{Gives, HasLeft}
 use Rattle.tool_ranges.specs.Steps.TextEvents.{events_in, ranges_of, text_events}
 use Rattle.tool_ranges.proofs.CheckedEvents.{checked_as, no_end, no_separator, refused}
 use Rattle.tool_ranges.proofs.FitCells.{read_fits}
-use Rattle.tool_ranges.proofs.MatchedEvents.{FirstTerm, first_separator, first_term}
+use Rattle.semver_ranges.proofs.FoundEvents.{FirstSimple, first_bars, first_simple}
 use Rattle.tool_ranges.proofs.checked.Checked.new.Goals as goal
 use Rattle.tool_ranges.proofs.checked.Checked.new.Goals.{In-Simple}
 
@@ -20,15 +20,15 @@ pub returns-in_default-2 : goal.returns-in_default-2
 returns-in_default-2 c =
     let given : Gives (grammar_of c.args.dialect) (text_events c.args.lower c.args.dialect c.args.range.now) (Some c.in-Some.event) c.next_in.new.self
     = search rules in
-    let separator = first_separator (grammar_of c.args.dialect) _ c.next_in.new.self (rw (c.in_ok-first.was, c.in_default-2.is) at given) in
+    let separator = first_bars (grammar_of c.args.dialect) _ c.next_in.new.self (rw (c.in_ok-first.was, c.in_default-2.is) at given) in
     no_separator c.args.dialect c.args.lower c.args.range.now separator.0 separator.2
 
 -- the first event is a term
-first : (c : In-Simple) → FirstTerm (grammar_of c.args.dialect) (text_events c.args.lower c.args.dialect c.args.range.now) c.in-Simple.first c.next_in.new.self
+first : (c : In-Simple) → FirstSimple (grammar_of c.args.dialect) (text_events c.args.lower c.args.dialect c.args.range.now) c.in-Simple.first c.next_in.new.self
 first c =
     let given : Gives (grammar_of c.args.dialect) (text_events c.args.lower c.args.dialect c.args.range.now) (Some c.in-Some.event) c.next_in.new.self
     = search rules in
-    first_term (grammar_of c.args.dialect) _ c.in-Simple.first c.next_in.new.self (rw (c.in_ok-first.was, c.in-Simple.is) at given)
+    first_simple (grammar_of c.args.dialect) _ c.in-Simple.first c.next_in.new.self (rw (c.in_ok-first.was, c.in-Simple.is) at given)
 
 pub returns-in_err-survey : goal.returns-in_err-survey
 returns-in_err-survey c =
