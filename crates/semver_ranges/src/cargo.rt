@@ -24,11 +24,7 @@ use semver_texts::grammar::Grammar;
 pub(crate) fn next_comparator(text: &[u8], is_first: bool) -> Option<(RawTerm<'_>, &[u8])>
     ensures { FindsItem (length text.now) (comparator is_first text.now) result }
 {
-    let text = if is_first {
-        text
-    } else {
-        after_comma(text)?
-    };
+    let text = if is_first { text } else { after_comma(text)? };
     read_comparator(text, is_first)
 }
 

@@ -13,11 +13,7 @@ use crate::proved::semver_texts::grammar::Grammar;
 /// the blanks after it.
 #[inline(always)]
 pub(crate) fn next_comparator(text: &[u8], is_first: bool) -> Option<(RawTerm<'_>, &[u8])> {
-    let text = if is_first {
-        text
-    } else {
-        after_comma(text)?
-    };
+    let text = if is_first { text } else { after_comma(text)? };
     read_comparator(text, is_first)
 }
 
