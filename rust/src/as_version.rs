@@ -2,12 +2,12 @@
 
 use crate::proved::repaired_strings::errors::Expected;
 use crate::proved::semver_texts::grammar::Digits;
-use crate::proved::semver_versions::version::compare_by;
+use crate::proved::semver_versions::version::{compare_by, read_ref_in};
 use crate::proved::tool_ranges::highest::Extreme;
 use crate::proved::tool_ranges::version_range as proved;
 use crate::{version, Error, Version, VersionRange, VersionRef};
-use alloc::vec::Vec;
 use core::cmp::Ordering;
+use core::ops::Range;
 
 /// A version, or a string that [`VersionRange::contains`], [`VersionRange::highest`] and
 /// [`VersionRange::lowest`] read in the range's dialect:
@@ -47,6 +47,44 @@ mod sealed {
     }
 }
 
+/// Compares two versions by precedence, as the dialect reads numeric identifiers.
+fn compared(digits: Digits, version: &VersionRef<'_>, other: &VersionRef<'_>) -> Ordering {
+    version.read_by(digits).compare(&other.read_by(digits))
+}
+
+/// Returns the first of the items that no other one is above, or below.
+fn first<T>(
+    which: Extreme,
+    items: impl Iterator<Item = T>,
+    compare: impl Fn(&T, &T) -> Ordering,
+) -> Option<T> {
+    match which {
+        Extreme::Lowest => items.min_by(compare),
+        Extreme::Highest => items.min_by(|item, other| compare(other, item)),
+    }
+}
+
+/// A version that was read from a string, without it: its numbers, and where its pre-release is.
+struct Placed {
+    numbers: VersionRef<'static>,
+    pre: Range<usize>,
+}
+
+impl Placed {
+    fn new(version: &VersionRef<'_>) -> Placed {
+        let (major, minor, patch) = (version.major(), version.minor(), version.patch());
+        let numbers = VersionRef::new(major, minor, patch).read_by(version.digits());
+        let start = version.pre_offset();
+        Placed { numbers, pre: start..start + version.pre_bytes().len() }
+    }
+
+    /// Returns the version without build metadata. The string is the one that it was read from.
+    fn within<'t>(&self, string: &'t impl AsRef<str>) -> VersionRef<'t> {
+        let pre = string.as_ref().as_bytes().get(self.pre.clone()).unwrap_or_default();
+        VersionRef { pre, ..self.numbers }
+    }
+}
+
 impl<T: AsRef<str>> AsVersion for T {
     type Contained = Result<bool, Error>;
 }
@@ -60,10 +98,15 @@ impl<T: AsRef<str>> sealed::Sealed<Result<bool, Error>> for T {
     }
 
     fn extreme(range: &VersionRange, which: Extreme, all: impl Iterator<Item = Self>) -> Option<Self> {
-        let mut items: Vec<Self> = all.collect();
-        let strings: Vec<&[u8]> = items.iter().map(|item| item.as_ref().as_bytes()).collect();
-        let index = range.0.extreme_index(which, &strings)?;
-        Some(items.swap_remove(index))
+        let grammar = range.rules().dialect.grammar();
+        let read = all.filter_map(|item| {
+            let version = read_ref_in(item.as_ref().as_bytes(), grammar)?;
+            range.0.contains_ref(&version).then(|| Placed::new(&version)).map(|it| (it, item))
+        });
+        let found = first(which, read, |(version, item), (other, another)| {
+            version.within(item).compare(&other.within(another))
+        });
+        found.map(|(_, item)| item)
     }
 }
 
@@ -86,18 +129,10 @@ macro_rules! versions {
             ) -> Option<Self> {
                 let digits = range.rules().dialect.grammar().digits();
                 let members = all.filter(|item| $contains(&range.0, item));
-                match which {
-                    Extreme::Lowest => members.min_by(|item, other| $compared(digits, item, other)),
-                    Extreme::Highest => members.min_by(|item, other| $compared(digits, other, item)),
-                }
+                first(which, members, |item, other| $compared(digits, item, other))
             }
         }
     )*};
-}
-
-/// Compares two versions by precedence, as the dialect reads numeric identifiers.
-fn compared(digits: Digits, version: &VersionRef<'_>, other: &VersionRef<'_>) -> Ordering {
-    version.read_by(digits).compare(&other.read_by(digits))
 }
 
 fn has(range: &proved::VersionRange, version: &Version) -> bool {

@@ -140,7 +140,7 @@ impl VersionRange {
     /// Returns the highest of the given versions that the range contains, or `None` if it contains
     /// none of them. Versions are compared by precedence, and the first of equal versions is
     /// returned. Strings that are invalid versions in the range's dialect are skipped; to find
-    /// them, read the versions first. All strings are collected before one is chosen.
+    /// them, read the versions first.
     ///
     /// ```
     /// use semver_parser::{Dialect, Version, VersionRange};
