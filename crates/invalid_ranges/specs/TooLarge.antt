@@ -1,20 +1,22 @@
 -- The offset of the number that is too large. It is in the first term that doesn't fit: the first
 -- of its numbers that is above the limit of the dialect, or if there is none, the number that is
 -- raised and can't be.
-use Rattle.std.specs.Prelude.{◌≡◌, ℕ, suc, ◌+◌, Bool, ◌&&◌, ◌==◌, if◌then◌else◌, Option, Some}
-use Rattle.std.specs.Prelude.{None, unwrap_or, option_map, option_to_list, List, ◌∷◌, length}
-use Rattle.std.specs.Prelude.{take}
+use Prim.Native.Char.{code}
+use Rattle.std.specs.Prelude.{◌≡◌, ℕ, suc, ◌+◌, ◌-◌, Bool, ◌&&◌, ◌==◌, if◌then◌else◌, Option}
+use Rattle.std.specs.Prelude.{Some, None, option_map, List, [], ◌∷◌, length, slice_index, take}
 use Rattle.std.specs.Char.{is_ascii_alphanumeric}
-use Rattle.std.specs.List.{flat_map, prefix_len}
+use Rattle.std.specs.List.{filter_map, prefix_len}
+use Rattle.std.specs.Option.{option_or}
 use Rattle.std.specs.Str.{all_ascii_digits}
 use Rattle.std.specs.Str.Parse.{digits_value}
 use Rattle.semver_texts.specs.Texts.{Text}
-use Rattle.semver_ranges.specs.RangeTree.{PartialTree, Simple, components, SetTree}
+use Rattle.semver_ranges.specs.RangeTree.{Form, at_least, at_most, components, SetTree}
+use Rattle.semver_ranges.specs.TextItems.{FoundWord, Item, one_term}
 use Rattle.tool_ranges.specs.declared.dialect.Dialect.{Dialect}
 use Rattle.tool_ranges.specs.DialectTable.{limit}
 use Rattle.tool_ranges.specs.Dialects.{SpellsAs, grammar_of}
-use Rattle.tool_ranges.specs.FittingTerms.{terms_as, too_large}
-use Rattle.range_terms.specs.WrittenTerms.{WrittenTerm, WrittenVersion, terms_in}
+use Rattle.tool_ranges.specs.FittingTerms.{read_in, too_large}
+use Rattle.tool_ranges.specs.SpelledItems.{items_in}
 use Rattle.invalid_strings.specs.Reasons.{bound_too_large_in, too_large_in}
 use Rattle.invalid_strings.specs.declared.reasons.Reason.{Reason}
 
@@ -24,34 +26,34 @@ component_begin (suc k) (c ∷ next ∷ others) =
     suc (length c) + component_begin k (next ∷ others)
 component_begin k components = 0
 
--- the offset of the component with an index, of a version that is written at a span of a text
-abbrev pub number_begin : WrittenVersion → PartialTree → ℕ → ℕ
-number_begin v p k =
-    v.span.start + (if v.has_v then 1 else 0) + component_begin k (components p)
+-- a text without the `v` at its beginning
+abbrev pub without_v : Text → Text
+without_v [] = []
+without_v (b ∷ t) = if b == code "v" then t else b ∷ t
 
--- the offset of the number that is too large, in the version of a term, if the term doesn't fit
-abbrev pub offset_in : Dialect → Simple → WrittenVersion → Option ℕ
-offset_in dialect s v = option_map (number_begin v s.partial) (too_large dialect s)
+-- the offset of the component with an index, of a version in a text of n bytes
+abbrev pub number_begin : ℕ → FoundWord → ℕ → ℕ
+number_begin n v k = n - length (without_v v.from) + component_begin k (components v.partial)
 
-abbrev pub first_of : Option ℕ → Option ℕ → Option ℕ
-first_of None later = later
-first_of (Some offset) later = Some offset
+-- the offset of the number that is too large in a version after an operator, if they don't fit
+abbrev pub offset_in : Dialect → ℕ → Form → FoundWord → Option ℕ
+offset_in d n form v = option_map (number_begin n v)
+    (too_large d (read_in d (record { form = form; partial = v.partial })))
 
--- the first such offset of some terms, which have these versions in the same order
-abbrev pub first_offset : Dialect → List Simple → List WrittenVersion → Option ℕ
-first_offset dialect (s ∷ ss) (v ∷ vs) =
-    first_of (offset_in dialect s v) (first_offset dialect ss vs)
-first_offset dialect ss vs = None
+-- such an offset in a term. The sides of a hyphen range are read as terms with `>=` and `<=`
+abbrev pub offset_in_term : Dialect → ℕ → Form → FoundWord → Option FoundWord → Option ℕ
+offset_in_term d n form version None = offset_in d n form version
+offset_in_term d n form version (Some upper) =
+    option_or (offset_in d n at_least version) (offset_in d n at_most upper)
 
--- the versions of a term as it is written
-abbrev pub versions_of : WrittenTerm → List WrittenVersion
-versions_of x = x.version ∷ option_to_list x.upper
+abbrev pub offset_in_item : Dialect → ℕ → Item → Option ℕ
+offset_in_item d n (one_term x) = offset_in_term d n x.form x.version x.upper
+offset_in_item d n _ = None
 
--- the offset of the number that is too large in a text, or 0 if all its terms fit
-abbrev pub limit_offset : (dialect : Dialect) (tree : SetTree) (t : Text)
-    → SpellsAs dialect tree t → ℕ
-limit_offset dialect tree t spelled = unwrap_or (first_offset dialect (terms_as dialect tree)
-    (flat_map versions_of (terms_in dialect tree t spelled))) 0
+-- the first of these offsets, or 0 if all terms fit
+abbrev pub limit_offset : (d : Dialect) (tree : SetTree) (t : Text) → SpellsAs d tree t → ℕ
+limit_offset d tree t spelled =
+    slice_index (filter_map (offset_in_item d (length t)) (items_in d tree t spelled)) 0
 
 -- the letters and digits at the beginning of a text
 abbrev pub run_of : Text → Text

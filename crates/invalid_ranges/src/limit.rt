@@ -1,21 +1,21 @@
 //! Finds the number of a range string that is too large.
 
-ghost use Rattle.std.specs.Prelude.{◌≡◌, ◌≤◌, ◌<◌, length, List, IfSome};
+ghost use Rattle.std.specs.Prelude.{◌≡◌, ◌≤◌, ℕ, length, IfSome};
 ghost use Rattle.std.specs.List.{slice_split};
 ghost use Rattle.semver_texts.specs.Texts.{is_dot};
-ghost use Rattle.semver_ranges.specs.RangeTree.{PartialTree, Simple as SimpleTree, SetTree};
+ghost use Rattle.semver_texts.specs.declared.grammar.Grammar.{Grammar as SomeGrammar};
+ghost use Rattle.semver_ranges.specs.RangeTree.{SetTree};
 ghost use Rattle.semver_ranges.specs.Steps.CursorViews.{form_of};
-ghost use Rattle.tool_ranges.specs.Dialects.{IsTextAs, SpellsAs};
-ghost use Rattle.tool_ranges.specs.FittingTerms.{read_in};
-ghost use Rattle.range_terms.specs.SpelledTerms.{IsSpelled, IsTermOf};
-ghost use Rattle.range_terms.specs.WrittenTerms.{term_value, version_value};
-ghost use Rattle.invalid_ranges.specs.TooLarge.{component_begin, first_offset, limit_offset};
-ghost use Rattle.invalid_ranges.specs.TooLarge.{limit_reason, offset_in, versions_of};
+ghost use Rattle.semver_ranges.specs.TextItems.{FoundWord, Item};
+ghost use Rattle.semver_ranges.specs.Steps.Items.{IsItemOf, IsWordOf};
+ghost use Rattle.tool_ranges.specs.Dialects.{SpellsAs};
+ghost use Rattle.invalid_ranges.specs.TooLarge.{component_begin, limit_offset, limit_reason};
+ghost use Rattle.invalid_ranges.specs.TooLarge.{offset_in, offset_in_item, without_v};
 
 use invalid_strings::reasons::Reason;
-use range_terms::term::{PartialVersion, Term};
-use range_terms::terms::{form_of, of_range};
-use semver_ranges::grammar::{Form, read_components};
+use semver_ranges::cursor::{Cursor, Event};
+use semver_ranges::grammar::Form;
+use semver_ranges::term::RawVersion;
 use semver_texts::bytes::run_len;
 use semver_texts::decimals::number_of_digits;
 use semver_texts::dotted::split_at_dot;
@@ -26,55 +26,67 @@ use tool_ranges::table::{limit, too_large};
 /// doesn't fit: the first number above the limit of the dialect, or if there is none, the number
 /// that is raised and can't be. It is 1 in `=18446744073709551616 || 1`. It does not allocate.
 pub(crate) fn limit_offset(dialect: Dialect, text: &str) -> usize
-    requires { IsTextAs dialect text.now }
     ensures value { (tree : SetTree) (spelled : SpellsAs dialect tree text.now)
         → result ≡ limit_offset dialect tree text.now spelled }
     ensures within { result ≤ length text.now }
 {
-    for term in of_range(text, dialect) {
-        if let Some(offset) = offset_in(&term, text.as_bytes(), dialect) {
+    let grammar = dialect.grammar();
+    let mut cursor = Cursor::new(text.as_bytes(), grammar);
+    while let Some(event) = cursor.next_in(grammar) {
+        let Ok(event) = event else {
+            return 0;
+        };
+        if let Some(offset) = offset_in_event(&event, text.len(), dialect) {
             return offset;
         }
     }
     0
 }
 
-/// Returns the offset of the number that is too large in a term, if the term doesn't fit.
-fn offset_in(term: &Term<'_>, text: &[u8], dialect: Dialect) -> Option<usize>
-    requires { (ss : List SimpleTree) × IsTermOf dialect text.now (term_value term.now) ss }
-    ensures value { (ss : List SimpleTree) → IsTermOf dialect text.now (term_value term.now) ss
-        → result ≡ first_offset dialect ss (versions_of (term_value term.now)) }
-    ensures within { IfSome result (λ offset. offset ≤ length text.now) }
+/// Returns the offset of the number that is too large in a term of a string with a length of `len`
+/// bytes, if the event is a term that doesn't fit.
+fn offset_in_event(event: &Event<'_>, len: usize, dialect: Dialect) -> Option<usize>
+    requires { (d : SomeGrammar) × (n : ℕ) × (x : Item) × IsItemOf d n x event.now × (n ≤ len) }
+    ensures value { (d : SomeGrammar) (n : ℕ) (x : Item) → IsItemOf d n x event.now
+        → result ≡ offset_in_item dialect len x }
+    ensures within { IfSome result (λ offset. offset ≤ len) }
 {
-    let form = form_of(term.operator);
-    if let Some(offset) = offset_at(&term.version, form, text, dialect) {
+    let Event::Term(term) = event else {
+        return None;
+    };
+    let Some(upper) = &term.upper else {
+        return offset_in(&term.version, term.form, len, dialect);
+    };
+    // The left side of a hyphen range is read as a term with `>=`.
+    if let Some(offset) = offset_in(&term.version, Form::AtLeast, len, dialect) {
         return Some(offset);
     }
-    match &term.upper {
-        Some(upper) => offset_at(upper, Form::AtMost, text, dialect),
-        None => None,
-    }
+    offset_in(upper, Form::AtMost, len, dialect)
 }
 
-/// Returns the offset of the number that is too large in a version after an operator, if this term
-/// doesn't fit.
-fn offset_at(
-    version: &PartialVersion<'_>,
-    form: Form,
-    text: &[u8],
-    dialect: Dialect,
-) -> Option<usize>
-    requires { (p : PartialTree) × IsSpelled text.now p (version_value version.now) }
-    ensures value { (s : SimpleTree) → form_of form ≡ s.form
-        → IsSpelled text.now s.partial (version_value version.now)
-        → result ≡ offset_in dialect (read_in dialect s) (version_value version.now) }
-    ensures within { IfSome result (λ offset. offset ≤ length text.now) }
+/// Returns the offset of the number that is too large in a version after an operator, if they don't
+/// fit.
+fn offset_in(version: &RawVersion<'_>, form: Form, len: usize, dialect: Dialect) -> Option<usize>
+    requires { (d : SomeGrammar) × (x : FoundWord) × IsWordOf d x version.now
+        × (length x.from ≤ len) }
+    ensures value { (d : SomeGrammar) (x : FoundWord) → IsWordOf d x version.now
+        → result ≡ offset_in dialect len (form_of form) x }
+    ensures within { IfSome result (λ offset. offset ≤ len) }
 {
-    let begin = version.span.start + usize::from(version.has_v);
-    let word = &text[begin..version.span.end];
-    let (written, _) = read_components(word)?;
-    let index = too_large(form, &written, dialect)?;
-    Some(begin + component_begin(word, index))
+    let index = too_large(form, &version.components, dialect)?;
+    let numbers = without_v(version.from);
+    let word = &numbers[..numbers.len() - version.after.len()];
+    Some(len - numbers.len() + component_begin(word, index))
+}
+
+/// Returns a string without the `v` at its beginning.
+fn without_v(text: &[u8]) -> &[u8]
+    ensures { result.now ≡ without_v text.now }
+{
+    match text {
+        [b'v', rest @ ..] => rest,
+        _ => text,
+    }
 }
 
 /// Returns the offset of the component with an index, or of the last one if there are fewer.

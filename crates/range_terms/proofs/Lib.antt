@@ -1,9 +1,4 @@
 pub mod Shorter
-pub mod LeftTerms
-pub mod FoundWords
-pub mod FoundTerms
-pub mod FoundComparators
-pub mod Dots
 pub mod MadeVersions
 pub mod LowBytes
 pub mod Places
@@ -11,4 +6,3 @@ pub mod TermPlaces
 pub mod Replaceable
 pub mod RewrittenWords
 pub mod RewrittenTerms
-pub mod Whole

@@ -22,8 +22,9 @@ use Rattle.tool_ranges.specs.declared.dialect.Dialect.{Dialect}
 use Rattle.tool_ranges.specs.declared.dialect.Dialect.TheVariants.{Cargo, Npm}
 use Rattle.range_terms.specs.declared.term.Span.{Span}
 use Rattle.range_terms.specs.Replacing.{IsReplaceable, MayReplace, replaced}
-use Rattle.range_terms.specs.WrittenTerms.{WrittenTerm, comparators_at, ranges_at, terms_in}
+use Rattle.range_terms.specs.WrittenTerms.{WrittenTerm, terms_in, terms_of}
 use Rattle.range_terms.proofs.LowBytes.{is_low, word_low}
+use Rattle.tool_ranges.specs.SpelledItems.{comparators_items, ranges_items}
 use Rattle.range_terms.proofs.Places.{AllPlaces, IsPlace}
 use Rattle.range_terms.proofs.TermPlaces.{AreComparators, AreRanges, IsWordOfCargo, MayStand, all_of, comparators_told, places_told, ranges_told}
 use Rattle.range_terms.proofs.TermPlaces.{states_none}
@@ -130,10 +131,11 @@ requirement_again tree t t' spelled (first ∷ rest, h, same, none) = (
   },
 )
 
-range_places : (d : Dialect) (g : Grammar) (tree : SetTree) (t : Text) (spelled : SpellsRangeIn g tree t)
-    → AllPlaces (AreRanges g) (λ role p w. SpellsWord g role p w) t (ranges_at g 0 0 tree t spelled)
-range_places d g tree t spelled = places_told t (AreRanges g) d (λ role p w. SpellsWord g role p w) (λ role p w. SpellsWord g role p w) _ _
-    (ranges_told t (AreRanges g) d g 0 0 tree t spelled (all_of (AreRanges g) t))
+range_places : (g : Grammar) (tree : SetTree) (t : Text) (spelled : SpellsRangeIn g tree t)
+    → AllPlaces (AreRanges g) (λ role p w. SpellsWord g role p w) t (terms_of (length t) 0 (ranges_items g tree t spelled))
+range_places g tree t spelled = places_told t (AreRanges g) (λ role p w. SpellsWord g role p w) (λ role p w. SpellsWord g role p w) 0
+    (ranges_items g tree t spelled)
+    (ranges_told t (AreRanges g) g tree t spelled (all_of (AreRanges g) t))
 
 pub replaceable : (d : Dialect) (tree : SetTree) (t : Text) (spelled : SpellsAs d tree t) → IsUtf8 t
     → AllByRecursion (IsReplaceable d t) (terms_in d tree t spelled)
@@ -141,9 +143,9 @@ replaceable Cargo tree t spelled utf8 =
     let Good = AreComparators (comparators_of tree) in
     all_replaceable Cargo t Good MayStand
     (λ before word after w role p text some low may good. requirement_again tree t _ spelled good)
-    (λ role p w h. h) (comparators_at 0 (comparators_of tree) t spelled.comparators)
-    (places_told t Good Cargo MayStand IsWordOfCargo _ _
-    (comparators_told t Good Cargo 0 (comparators_of tree) t spelled.comparators (all_of Good t)))
+    (λ role p w h. h) (terms_in Cargo tree t spelled)
+    (places_told t Good MayStand IsWordOfCargo 0 (comparators_items (comparators_of tree) t spelled.comparators)
+    (comparators_told t Good (comparators_of tree) t spelled.comparators (all_of Good t)))
 replaceable Npm tree t spelled utf8 = all_replaceable Npm t (AreRanges grammar.Npm) _
     (λ before word after w role p text some low may good. (
       good.0,
@@ -152,7 +154,7 @@ replaceable Npm tree t spelled utf8 = all_replaceable Npm t (AreRanges grammar.N
         characters = stands_again t before word after w text utf8 spelled.characters some low (word_low grammar.Npm role p w may);
       },
     ))
-    (λ role p w h. h) (ranges_at grammar.Npm 0 0 tree t spelled.spelled) (range_places Npm grammar.Npm tree t spelled.spelled)
+    (λ role p w h. h) (terms_in Npm tree t spelled) (range_places grammar.Npm tree t spelled.spelled)
 replaceable d tree t spelled utf8 = all_replaceable d t (AreRanges grammar.Crate) _
     (λ before word after w role p text some low may good. good)
-    (λ role p w h. h) (ranges_at grammar.Crate 0 0 tree t spelled) (range_places d grammar.Crate tree t spelled)
+    (λ role p w h. h) (terms_in d tree t spelled) (range_places grammar.Crate tree t spelled)

@@ -32,8 +32,8 @@ use Rattle.tool_ranges.specs.declared.dialect.Dialect.TheVariants.{Cargo, Npm}
 use Rattle.range_terms.specs.Replacing.{IsReplaceable, MayReplace, role_in}
 use Rattle.range_terms.specs.RewrittenVersions.{IsRewritable, MayBecome, text_with}
 use Rattle.range_terms.specs.Rewriting as rewriting
-use Rattle.range_terms.specs.WrittenTerms.{WrittenTerm, WrittenVersion, comparators_at, component_of, major_of}
-use Rattle.range_terms.specs.WrittenTerms.{ranges_at, terms_in, version_of}
+use Rattle.tool_ranges.specs.SpelledItems.{comparators_items, ranges_items}
+use Rattle.range_terms.specs.WrittenTerms.{WrittenTerm, WrittenVersion, component_of, major_of, terms_in, terms_of, version_of}
 use Rattle.range_terms.proofs.Places.{AreWordsOf, IsWordOf}
 use Rattle.range_terms.proofs.TermPlaces.{AreComparators, AreRanges, IsWordOfCargo, MayStand, all_of, comparators_told, ranges_told, words_told}
 use Rattle.range_terms.proofs.Replaceable.{replaceable}
@@ -274,23 +274,24 @@ cargo_words role x v read of w number = cargo_word x v (of_grammar grammar.Cargo
 npm_words : MakesWords Npm (λ role p word. SpellsWord grammar.Npm role p word)
 npm_words role x v read of w long = npm_word role x v (of_grammar grammar.Npm v read of) w long
 
-range_words : (d : Dialect) (g : Grammar) (tree : SetTree) (t : Text) (spelled : SpellsRangeIn g tree t)
-    → AllByRecursion (AreWordsOf (λ role p word. SpellsWord g role p word)) (ranges_at g 0 0 tree t spelled)
-range_words d g tree t spelled = words_told t (AreRanges g) d (λ role p w. SpellsWord g role p w) (λ role p w. SpellsWord g role p w) _ _
-    (ranges_told t (AreRanges g) d g 0 0 tree t spelled (all_of (AreRanges g) t))
+range_words : (g : Grammar) (tree : SetTree) (t : Text) (spelled : SpellsRangeIn g tree t)
+    → AllByRecursion (AreWordsOf (λ role p word. SpellsWord g role p word)) (terms_of (length t) 0 (ranges_items g tree t spelled))
+range_words g tree t spelled = words_told t (AreRanges g) (λ role p w. SpellsWord g role p w) (λ role p w. SpellsWord g role p w) 0
+    (ranges_items g tree t spelled)
+    (ranges_told t (AreRanges g) g tree t spelled (all_of (AreRanges g) t))
 
 pub rewritable : (d : Dialect) (tree : SetTree) (t : Text) (spelled : SpellsAs d tree t) → IsUtf8 t
     → AllByRecursion (IsRewritable d t) (terms_in d tree t spelled)
 rewritable Cargo tree t spelled utf8 =
     let Good = AreComparators (comparators_of tree) in
-    zipped (one_rewritable Cargo IsWordOfCargo cargo_words t) (comparators_at 0 (comparators_of tree) t spelled.comparators)
+    zipped (one_rewritable Cargo IsWordOfCargo cargo_words t) (terms_in Cargo tree t spelled)
     (replaceable Cargo tree t spelled utf8)
-    (words_told t Good Cargo MayStand IsWordOfCargo _ _
-    (comparators_told t Good Cargo 0 (comparators_of tree) t spelled.comparators (all_of Good t)))
+    (words_told t Good MayStand IsWordOfCargo 0 (comparators_items (comparators_of tree) t spelled.comparators)
+    (comparators_told t Good (comparators_of tree) t spelled.comparators (all_of Good t)))
 rewritable Npm tree t spelled utf8 =
     zipped (one_rewritable Npm (λ role p word. SpellsWord grammar.Npm role p word) npm_words t)
-    (ranges_at grammar.Npm 0 0 tree t spelled.spelled) (replaceable Npm tree t spelled utf8) (range_words Npm grammar.Npm tree t spelled.spelled)
+    (terms_in Npm tree t spelled) (replaceable Npm tree t spelled utf8) (range_words grammar.Npm tree t spelled.spelled)
 rewritable d tree t spelled utf8 =
     zipped (one_rewritable d (λ role p word. SpellsWord grammar.Crate role p word)
     (λ role x v read of w fits. crate_word x v (of_grammar grammar.Crate v read of) w) t)
-    (ranges_at grammar.Crate 0 0 tree t spelled) (replaceable d tree t spelled utf8) (range_words d grammar.Crate tree t spelled)
+    (terms_in d tree t spelled) (replaceable d tree t spelled utf8) (range_words grammar.Crate tree t spelled)

@@ -1,6 +1,5 @@
 pub mod OperatorTable
 pub mod WrittenTerms
-pub mod SpelledTerms
 pub mod WrittenTexts
 pub mod Rewriting
 pub mod Replacing

@@ -6,17 +6,15 @@ ghost use Rattle.semver_texts.specs.Texts.{Text, begins_with};
 ghost use Rattle.semver_texts.specs.declared.grammar.Grammar as some;
 ghost use Rattle.semver_ranges.specs.RangeTree.{SetTree};
 ghost use Rattle.semver_ranges.specs.Steps.CursorViews.{form_of};
-ghost use Rattle.semver_ranges.specs.Steps.FoundItems.{FoundTerm, FoundWord};
+ghost use Rattle.semver_ranges.specs.TextItems.{FoundTerm, FoundWord};
 ghost use Rattle.semver_ranges.specs.Steps.Items.{IsTermOf, IsWordOf};
 ghost use Rattle.semver_ranges.specs.Steps.PartialViews.{IsComponentOf, IsWrittenAs};
 ghost use Rattle.tool_ranges.specs.Dialects.{RefusesAs, SpellsAs};
 ghost use Rattle.range_terms.specs.WrittenTerms.{component_of, operator_of, term_value, terms_in};
-ghost use Rattle.range_terms.specs.WrittenTerms.{version_value};
+ghost use Rattle.range_terms.specs.WrittenTerms.{version_at, version_value, written_term};
 ghost use Rattle.range_terms.specs.Replacing.{IsReplaceable};
 ghost use Rattle.range_terms.specs.RewrittenVersions.{IsRewritable};
-ghost use Rattle.range_terms.specs.SpelledTerms.{first_form};
-ghost use Rattle.range_terms.specs.Steps.{YieldsTerm, version_at};
-ghost use Rattle.range_terms.specs.Steps.{written_term};
+ghost use Rattle.range_terms.specs.Steps.{YieldsTerm};
 
 use crate::term::{Component, Operator, PartialVersion, Span, Term};
 use semver_ranges::cursor::{Cursor, Event};
@@ -213,25 +211,6 @@ fn operator_of(form: Form) -> Operator
         Form::AtLeast => Operator::GreaterOrEqual,
         Form::Tilde => Operator::Tilde,
         Form::Caret => Operator::Caret,
-    }
-}
-
-// Determined by: equation.
-/// Returns the operator of the first version of a term. The left side of a hyphen range is a term
-/// with `>=`.
-#[must_use]
-pub fn form_of(operator: Operator) -> Form
-    ensures { form_of result ≡ first_form operator }
-{
-    match operator {
-        Operator::Bare => Form::Bare,
-        Operator::Equal => Form::Equal,
-        Operator::Less => Form::Less,
-        Operator::LessOrEqual => Form::AtMost,
-        Operator::Greater => Form::Greater,
-        Operator::GreaterOrEqual | Operator::Hyphen => Form::AtLeast,
-        Operator::Tilde => Form::Tilde,
-        Operator::Caret => Form::Caret,
     }
 }
 

@@ -11,11 +11,12 @@ use Rattle.semver_ranges.specs.RangeTree.{Simple, is_blank}
 use Rattle.semver_ranges.specs.declared.partial.LowerBounds.{LowerBounds}
 use Rattle.semver_ranges.specs.declared.term.RawTerm.{RawTerm}
 use Rattle.semver_ranges.specs.Steps.CursorViews.{form_of}
-use Rattle.semver_ranges.specs.Steps.FoundItems.{FoundTerm, Item, after_comma, comparator, comparator_at, empty_range, may_come, one_term}
-use Rattle.semver_ranges.specs.Steps.FoundItems.{simple_of, two_bars}
+use Rattle.semver_ranges.specs.TextItems.{FoundTerm, Item, empty_range, one_term, two_bars}
+use Rattle.semver_ranges.specs.Steps.FoundItems.{after_comma, comparator, comparator_at, may_come}
+use Rattle.semver_ranges.specs.Steps.FoundItems.{simple_of}
 use Rattle.semver_ranges.specs.Steps.Items.{FindsItem, IsTermAt, IsTermOf, simples_of}
 use Rattle.semver_ranges.specs.Steps.Reading.{after_blanks}
-use Rattle.semver_ranges.specs.Steps.RangeEvents.{Event, before_others, comparators_left, events_left, in_front, one_simple, put, put_simples}
+use Rattle.semver_ranges.specs.Steps.RangeEvents.{before_others, comparators_left, events_left, in_front, one_simple, put, put_simples}
 use Rattle.semver_ranges.specs.Steps.RangeEvents.{some_comparators}
 use Rattle.std.proofs.lemmas.Bool.Decides.{nat_tests}
 use Rattle.semver_ranges.proofs.ItemSteps.{comparator_shorter}

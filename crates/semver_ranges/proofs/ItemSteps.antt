@@ -6,11 +6,12 @@ use Rattle.semver_texts.specs.Texts.{Text, begins_with}
 use Rattle.semver_texts.specs.declared.grammar.Grammar.{Grammar}
 use Rattle.semver_texts.specs.declared.grammar.Grammar.TheVariants.{Cargo}
 use Rattle.semver_ranges.specs.CargoGrammar.{is_cargo}
+use Rattle.semver_ranges.specs.TextItems.{FoundWord, Item, empty_range, two_bars}
 use Rattle.semver_ranges.specs.Steps.FoundItems.{comparator, may_come, range_item, with_comparator}
 use Rattle.semver_texts.proofs.Lists.{by_test}
 use Rattle.semver_ranges.specs.RangeTree.{RangeTree, Simple, after_form, is_blank}
 use Rattle.semver_ranges.specs.Steps.FoundItems.{size_at}
-use Rattle.semver_ranges.specs.Steps.FoundItems.{FoundWord, Item, after_item, begins_after, empty_range, item, items_left, some_items, two_bars}
+use Rattle.semver_ranges.specs.Steps.FoundItems.{after_item, begins_after, item, items_left, some_items}
 use Rattle.semver_ranges.specs.Steps.FoundItems.{upper_word, with_simple, with_upper, word_at}
 use Rattle.semver_ranges.specs.Steps.Reading.{after_bars, after_blanks, ends_range, operator, right_side, simple, with_right}
 use Rattle.semver_ranges.proofs.ReadingSteps.{back_shorter, shorter_bars, shorter_right, shorter_simple}

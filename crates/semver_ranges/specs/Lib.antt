@@ -3,6 +3,7 @@ pub mod RangeTree
 pub mod Partials
 pub mod CargoGrammar
 pub mod Terms
+pub mod TextItems
 pub mod CrateMeaning
 pub mod RewritingTable
 pub mod RangeTexts

@@ -7,7 +7,7 @@ ghost use Rattle.semver_ranges.specs.RangeTree.{PartialTree, hyphen};
 ghost use Rattle.semver_ranges.specs.Steps.PartialViews.{IsPartialOf};
 ghost use Rattle.semver_ranges.specs.Steps.RangeEvents as list;
 ghost use Rattle.semver_ranges.specs.Steps.RangeEvents.{yielded};
-ghost use Rattle.semver_ranges.specs.Steps.FoundItems.{FoundTerm, Item};
+ghost use Rattle.semver_ranges.specs.TextItems.{FoundTerm, Item};
 ghost use Rattle.semver_ranges.specs.Steps.Items.{IsItemOf, IsTermOf, IsViewOf, is_term, simples_of};
 ghost use Rattle.semver_ranges.specs.Steps.CursorViews.{AreSides, Gives, HasLeft, IsBegunIn};
 ghost use Rattle.semver_ranges.specs.Steps.CursorViews.{size_left};

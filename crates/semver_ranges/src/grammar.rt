@@ -236,7 +236,7 @@ fn is_short(text: &[u8], rest: &[u8], role: Role) -> bool
 // Determined by: equation.
 /// Returns the components of the partial at the beginning of a string, whatever follows it.
 #[inline(always)]
-pub fn read_components(text: &[u8]) -> Option<(Components<'_>, &[u8])>
+pub(crate) fn read_components(text: &[u8]) -> Option<(Components<'_>, &[u8])>
     ensures { Finds AreWritten (with_first (component text.now)) result }
 {
     let (major, rest) = read_component(text)?;

@@ -3,7 +3,8 @@
 ghost use Rattle.std.specs.Prelude.{◌≡◌};
 ghost use Rattle.semver_texts.specs.declared.grammar.Grammar.{Grammar as SomeGrammar};
 ghost use Rattle.semver_ranges.specs.CargoGrammar.{read_in};
-ghost use Rattle.semver_ranges.specs.Steps.FoundItems.{FoundTerm, simple_of};
+ghost use Rattle.semver_ranges.specs.TextItems.{FoundTerm};
+ghost use Rattle.semver_ranges.specs.Steps.FoundItems.{simple_of};
 ghost use Rattle.semver_ranges.specs.Steps.Items.{IsTermOf};
 ghost use Rattle.semver_ranges.specs.Steps.CursorViews.{IsSimpleOf};
 

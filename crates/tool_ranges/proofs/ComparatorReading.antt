@@ -1,6 +1,6 @@
 -- The reader finds a comparator at the beginning of a requirement if and only if there is one.
 use Rattle.std.proofs.Common.{◌≡◌, ℕ, Bool, true, false, ◌==◌, ◌&&◌, ◌||◌, not, [], ◌∷◌, ◌++◌, refl, sym, ap, ◌∙◌, rules}
-use Rattle.std.proofs.Common.{Option, Some, None, append_assoc, append-nil, inl, inr, subst}
+use Rattle.std.proofs.Common.{Option, Some, None, append_assoc, inl, inr, subst}
 use Rattle.std.proofs.lemmas.Bool.{and_from, and_parts, or_left}
 use Rattle.std.proofs.lemmas.List.Folds.{list_all-append}
 use Rattle.std.specs.Prelude.{option_map}
@@ -11,11 +11,13 @@ use Rattle.semver_ranges.specs.RangeTree.{PartialTree, Form, bare, equal, less, 
 use Rattle.semver_ranges.specs.RangeTree.{after_form, is_blank, AreBlanks, SpellsForm}
 use Rattle.semver_ranges.specs.CargoGrammar.{sign, is_of_cargo, SpellsComparator}
 use Rattle.semver_ranges.specs.Steps.Reading.{after_blanks, ends_word, operator, partial, simple, with_form}
-use Rattle.semver_ranges.specs.Steps.FoundItems.{FoundTerm, FoundWord, Item, begins_with_tilde_greater, comparator_at, may_come, one_term}
+use Rattle.semver_ranges.specs.TextItems.{FoundTerm, Item, one_term}
+use Rattle.semver_ranges.specs.Steps.FoundItems.{begins_with_tilde_greater, comparator_at, may_come}
 use Rattle.semver_ranges.specs.Steps.FoundItems.{simple_of, with_comparator}
 use Rattle.semver_ranges.proofs.ReadingPieces.{SimpleAt, simple_sound}
 use Rattle.semver_ranges.proofs.ReadingPieces.{starts, starts-append, is_word_byte, component_word, partial_starts}
 use Rattle.semver_ranges.proofs.WrittenPieces.{stops, operator_read, blanks_after, no_blank, no_sign, partial_read}
+use Rattle.tool_ranges.specs.SpelledItems.{comparator_term, from_operator}
 use Rattle.semver_texts.proofs.Lists.{by_test}
 
 -- ---- a comparator that is found is in the text
@@ -160,11 +162,11 @@ begins_with caret gap x g e other = (no_tilde 94 _ refl, operator_read Cargo car
 abbrev Reads : Form → Text → Text → Type 0
 Reads f u x = (begins_with_tilde_greater u ≡ false) × (operator Cargo u ≡ (f, x))
 
-abbrev pub is_bare_form : Form → Bool
+abbrev is_bare_form : Form → Bool
 is_bare_form bare = true
 is_bare_form _ = false
 
-pub signs_stop : (f : Form) (gap x : Text) → is_bare_form f ≡ false → stops (is_blank Cargo) ((sign f ++ gap) ++ x) ≡ true
+signs_stop : (f : Form) (gap x : Text) → is_bare_form f ≡ false → stops (is_blank Cargo) ((sign f ++ gap) ++ x) ≡ true
 signs_stop bare gap x e = cc
 signs_stop equal gap x e = refl
 signs_stop less gap x e = refl
@@ -174,7 +176,7 @@ signs_stop at_least gap x e = refl
 signs_stop tilde gap x e = refl
 signs_stop caret gap x e = refl
 
-pub bare_form : (f : Form) → is_bare_form f ≡ true → f ≡ bare
+bare_form : (f : Form) → is_bare_form f ≡ true → f ≡ bare
 bare_form bare e = refl
 bare_form _ e = cc
 
@@ -194,25 +196,30 @@ spaces_end : (after v : Text) → AreBlanks Cargo after → ends_word Cargo v �
 spaces_end [] v a e = e
 spaces_end (b ∷ after) v a e = or_left _ _ (and_parts (is_blank Cargo b) _ a).0
 
--- the comparator that is found in a text t, from its beginning `w`, after which `v` is left
-abbrev pub found_comparator : (s : Simple) (w v t : Text) → SpellsComparator s w → FoundTerm
-found_comparator s w v t spelled = record {
-  from = after_blanks Cargo t;
-  form = s.form;
-  version = record { partial = s.partial; from = spelled.word ++ (spelled.after ++ v); after = spelled.after ++ v };
-  upper = None;
-}
+-- a comparator begins after the blanks before it
+begins_after : (f : Form) (before gap x : Text) → AreBlanks Cargo before → AreBlanks Cargo gap → starts is_word_byte x ≡ true
+    → after_blanks Cargo (before ++ ((sign f ++ gap) ++ x)) ≡ from_operator f gap x
+begins_after f before gap x b g e = by_test (is_bare_form f)
+    (λ y. rw (bare_form f y, ← append_assoc before gap x)
+    (blanks_after Cargo (before ++ gap) x (list_all-append (is_blank Cargo) before gap ∙ and_from _ _ b g) (no_blank Cargo x e)))
+    (λ n. blanks_after Cargo before ((sign f ++ gap) ++ x) b (signs_stop f gap x n) ∙ append_assoc (sign f) gap x ∙ signed f n)
+  where
+    signed : (f : Form) → is_bare_form f ≡ false → sign f ++ (gap ++ x) ≡ from_operator f gap x
+    signed bare n = cc
+    signed _ n = refl
 
 pub comparator_read : (is_first : Bool) (s : Simple) (w v t : Text) (spelled : SpellsComparator s w) → t ≡ w ++ v
     → ends_word Cargo v ≡ true → stops (is_blank Cargo) v ≡ true
     → (not (states_nothing s.partial) || (is_first && is_empty v)) ≡ true
-    → comparator_at is_first (after_blanks Cargo t) ≡ Some (one_term (found_comparator s w v t spelled), v)
+    → comparator_at is_first (after_blanks Cargo t) ≡ Some (one_term (comparator_term s w v spelled), v)
 comparator_read is_first s w v t spelled whole e n alone =
     let x = spelled.word ++ (spelled.after ++ v) in
     let text : t ≡ spelled.before ++ ((sign s.form ++ spelled.gap) ++ x) = whole ∙ ap (λ y. y ++ v) spelled.text ∙ simp append_assoc in
     let begins = starts-append is_word_byte spelled.word (spelled.after ++ v) (component_word spelled.word (partial_starts s.partial spelled.word
     spelled.partial)) in
     let read : Reads s.form (after_blanks Cargo t) x = rw text (reads s.form spelled.before spelled.gap x spelled.before_is spelled.gap_is begins) in
+    let from : after_blanks Cargo t ≡ from_operator s.form spelled.gap x =
+    ap (after_blanks Cargo) text ∙ begins_after s.form spelled.before spelled.gap x spelled.before_is spelled.gap_is begins in
     rw (
       read.1,
       partial_read Cargo (after_form s.form) s.partial spelled.word (spelled.after ++ v) spelled.partial (spaces_end spelled.after v spelled.after_is e),
@@ -220,4 +227,5 @@ comparator_read is_first s w v t spelled whole e n alone =
       read.0,
       spelled.is_read,
       alone,
+      from,
     ) refl

@@ -1,28 +1,26 @@
 -- Reading the comparators of a requirement one after the other gives those of its tree.
-use Rattle.std.proofs.Common.{◌≡◌, ℕ, zero, suc, ◌+◌, ◌≤◌, Bool, true, false, not, ◌&&◌, ◌||◌, ◌==◌, ◌⊎◌, if◌then◌else◌, inl, inr, List, [], ◌∷◌, ◌++◌, length, refl, sym, ap, ◌∙◌}
+use Rattle.std.proofs.Common.{◌≡◌, ℕ, zero, suc, ◌≤◌, Bool, true, false, not, ◌&&◌, ◌||◌, ◌==◌, ◌⊎◌, if◌then◌else◌, inl, inr, List, [], ◌∷◌, ◌++◌, length, refl, sym, ap, ◌∙◌}
 use Rattle.std.proofs.Common.{Option, Some, None, map, subst, arith, append_assoc, append-nil}
-use Rattle.std.proofs.lemmas.Bool.{and_parts, eqb-true}
+use Rattle.std.proofs.lemmas.Bool.{eqb-true}
 use Rattle.std.proofs.Math.Bool.{and-false, or-true}
 use Rattle.std.specs.Prelude.{option_map, nat_lt}
-use Rattle.std.specs.List.{list_all, list_any}
-use Rattle.semver_texts.specs.Texts.{Text, is_empty, is_part_byte}
+use Rattle.std.specs.List.{list_any}
+use Rattle.semver_texts.specs.Texts.{Text, is_empty}
 use Rattle.std.proofs.lemmas.Bool.Decides.{nat_tests}
 use Rattle.semver_texts.proofs.Lists.{by_test}
 use Rattle.semver_texts.specs.declared.grammar.Grammar.TheVariants as grammar
 use Rattle.semver_ranges.specs.Partials.{states_nothing}
-use Rattle.semver_ranges.specs.RangeTree.{Form, Simple, SetTree, simples, is_blank, AreBlanks, bare, equal, less, at_most, greater, at_least}
-use Rattle.semver_ranges.specs.RangeTree.{tilde, caret}
-use Rattle.semver_ranges.specs.CargoGrammar.{as_read, sign, SpellsComparator, SpellsComparators, SpellsRequirement, stands_alone}
+use Rattle.semver_ranges.specs.RangeTree.{Simple, SetTree, simples, is_blank}
+use Rattle.semver_ranges.specs.CargoGrammar.{as_read, SpellsComparator, SpellsComparators, SpellsRequirement, stands_alone}
 use Rattle.semver_ranges.specs.declared.partial.LowerBounds.{LowerBounds}
-use Rattle.semver_ranges.specs.Steps.FoundItems.{FoundTerm, Item, comparator, comparator_at, empty_range, items_left, one_term, simple_of}
-use Rattle.semver_ranges.specs.Steps.FoundItems.{two_bars}
+use Rattle.semver_ranges.specs.TextItems.{Item, empty_range, one_term, two_bars}
+use Rattle.semver_ranges.specs.Steps.FoundItems.{comparator, comparator_at, items_left, simple_of}
 use Rattle.semver_ranges.specs.Steps.Reading.{after_blanks, front}
-use Rattle.semver_ranges.specs.Steps.RangeEvents.{Event, before_others, comparators_left, events_of, in_front, next_range, set_events}
+use Rattle.semver_ranges.specs.Steps.RangeEvents.{before_others, comparators_left, events_of, in_front, next_range, set_events}
 use Rattle.semver_ranges.specs.Steps.RangeEvents.{some_comparators, yielded}
 use Rattle.semver_ranges.proofs.ComparatorSteps.{one_left}
 use Rattle.semver_ranges.proofs.ItemSteps.{left_next}
 use Rattle.semver_ranges.proofs.ReadingPieces.{front-back, front_all}
-use Rattle.semver_ranges.proofs.WordBytes.{partial_bytes}
 use Rattle.semver_texts.specs.declared.grammar.Grammar.{Grammar}
 use Rattle.semver_ranges.specs.CargoGrammar.{is_cargo}
 use Rattle.semver_ranges.specs.Steps.Reading.{read}
@@ -33,8 +31,9 @@ use Rattle.tool_ranges.specs.declared.dialect.Dialect.{Dialect}
 use Rattle.tool_ranges.specs.declared.dialect.Dialect.TheVariants.{Cargo, Npm, CrateCargo, CrateNpm}
 use Rattle.tool_ranges.specs.Steps.TextEvents.{commas, events_in, has_few_commas, may_be_a_range, ranges_of, read_as, requirement}
 use Rattle.tool_ranges.specs.Steps.TextEvents.{text_events, tree_of}
+use Rattle.tool_ranges.specs.SpelledItems.{comparator_term, comparators_items}
 use Rattle.tool_ranges.proofs.Commas.{comparators_commas}
-use Rattle.tool_ranges.proofs.ComparatorReading.{blanks_before, comparator_read, comparator_sound, found_comparator}
+use Rattle.tool_ranges.proofs.ComparatorReading.{blanks_before, comparator_read, comparator_sound}
 
 -- ---- the tree that is read spells the text
 
@@ -124,23 +123,16 @@ stands_first s next others e = by_test (list_any (λ s. states_nothing s.partial
     (λ y. let no : false ≡ true = rw y at e in cc)
     (λ n. n)
 
--- the comparators as they are found
-abbrev pub found_items : (tree : List Simple) (t : Text) → SpellsComparators tree t → List Item
-found_items [] t spelled = []
-found_items (s ∷ []) t spelled = one_term (found_comparator s t [] t spelled) ∷ []
-found_items (s ∷ next ∷ others) t (front, back, spelled, more, whole) =
-    one_term (found_comparator s front (44 ∷ back) t spelled) ∷ found_items (next ∷ others) back more
-
 pub comparators_complete : (is_first : Bool) (t r : Text) (tree : List Simple) (spelled : SpellsComparators tree t) → IsNextOf is_first t r
     → (is_first ≡ false → list_any (λ s. states_nothing s.partial) tree ≡ false) → stands_alone tree ≡ true
-    → (comparators_left is_first r ≡ Some tree) × (items_left grammar.Cargo is_first r ≡ found_items tree t spelled)
+    → (comparators_left is_first r ≡ Some tree) × (items_left grammar.Cargo is_first r ≡ comparators_items tree t spelled)
 comparators_complete is_first t r [] h next all alone = absurd h
 comparators_complete is_first t r (s ∷ []) h (here, some) all alone =
     let may : (not (states_nothing s.partial) || (is_first && true)) ≡ true = by_test is_first
     (λ y. rw y (or-true _))
     (λ n. by_test (states_nothing s.partial) (λ z. let no : true ≡ false = rw z at (all n) in cc) (λ m. rw m refl)) in
     let found = here ∙ comparator_read is_first s t [] t h (sym (append-nil t)) refl refl may in
-    let x = found_comparator s t [] t h in
+    let x = comparator_term s t [] h in
     (one_left is_first r x [] found some, left_next grammar.Cargo is_first r (Some (one_term x, [])) found)
 comparators_complete is_first t r (s ∷ next ∷ others) (front, back, h, more, text) (here, some) all alone =
     let none = stands_first s next others alone in
@@ -149,7 +141,7 @@ comparators_complete is_first t r (s ∷ next ∷ others) (front, back, h, more,
     (λ n. let rest : list_any (λ s. states_nothing s.partial) (next ∷ others) ≡ false = rw n at none in
     let later = comparators_complete false back (44 ∷ back) (next ∷ others) more (refl, refl) (λ _. rest) (stands_so (next ∷ others) rest) in
     let found = here ∙ comparator_read is_first s front (44 ∷ back) t h text refl refl (rw n refl) in
-    let x = found_comparator s front (44 ∷ back) t h in (
+    let x = comparator_term s front (44 ∷ back) h in (
       one_left is_first r x (44 ∷ back) found some ∙ ap (option_map (λ ss. s ∷ ss)) later.0,
       left_next grammar.Cargo is_first r (Some (one_term x, 44 ∷ back)) found ∙ ap (λ xs. one_term x ∷ xs) later.1,
     ))

@@ -2,6 +2,7 @@
 pub mod ComparatorReading
 mod Commas
 pub mod Comparators
+pub mod ItemsFound
 mod ReadTrees
 pub mod ReadingLaws
 mod LeftEvents

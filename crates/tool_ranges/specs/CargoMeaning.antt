@@ -4,7 +4,7 @@
 -- pre-release. Cargo has no rule by which every pre-release within the bounds counts. Here, the
 -- rule `Included` is precedence against the comparators of `cargo::rewrite`, but a lower bound of
 -- fewer than three numbers begins with the lowest pre-release, such as `>=1.2.0-0`.
-use Rattle.std.specs.Prelude.{ℕ, Bool, true, ◌&&◌, ◌||◌, if◌then◌else◌, List, [], ◌∷◌}
+use Rattle.std.specs.Prelude.{ℕ, Bool, true, ◌&&◌, ◌||◌, List, [], ◌∷◌}
 use Rattle.std.specs.Prelude.{length, take}
 use Rattle.std.specs.List.{list_all, list_any}
 use Rattle.std.specs.Ordering.{nat_cmp, is_eq, is_lt, is_gt, is_ge}

@@ -8,6 +8,7 @@ pub mod Rewritten
 pub mod Steps
 pub mod Dialects
 pub mod FittingTerms
+pub mod SpelledItems
 pub mod DialectTable
 pub mod Meanings
 pub mod Satisfying

@@ -7,32 +7,16 @@ use Rattle.std.specs.Prelude.{List, [], ◌∷◌, ℕ, zero, suc}
 use Rattle.semver_texts.specs.Texts.{Text, begins_with, is_empty}
 use Rattle.semver_texts.specs.declared.grammar.Grammar.{Grammar}
 use Rattle.semver_texts.specs.declared.grammar.Grammar.TheVariants.{Cargo}
-use Rattle.semver_ranges.specs.RangeTree.{Form, bare, PartialTree, Simple, RangeTree, Role}
+use Rattle.semver_ranges.specs.RangeTree.{bare, Simple, RangeTree, Role}
 use Rattle.semver_ranges.specs.RangeTree.{after_form, after_hyphen}
 use Rattle.semver_ranges.specs.Partials.{states_nothing}
 use Rattle.semver_ranges.specs.CargoGrammar.{is_cargo, is_of_cargo}
+use Rattle.semver_ranges.specs.TextItems.{FoundTerm, FoundWord, Item, one_term}
+use Rattle.semver_ranges.specs.TextItems.{empty_range, two_bars}
 use Rattle.semver_ranges.specs.Steps.Reading.{after_bars, after_blanks, ends_range, operator}
 use Rattle.semver_ranges.specs.Steps.Reading.{partial, right_side, simple, with_right}
 
 -- ---- what is found in a text
-
--- a partial version, the text from its word on, and what follows the word
-pub record FoundWord : Type 0 where
-  pub partial : PartialTree
-  pub from : Text
-  pub after : Text
-
--- a term: the text from its first byte on, its operator, and its word, or the two words of a hyphen
--- range
-pub record FoundTerm : Type 0 where
-  pub from : Text
-  pub form : Form
-  pub version : FoundWord
-  pub upper : Option FoundWord
-
-pub data Item : Type 0 where
-  one_term : FoundTerm → Item
-  empty_range two_bars : Item
 
 -- the word at the beginning of a text, and that after the hyphen with which a text begins
 abbrev pub word_at : Grammar → Role → Text → Option FoundWord

@@ -20,8 +20,9 @@ use Rattle.semver_ranges.specs.declared.term.RawTerm as written
 use Rattle.semver_ranges.specs.declared.term.RawVersion.{RawVersion}
 use Rattle.semver_ranges.specs.Steps.Reading.{after_v, component, operator, partial, right_side}
 use Rattle.semver_ranges.specs.Steps.Reading.{simple, with_first}
-use Rattle.semver_ranges.specs.Steps.FoundItems.{FoundTerm, FoundWord, Item, one_term, empty_range}
-use Rattle.semver_ranges.specs.Steps.FoundItems.{two_bars, flag, item, items_left, simple_of}
+use Rattle.semver_ranges.specs.TextItems.{FoundTerm, FoundWord, Item, one_term}
+use Rattle.semver_ranges.specs.TextItems.{empty_range, two_bars}
+use Rattle.semver_ranges.specs.Steps.FoundItems.{flag, item, items_left, simple_of}
 use Rattle.semver_ranges.specs.Steps.FoundItems.{size_at, upper_word, word_at}
 use Rattle.semver_ranges.specs.Steps.RangeEvents as list
 use Rattle.semver_ranges.specs.Steps.RangeEvents.{one_simple, next_range, put, put_simples}

@@ -12,7 +12,8 @@ use Rattle.semver_ranges.specs.Partials.{states_nothing}
 use Rattle.semver_ranges.specs.Terms.{left_side, right_side}
 use Rattle.semver_ranges.specs.Steps.Reading.{after_bars, after_blanks, after_range}
 use Rattle.semver_ranges.specs.Steps.Reading.{all_simples, range_here, read}
-use Rattle.semver_ranges.specs.Steps.FoundItems.{Item, comparator, one_term, simple_of}
+use Rattle.semver_ranges.specs.TextItems.{Item, one_term}
+use Rattle.semver_ranges.specs.Steps.FoundItems.{comparator, simple_of}
 use Rattle.semver_ranges.specs.Steps.PartialViews.{begun_as}
 
 -- an event: a term of the range, or two bars

@@ -3,9 +3,9 @@
 
 use crate::rattle_std::prelude::*;
 use crate::proved::invalid_strings::reasons::Reason;
-use crate::proved::range_terms::term::{PartialVersion, Term};
-use crate::proved::range_terms::terms::{form_of, of_range};
-use crate::proved::semver_ranges::grammar::{Form, read_components};
+use crate::proved::semver_ranges::cursor::{Cursor, Event};
+use crate::proved::semver_ranges::grammar::Form;
+use crate::proved::semver_ranges::term::RawVersion;
 use crate::proved::semver_texts::bytes::run_len;
 use crate::proved::semver_texts::decimals::number_of_digits;
 use crate::proved::semver_texts::dotted::split_at_dot;
@@ -16,39 +16,50 @@ use crate::proved::tool_ranges::table::{limit, too_large};
 /// doesn't fit: the first number above the limit of the dialect, or if there is none, the number
 /// that is raised and can't be. It is 1 in `=18446744073709551616 || 1`. It does not allocate.
 pub(crate) fn limit_offset(dialect: Dialect, text: &str) -> usize {
-    for term in of_range(text, dialect) {
-        if let Some(offset) = offset_in(&term, text.as_bytes(), dialect) {
+    let grammar = dialect.grammar();
+    let mut cursor = Cursor::new(text.as_bytes(), grammar);
+    while let Some(event) = cursor.next_in(grammar) {
+        let Ok(event) = event else {
+            return 0;
+        };
+        if let Some(offset) = offset_in_event(&event, text.len(), dialect) {
             return offset;
         }
     }
     0
 }
 
-/// Returns the offset of the number that is too large in a term, if the term doesn't fit.
-fn offset_in(term: &Term<'_>, text: &[u8], dialect: Dialect) -> Option<usize> {
-    let form = form_of(term.operator);
-    if let Some(offset) = offset_at(&term.version, form, text, dialect) {
+/// Returns the offset of the number that is too large in a term of a string with a length of `len`
+/// bytes, if the event is a term that doesn't fit.
+fn offset_in_event(event: &Event<'_>, len: usize, dialect: Dialect) -> Option<usize> {
+    let Event::Term(term) = event else {
+        return None;
+    };
+    let Some(upper) = &term.upper else {
+        return offset_in(&term.version, term.form, len, dialect);
+    };
+    // The left side of a hyphen range is read as a term with `>=`.
+    if let Some(offset) = offset_in(&term.version, Form::AtLeast, len, dialect) {
         return Some(offset);
     }
-    match &term.upper {
-        Some(upper) => offset_at(upper, Form::AtMost, text, dialect),
-        None => None,
-    }
+    offset_in(upper, Form::AtMost, len, dialect)
 }
 
-/// Returns the offset of the number that is too large in a version after an operator, if this term
-/// doesn't fit.
-fn offset_at(
-    version: &PartialVersion<'_>,
-    form: Form,
-    text: &[u8],
-    dialect: Dialect,
-) -> Option<usize> {
-    let begin = version.span.start + usize::from(version.has_v);
-    let word = &text[begin..version.span.end];
-    let (written, _) = read_components(word)?;
-    let index = too_large(form, &written, dialect)?;
-    Some(begin + component_begin(word, index))
+/// Returns the offset of the number that is too large in a version after an operator, if they don't
+/// fit.
+fn offset_in(version: &RawVersion<'_>, form: Form, len: usize, dialect: Dialect) -> Option<usize> {
+    let index = too_large(form, &version.components, dialect)?;
+    let numbers = without_v(version.from);
+    let word = &numbers[..numbers.len() - version.after.len()];
+    Some(len - numbers.len() + component_begin(word, index))
+}
+
+/// Returns a string without the `v` at its beginning.
+fn without_v(text: &[u8]) -> &[u8] {
+    match text {
+        [b'v', rest @ ..] => rest,
+        _ => text,
+    }
 }
 
 /// Returns the offset of the component with an index, or of the last one if there are fewer.

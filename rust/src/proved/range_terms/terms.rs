@@ -147,22 +147,6 @@ fn operator_of(form: Form) -> Operator {
     }
 }
 
-/// Returns the operator of the first version of a term. The left side of a hyphen range is a term
-/// with `>=`.
-#[must_use]
-pub fn form_of(operator: Operator) -> Form {
-    match operator {
-        Operator::Bare => Form::Bare,
-        Operator::Equal => Form::Equal,
-        Operator::Less => Form::Less,
-        Operator::LessOrEqual => Form::AtMost,
-        Operator::Greater => Form::Greater,
-        Operator::GreaterOrEqual | Operator::Hyphen => Form::AtLeast,
-        Operator::Tilde => Form::Tilde,
-        Operator::Caret => Form::Caret,
-    }
-}
-
 /// Returns a version of a term, in a string with a length of `len` bytes.
 fn version_of<'text>(written: &RawVersion<'text>, len: usize) -> PartialVersion<'text> {
     let components = &written.components;

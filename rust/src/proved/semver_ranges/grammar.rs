@@ -185,7 +185,7 @@ fn is_short(text: &[u8], rest: &[u8], role: Role) -> bool {
 
 /// Returns the components of the partial at the beginning of a string, whatever follows it.
 #[inline(always)]
-pub fn read_components(text: &[u8]) -> Option<(Components<'_>, &[u8])> {
+pub(crate) fn read_components(text: &[u8]) -> Option<(Components<'_>, &[u8])> {
     let (major, rest) = read_component(text)?;
     let one = Components {
         major,

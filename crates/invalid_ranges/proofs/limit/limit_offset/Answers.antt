@@ -1,42 +1,40 @@
-use Rattle.std.proofs.Common.{◌∷◌, sym, subst, ◌∙◌}
-use Rattle.std.specs.Prelude.{List}
-use Rattle.semver_ranges.specs.RangeTree.{Simple}
-use Rattle.range_terms.specs.SpelledTerms.{IsTermOf}
-use Rattle.range_terms.specs.WrittenTerms.{term_value}
-use Rattle.invalid_ranges.proofs.FirstOffsets.{Left, all_left, found, none_left, passed}
+use Rattle.std.proofs.Common.{◌≤◌, None, length, refl, sym, ◌∙◌}
+use Rattle.semver_ranges.specs.RangeTree.{is_blank}
+use Rattle.semver_ranges.proofs.ItemSteps.{left_next}
+use Rattle.semver_ranges.proofs.ReadingSteps.{back_shorter}
+use Rattle.invalid_ranges.proofs.FirstOffsets.{found, none_left}
 use Rattle.invalid_ranges.proofs.limit.limit_offset.Goals as goal
-use Rattle.invalid_ranges.proofs.limit.limit_offset.Goals.{In-Some, After-as_bytes}
 
-pub loop-term-init : goal.loop-term-init
-loop-term-init c = all_left c.args.dialect c.args.text.now c.requires c.into_iter-term-iterator.result
-    (λ tree spelled. c.into_iter-term-iterator.ensures.into_iter_gives ∙ c.of_range-term-items.ensures tree spelled)
+pub loop-event-init : goal.loop-event-init
+loop-event-init c =
+    let short : length c.new-cursor.result.rest.now ≤ length c.args.text.now = rw (c.new-cursor.ensures.rest, c.as_bytes.ensures.value)
+    (back_shorter (is_blank c.grammar-grammar.result) c.args.text.now) in
+    (refl, short)
 
-abbrev left : (c : In-Some) → Left c.args.dialect c.args.text.now (term_value c.in-Some.term ∷ c.next.new.self)
-left c = subst (Left c.args.dialect c.args.text.now) c.in-Some.ensures.steps c.loop-term.invariant
+pub returns-in-Some-offset_in_event-clause-value : goal.returns-in-Some-offset_in_event-clause-value
+returns-in-Some-offset_in_event-clause-value c =
+    let before = c.loop-event.cursor in
+    let g = c.grammar-grammar in
+    let first = c.new-cursor in
+    let given = rw c.in-Ok.is at c.in-Some.ensures in
+    found c.args.dialect c.args.text.now g.result g.ensures.grammar first.result first.ensures.begins
+    (rw c.as_bytes.ensures.value at first.ensures.rest) before c.loop-event.invariant.0 given.x _ given.whole c.in-Some-offset_in_event.offset
+    (sym c.in-Some-offset_in_event.is ∙ c.offset_in_event.ensures.value g.result (length before.rest.now) given.x given.is)
 
--- the terms of the tree that are the next term
-abbrev here : (c : After-as_bytes) → (ss : List Simple) × IsTermOf c.args.dialect c.as_bytes.result.now (term_value c.in-Some.term) ss
-here c =
-    let all = left (goal.at.offset_in-requires c).In-Some in
-    (all.1.0, subst (λ t. IsTermOf c.args.dialect t (term_value c.in-Some.term) all.1.0) (sym c.as_bytes.ensures.value) all.1.2)
-
-pub offset_in-requires : goal.offset_in-requires
-offset_in-requires c = here c
-
-pub returns-in-Some-offset_in-clause-value : goal.returns-in-Some-offset_in-clause-value
-returns-in-Some-offset_in-clause-value c =
-    let is = here (goal.at.returns-in-Some-offset_in-clause-value c).After-as_bytes in
-    found c.args.dialect c.args.text.now (term_value c.in-Some.term) c.next.new.self
-    (left (goal.at.returns-in-Some-offset_in-clause-value c).In-Some) c.in-Some-offset_in.offset
-    (sym c.in-Some-offset_in.is ∙ c.offset_in.ensures.value is.0 is.1)
-
-pub loop-term-preserved : goal.loop-term-preserved
-loop-term-preserved c =
-    let is = here (goal.at.loop-term-preserved c).After-as_bytes in
-    passed c.args.dialect c.args.text.now (term_value c.in-Some.term) c.next.new.self
-    (left (goal.at.loop-term-preserved c).In-Some)
-    (sym c.in_default.is ∙ c.offset_in.ensures.value is.0 is.1)
+pub returns-in_default-event-clause-value : goal.returns-in_default-event-clause-value
+returns-in_default-event-clause-value c =
+    let before = c.loop-event.cursor in
+    let g = c.grammar-grammar in
+    let first = c.new-cursor in
+    let gone = rw c.in_default-event.is at c.in-Some.ensures in
+    none_left c.args.dialect c.args.text.now g.result g.ensures.grammar first.result first.ensures.begins
+    (rw c.as_bytes.ensures.value at first.ensures.rest) before c.loop-event.invariant.0
+    (left_next g.result before.begins_range before.rest.now None gone.0.found)
 
 pub returns-clause-value : goal.returns-clause-value
-returns-clause-value c = none_left c.args.dialect c.args.text.now
-    (subst (Left c.args.dialect c.args.text.now) c.in-None.ensures.steps.0 c.loop-term.invariant)
+returns-clause-value c =
+    let g = c.grammar-grammar in
+    let first = c.new-cursor in
+    let gone = rw c.in_default.is at c.next_in.ensures in
+    none_left c.args.dialect c.args.text.now g.result g.ensures.grammar first.result first.ensures.begins
+    (rw c.as_bytes.ensures.value at first.ensures.rest) c.loop-event.cursor c.loop-event.invariant.0 (rw (gone.0.0, gone.0.1) refl)

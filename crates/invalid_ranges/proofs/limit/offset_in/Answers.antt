@@ -1,29 +1,24 @@
-use Rattle.std.proofs.Common.{None, refl, sym, ap, ◌∙◌}
+use Rattle.std.proofs.Common.{◌+◌, ◌-◌, Some, ap, length, refl, sym, ◌∙◌}
 use Rattle.std.specs.Prelude.{option_map}
-use Rattle.semver_ranges.specs.RangeTree.{Simple}
-use Rattle.semver_ranges.specs.Terms.{right_side}
-use Rattle.range_terms.specs.SpelledTerms.{IsUpperOf, first_form}
-use Rattle.range_terms.specs.WrittenTerms.{term_value, version_value}
-use Rattle.invalid_ranges.proofs.FirstOffsets.{in_upper}
+use Rattle.semver_ranges.specs.Steps.CursorViews.{form_of}
+use Rattle.invalid_ranges.specs.TooLarge.{number_begin}
+use Rattle.invalid_ranges.proofs.FirstOffsets.{number_at, within}
 use Rattle.invalid_ranges.proofs.limit.offset_in.Goals as goal
 
-pub returns-in-Some-clause-value : goal.returns-in-Some-clause-value
-returns-in-Some-clause-value c = λ ss is.
-    let s : Simple = record { form = first_form c.args.term.now.operator; partial = is.partial } in
-    let first = sym c.in-Some.is ∙ c.offset_at.ensures.value s c.form_of-form.ensures is.version in
-    rw (is.terms, ← first) refl
+pub returns-in_err-index-clause-value : goal.returns-in_err-index-clause-value
+returns-in_err-index-clause-value c = λ d x is.
+    let large = c.too_large.ensures.value (record { form = form_of c.args.form; partial = x.partial }) refl is.written in
+    c.from_residual.ensures ∙ ap (option_map (number_begin c.args.len x)) (sym c.in_err-index.was ∙ large)
 
-pub returns-in-Some-upper-clause-value : goal.returns-in-Some-upper-clause-value
-returns-in-Some-upper-clause-value c = λ ss is.
-    let s : Simple = record { form = first_form c.args.term.now.operator; partial = is.partial } in
-    let first = sym c.in_default.is ∙ c.offset_at.ensures.value s c.form_of-form.ensures is.version in
-    rw (is.terms, ← first) (in_upper c.args.dialect c.args.text.now (term_value c.args.term.now).upper is.others is.upper
-    (version_value c.in-Some-upper.upper) (ap (option_map version_value) c.in-Some-upper.is) c.offset_at-in-Some-upper.result
-    (λ p spelled. c.offset_at-in-Some-upper.ensures.value (right_side p) refl spelled))
+pub slice_bounds-word-count : goal.slice_bounds-word-count
+slice_bounds-word-count c =
+    let (d, x, is, short) = c.requires in
+    within d x c.args.version.now is c.without_v-numbers.result.now c.without_v-numbers.ensures
 
-pub returns-in-None-clause-value : goal.returns-in-None-clause-value
-returns-in-None-clause-value c = λ ss is.
-    let s : Simple = record { form = first_form c.args.term.now.operator; partial = is.partial } in
-    let first = sym c.in_default.is ∙ c.offset_at.ensures.value s c.form_of-form.ensures is.version in
-    let upper : IsUpperOf c.args.dialect c.args.text.now None is.others = rw c.in-None.is at is.upper in
-    rw (is.terms, upper, ← first) refl
+pub returns-clause-value : goal.returns-clause-value
+returns-clause-value c = λ d x is.
+    let large = c.too_large.ensures.value (record { form = form_of c.args.form; partial = x.partial }) refl is.written in
+    let numbers = c.without_v-numbers.result.now in
+    let offset = ap (λ k. c.args.len - length numbers + k) c.component_begin.ensures.value
+    ∙ number_at d x c.args.version.now is numbers c.without_v-numbers.ensures c.in_ok-index.index c.in_ok-index.ensures.small c.args.len in
+    ap Some offset ∙ ap (option_map (number_begin c.args.len x)) (sym c.in_ok-index.was ∙ large)

@@ -2,8 +2,8 @@ use Rattle.std.proofs.Common.{None, ap, arith, length, refl, ◌∙◌}
 use Rattle.semver_ranges.specs.declared.cursor.Event.TheVariants.{Term}
 use Rattle.semver_ranges.specs.Steps.Items.{IsTaken}
 use Rattle.semver_ranges.proofs.ItemSteps.{left_next}
-use Rattle.range_terms.specs.Steps.{terms_of}
-use Rattle.range_terms.proofs.LeftTerms.{term_first}
+use Rattle.range_terms.specs.WrittenTerms.{terms_of}
+use Rattle.tool_ranges.proofs.ItemsFound.{term_first}
 use Rattle.range_terms.proofs.terms.next_term.Goals as goal
 
 pub term_of-requires : goal.term_of-requires

@@ -1,4 +1,3 @@
-use Rattle.std.proofs.Common.{length}
 use Rattle.semver_ranges.proofs.ComparatorSteps.{after_found}
 use Rattle.semver_ranges.proofs.cargo.next_comparator.Goals as goal
 use Rattle.semver_ranges.proofs.cargo.next_comparator.Goals.{then-is_first, else-is_first+in_ok-text}

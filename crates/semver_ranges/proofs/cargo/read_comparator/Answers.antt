@@ -1,4 +1,4 @@
-use Rattle.std.proofs.Common.{◌≡◌, ◌&&◌, ◌∙◌, Bool, refl, sym}
+use Rattle.std.proofs.Common.{◌≡◌, ◌&&◌, ◌∙◌, refl, sym}
 use Rattle.semver_texts.specs.Texts.{is_empty}
 use Rattle.semver_ranges.proofs.ComparatorSteps.{found_here, no_bytes, not_here}
 use Rattle.semver_ranges.proofs.cargo.read_comparator.Goals as goal

@@ -1,7 +1,7 @@
 use Rattle.std.proofs.Common.{◌≤◌, Some, false, length, arith, refl, ap, ◌∙◌}
 use Rattle.semver_ranges.specs.RangeTree.{is_blank}
 use Rattle.semver_texts.specs.Texts.{Text}
-use Rattle.semver_ranges.specs.Steps.FoundItems.{two_bars}
+use Rattle.semver_ranges.specs.TextItems.{two_bars}
 use Rattle.semver_ranges.specs.Steps.RangeEvents.{next_range, put}
 use Rattle.semver_ranges.proofs.ReadingSteps.{back_shorter, shorter_bars}
 use Rattle.semver_ranges.proofs.EventSteps.{begin_left, bars_left}

@@ -1,7 +1,7 @@
-use Rattle.std.proofs.Common.{Some, refl, arith}
+use Rattle.std.proofs.Common.{Some, arith}
 use Rattle.semver_texts.specs.Texts.{Text}
 use Rattle.semver_texts.specs.declared.grammar.Grammar.TheVariants.{Cargo}
-use Rattle.semver_ranges.specs.Steps.FoundItems.{one_term}
+use Rattle.semver_ranges.specs.TextItems.{one_term}
 use Rattle.semver_ranges.proofs.ComparatorSteps.{events_next, no_events, some_left}
 use Rattle.semver_ranges.proofs.ItemSteps.{comparator_shorter, left_next}
 use Rattle.semver_ranges.proofs.cursor.Cursor.read_comparator.Goals as goal

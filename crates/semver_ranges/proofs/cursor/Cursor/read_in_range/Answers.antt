@@ -3,7 +3,7 @@ use Rattle.std.proofs.Math.Bool.{and-false}
 use Rattle.semver_texts.specs.Texts.{Text, begins_with}
 use Rattle.semver_ranges.specs.RangeTree.{Simple}
 use Rattle.semver_ranges.specs.Steps.CursorViews.{form_of}
-use Rattle.semver_ranges.specs.Steps.FoundItems.{FoundTerm, one_term}
+use Rattle.semver_ranges.specs.TextItems.{FoundTerm, one_term}
 use Rattle.semver_ranges.proofs.ReadingSteps.{shorter_simple}
 use Rattle.semver_ranges.proofs.EventSteps.{simple_left}
 use Rattle.semver_ranges.proofs.ItemSteps.{left_next}

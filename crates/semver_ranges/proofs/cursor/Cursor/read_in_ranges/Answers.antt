@@ -1,7 +1,7 @@
 use Rattle.std.proofs.Common.{◌≡◌, Some, true, refl, sym, ◌∙◌, arith}
 use Rattle.semver_texts.specs.Texts.{Text}
 use Rattle.semver_ranges.specs.Steps.Reading.{ends_range}
-use Rattle.semver_ranges.specs.Steps.FoundItems.{empty_range}
+use Rattle.semver_ranges.specs.TextItems.{empty_range}
 use Rattle.semver_ranges.proofs.EventSteps.{empty_left}
 use Rattle.semver_ranges.proofs.ItemSteps.{left_next}
 use Rattle.semver_ranges.proofs.cursor.Cursor.read_in_ranges.Goals as goal

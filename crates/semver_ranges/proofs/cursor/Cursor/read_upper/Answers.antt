@@ -3,7 +3,7 @@ use Rattle.semver_texts.specs.Texts.{Text}
 use Rattle.semver_ranges.specs.RangeTree.{Simple, RangeTree, bare, hyphen}
 use Rattle.semver_ranges.specs.Steps.Reading.{with_right}
 use Rattle.semver_ranges.specs.Steps.CursorViews.{form_of}
-use Rattle.semver_ranges.specs.Steps.FoundItems.{FoundTerm, one_term}
+use Rattle.semver_ranges.specs.TextItems.{FoundTerm, one_term}
 use Rattle.semver_ranges.specs.Steps.RangeEvents.{yielded, put_simples}
 use Rattle.semver_ranges.proofs.ReadingSteps.{shorter_simple, shorter_right, right_ends}
 use Rattle.semver_ranges.proofs.EventSteps.{end_left, hyphen_left}
