@@ -121,7 +121,7 @@ def constants_in_rust():
     yield 'REASON_NONE', '0'
     for path, kind, function, prefix in (
         ('invalid_strings/reasons', 'Reason', 'row', 'REASON'), ('tool_ranges/dialect', 'Dialect', 'number', 'DIALECT'),
-        ('version_sets/rules', 'PreReleases', 'number', 'PRE_RELEASES'), ('range_terms/term', 'Operator', 'number', 'OPERATOR'),
+        ('version_sets/rules', 'PreReleases', 'number', 'PRE_RELEASES'), ('semver_ranges/operator', 'Operator', 'number', 'OPERATOR'),
     ):
         body = re.search(rf'fn {function}\(.*?\n    \}}', read(f'rust/src/proved/{path}.rs'), re.S)[0]
         for name, number in re.findall(rf'{kind}::(\w+) => \(?\s*(\d+)', body):

@@ -10,7 +10,7 @@ mod proved;
 mod rattle_std;
 
 use proved::invalid_strings::reasons::Reason;
-use proved::range_terms::term::Operator;
+use proved::semver_ranges::operator::Operator;
 use proved::tool_ranges::dialect::Dialect;
 use proved::version_sets::PreReleases;
 use std::{env, fs};

@@ -111,9 +111,10 @@ mod versions;
 
 pub use as_version::AsVersion;
 pub use proved::invalid_strings::reasons::Reason;
-pub use proved::range_terms::term::{Component, Operator, PartialVersion, Span, Term};
+pub use proved::range_terms::term::{Component, PartialVersion, Span, Term};
 pub use proved::range_terms::terms::Terms;
 pub use proved::semver_errors::{Error, Kind as ErrorKind};
+pub use proved::semver_ranges::operator::Operator;
 pub use proved::semver_versions::owned::Version;
 pub use proved::semver_versions::version::VersionRef;
 pub use proved::tool_ranges::dialect::Dialect;

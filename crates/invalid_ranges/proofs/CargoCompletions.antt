@@ -10,15 +10,19 @@ use Rattle.semver_texts.specs.Texts.{Text, has_no_leading_zero, is_empty, is_num
 use Rattle.semver_texts.specs.declared.grammar.Grammar.TheVariants.{Cargo}
 use Rattle.semver_texts.proofs.Lists.{by_test}
 use Rattle.semver_ranges.specs.Partials.{stated, states_nothing}
-use Rattle.semver_ranges.specs.RangeTree.{Form, bare, equal, less, at_most, greater, at_least, tilde, caret, is_bare, AreBlanks}
-use Rattle.semver_ranges.specs.RangeTree.{PartialTree, one, two, three, SetTree, Simple, SpellsPartial, simples, is_component, is_wildcard}
+use Rattle.semver_ranges.specs.declared.operator.Operator.{Operator}
+use Rattle.semver_ranges.specs.declared.operator.Operator.TheVariants.{Bare, Equal, Less, LessOrEqual, Greater, GreaterOrEqual, Tilde}
+use Rattle.semver_ranges.specs.declared.operator.Operator.TheVariants.{Caret, Hyphen}
+use Rattle.semver_ranges.specs.RangeTree.{is_bare, is_of_term, AreBlanks, PartialTree, one, two, three, SetTree, Simple, SpellsPartial}
+use Rattle.semver_ranges.specs.RangeTree.{simples, is_component, is_wildcard}
 use Rattle.invalid_strings.proofs.Completions.{CompletesBy, AtMost, Seq, among, both, byte_by, choice, in_bytes, optional, same, seq}
 use Rattle.invalid_strings.proofs.Completions as prefixes
 use Rattle.invalid_strings.proofs.Cores.{Marked, marked_from, marked_to}
 use Rattle.invalid_strings.proofs.Leaves.{IsBuild, IsPre}
 use Rattle.invalid_strings.proofs.VersionPrefixes.{all_true, parts_from, parts_to}
 use Rattle.semver_ranges.specs.CargoGrammar.{SpellsComparator, SpellsComparators, SpellsRequirement}
-use Rattle.semver_ranges.specs.CargoGrammar.{is_of_cargo, is_every, is_one, is_partial_of_cargo, sign, stands_alone, wildcards_are_last}
+use Rattle.semver_ranges.specs.CargoGrammar.{is_accepted, is_of_cargo, is_every, is_one, is_partial_of_cargo, stands_alone, wildcards_are_last}
+use Rattle.semver_ranges.specs.OperatorTable.{sign}
 use Rattle.invalid_ranges.proofs.RangeLeaves.{blanks, blanks_append, closed, nothing, number_prefix, part, wildcard_prefix}
 use Rattle.invalid_ranges.proofs.PartialCompletions.{Partial, build_mark, cases, components_of_three, one_text, partial, pre_mark, spelled_one}
 use Rattle.invalid_ranges.proofs.PartialCompletions.{spelled_three, spelled_two, three_is, three_text, two_text}
@@ -239,29 +243,30 @@ stated_partial =
 -- ---- signs
 
 abbrev IsSignText : Text → Type 0
-IsSignText t = (f : Form) × (t ≡ sign f)
+IsSignText t = (f : Operator) × (t ≡ sign f) × (is_of_term f ≡ true)
 
-one_byte : (f : Form) (s b : ℕ) (m r : Text) → sign f ≡ s ∷ [] → (b ∷ m) ++ r ≡ s ∷ [] → IsSignText (b ∷ m)
-one_byte f s b [] r is e = (f, (let h : b ≡ s = cc in ap (λ x. x ∷ []) h) ∙ sym is)
-one_byte f s b (c ∷ m) r is e = absurd (cc)
+one_byte : (f : Operator) (s b : ℕ) (m r : Text) → is_of_term f ≡ true → sign f ≡ s ∷ [] → (b ∷ m) ++ r ≡ s ∷ [] → IsSignText (b ∷ m)
+one_byte f s b [] r term is e = (f, (let h : b ≡ s = cc in ap (λ x. x ∷ []) h) ∙ sym is, term)
+one_byte f s b (c ∷ m) r term is e = absurd (cc)
 
-two_bytes : (f g : Form) (s t b : ℕ) (m r : Text) → sign f ≡ s ∷ t ∷ [] → sign g ≡ s ∷ [] → (b ∷ m) ++ r ≡ s ∷ t ∷ [] → IsSignText (b ∷ m)
-two_bytes f g s t b [] r is is' e = (g, (let h : b ≡ s = cc in ap (λ x. x ∷ []) h) ∙ sym is')
-two_bytes f g s t b (c ∷ []) r is is' e = (f, (let h : b ≡ s = cc in let k : c ≡ t = cc in λ i. h i ∷ k i ∷ []) ∙ sym is)
-two_bytes f g s t b (c ∷ d ∷ m) r is is' e = absurd (cc)
+two_bytes : (f g : Operator) (s t b : ℕ) (m r : Text) → is_of_term f ≡ true → is_of_term g ≡ true → sign f ≡ s ∷ t ∷ [] → sign g ≡ s ∷ [] → (b ∷ m) ++ r ≡ s ∷ t ∷ [] → IsSignText (b ∷ m)
+two_bytes f g s t b [] r term term' is is' e = (g, (let h : b ≡ s = cc in ap (λ x. x ∷ []) h) ∙ sym is', term')
+two_bytes f g s t b (c ∷ []) r term term' is is' e = (f, (let h : b ≡ s = cc in let k : c ≡ t = cc in λ i. h i ∷ k i ∷ []) ∙ sym is, term)
+two_bytes f g s t b (c ∷ d ∷ m) r term term' is is' e = absurd (cc)
 
 sign_prefix : (b : ℕ) (t rest : Text) → IsSignText (b ∷ t ++ rest) → IsSignText (b ∷ t)
-sign_prefix b t rest (bare, e) = absurd (cc)
-sign_prefix b t rest (at_most, e) = two_bytes at_most less 60 61 b t rest refl refl e
-sign_prefix b t rest (at_least, e) = two_bytes at_least greater 62 61 b t rest refl refl e
-sign_prefix b t rest (equal, e) = one_byte equal 61 b t rest refl e
-sign_prefix b t rest (less, e) = one_byte less 60 b t rest refl e
-sign_prefix b t rest (greater, e) = one_byte greater 62 b t rest refl e
-sign_prefix b t rest (tilde, e) = one_byte tilde 126 b t rest refl e
-sign_prefix b t rest (caret, e) = one_byte caret 94 b t rest refl e
+sign_prefix b t rest (Bare, e, term) = absurd (cc)
+sign_prefix b t rest (Hyphen, e, term) = absurd (cc)
+sign_prefix b t rest (LessOrEqual, e, term) = two_bytes LessOrEqual Less 60 61 b t rest refl refl refl refl e
+sign_prefix b t rest (GreaterOrEqual, e, term) = two_bytes GreaterOrEqual Greater 62 61 b t rest refl refl refl refl e
+sign_prefix b t rest (Equal, e, term) = one_byte Equal 61 b t rest refl refl e
+sign_prefix b t rest (Less, e, term) = one_byte Less 60 b t rest refl refl e
+sign_prefix b t rest (Greater, e, term) = one_byte Greater 62 b t rest refl refl e
+sign_prefix b t rest (Tilde, e, term) = one_byte Tilde 126 b t rest refl refl e
+sign_prefix b t rest (Caret, e, term) = one_byte Caret 94 b t rest refl refl e
 
 signs : CompletesBy in_bytes IsSignText [] ([] ∷ [])
-signs = closed IsSignText [] (bare, refl) refl (λ t is. omega arith) sign_prefix
+signs = closed IsSignText [] (Bare, refl, refl) refl (λ t is. omega arith) sign_prefix
 
 -- ---- comparators that state a number, and the wildcard that matches every release
 
@@ -271,9 +276,11 @@ IsStatedComparator t = (s : Simple) × SpellsComparator s t × (states_nothing s
 abbrev Comparator : Text → Type 0
 Comparator = Seq (AreBlanks Cargo) (Seq IsSignText (Seq (AreBlanks Cargo) (Seq IsStatedText (AreBlanks Cargo))))
 
-stated_read : (s : Simple) → is_partial_of_cargo s.partial ≡ true → states_nothing s.partial ≡ false → is_of_cargo s ≡ true
-stated_read s e n = and_from (is_partial_of_cargo s.partial) (is_every s || not (states_nothing s.partial)) e
-    (or_right (is_every s) (not (states_nothing s.partial)) (rw n refl))
+stated_read : (s : Simple) → is_of_term s.operator ≡ true → is_partial_of_cargo s.partial ≡ true → states_nothing s.partial ≡ false
+    → is_of_cargo s ≡ true
+stated_read s term e n = and_from (is_of_term s.operator) (is_accepted s) term
+    (and_from (is_partial_of_cargo s.partial) (is_every s || not (states_nothing s.partial)) e
+    (or_right (is_every s) (not (states_nothing s.partial)) (rw n refl)))
 
 comparator_from : (t : Text) → Comparator t → IsStatedComparator t
 comparator_from t w =
@@ -281,7 +288,7 @@ comparator_from t w =
     let gap = signed.in_second in
     let word = gap.in_second in
     let p = word.in_first in
-    let s : Simple = record { form = signed.in_first.0; partial = p.0 } in (
+    let s : Simple = record { operator = signed.in_first.0; partial = p.0 } in (
       s,
       record {
         before = w.first;
@@ -292,7 +299,7 @@ comparator_from t w =
         gap_is = gap.in_first;
         after_is = word.in_second;
         partial = p.1.0;
-        is_read = stated_read s p.1.1 p.1.2;
+        is_read = stated_read s signed.in_first.2 p.1.1 p.1.2;
         text = w.whole ∙ ap (λ x. w.first ++ x) (signed.whole ∙ (λ i. signed.in_first.1 i ++ (gap.whole
             ∙ ap (λ x. gap.first ++ x) word.whole) i));
       },
@@ -302,14 +309,14 @@ comparator_from t w =
 comparator_to : (t : Text) → IsStatedComparator t → Comparator t
 comparator_to t (s, w, some) = record {
   first = w.before;
-  second = sign s.form ++ (w.gap ++ (w.word ++ w.after));
+  second = sign s.operator ++ (w.gap ++ (w.word ++ w.after));
   in_first = w.before_is;
-  in_second = both (sign s.form) _ (s.form, refl) (both w.gap _ w.gap_is (both w.word w.after (
+  in_second = both (sign s.operator) _ (s.operator, refl, (and_parts (is_of_term s.operator) (is_accepted s) w.is_read).0) (both w.gap _ w.gap_is (both w.word w.after (
     s.partial,
     (
       w.partial,
       (and_parts (is_partial_of_cargo s.partial)
-          (is_every s || not (states_nothing s.partial)) w.is_read).0,
+          (is_every s || not (states_nothing s.partial)) (and_parts (is_of_term s.operator) (is_accepted s) w.is_read).1).0,
       some,
     ),
   ) w.after_is));
@@ -330,7 +337,7 @@ Every = Seq (AreBlanks Cargo) (Seq IsWild (AreBlanks Cargo))
 
 every_from : (t : Text) → Every t → IsEvery t
 every_from t w = let wild = w.in_second in (
-  record { form = bare; partial = one wild.first },
+  record { operator = Bare; partial = one wild.first },
   record {
     before = w.first;
     gap = [];
@@ -347,15 +354,16 @@ every_from t w = let wild = w.in_second in (
 )
 
 -- a comparator that Cargo accepts and that states no number has no operator and only one component
-every_is : (s : Simple) → is_of_cargo s ≡ true → states_nothing s.partial ≡ true → (is_bare s.form ≡ true) × (is_one s.partial ≡ true)
+every_is : (s : Simple) → is_of_cargo s ≡ true → states_nothing s.partial ≡ true → (is_bare s.operator ≡ true) × (is_one s.partial ≡ true)
 every_is s e n =
-    let every = and_parts (is_partial_of_cargo s.partial) (is_every s || not (states_nothing s.partial)) e in
-    let both = and_parts (is_bare s.form) (is_one s.partial && states_nothing s.partial)
+    let every = and_parts (is_partial_of_cargo s.partial) (is_every s || not (states_nothing s.partial))
+    (and_parts (is_of_term s.operator) (is_accepted s) e).1 in
+    let both = and_parts (is_bare s.operator) (is_one s.partial && states_nothing s.partial)
     (or_second (is_every s) (not (states_nothing s.partial)) (rw n refl) every.1) in
     (both.0, (and_parts (is_one s.partial) (states_nothing s.partial) both.1).0)
 
-bare_sign : (f : Form) → is_bare f ≡ true → sign f ≡ []
-bare_sign bare e = refl
+bare_sign : (f : Operator) → is_bare f ≡ true → sign f ≡ []
+bare_sign Bare e = refl
 bare_sign _ e = absurd (cc)
 
 one_wild : (p : PartialTree) (t : Text) → SpellsPartial p t → is_one p ≡ true → states_nothing p ≡ true → IsWild t
@@ -370,7 +378,7 @@ every_to t (s, w, none) =
       second = w.word ++ w.after;
       in_first = blanks_append Cargo w.before w.gap w.before_is w.gap_is;
       in_second = both w.word w.after (one_wild s.partial w.word w.partial every.1 none) w.after_is;
-      whole = w.text ∙ ap (λ x. w.before ++ (x ++ (w.gap ++ (w.word ++ w.after)))) (bare_sign s.form every.0)
+      whole = w.text ∙ ap (λ x. w.before ++ (x ++ (w.gap ++ (w.word ++ w.after)))) (bare_sign s.operator every.0)
           ∙ sym (append_assoc w.before w.gap (w.word ++ w.after));
     }
 

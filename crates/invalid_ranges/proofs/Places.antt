@@ -9,7 +9,8 @@ use Rattle.std.proofs.lemmas.Str.{IsUtf8-take}
 use Rattle.semver_texts.specs.Texts.{Text}
 use Rattle.semver_texts.specs.declared.grammar.Grammar.{Grammar}
 use Rattle.semver_texts.specs.declared.grammar.Grammar.TheVariants as grammar
-use Rattle.semver_ranges.specs.RangeTree.{SpellsRangeIn, bare, empty, one, simples}
+use Rattle.semver_ranges.specs.declared.operator.Operator.TheVariants.{Bare}
+use Rattle.semver_ranges.specs.RangeTree.{SpellsRangeIn, empty, one, simples}
 use Rattle.invalid_strings.specs.Prefixes.{AreCompletions, Begins, IsLongestPrefix}
 use Rattle.invalid_strings.proofs.LongestPrefixes.{ascii_utf8}
 use Rattle.tool_ranges.specs.declared.dialect.Dialect.{Dialect}
@@ -38,7 +39,7 @@ short = search rules
 empty_range : (d : Grammar) → SpellsRangeIn d (empty ∷ []) []
 empty_range d = search rules
 
-one_comparator : SpellsRequirement (simples (record { form = bare; partial = one (codes "1") }) [] ∷ []) (codes "1")
+one_comparator : SpellsRequirement (simples (record { operator = Bare; partial = one (codes "1") }) [] ∷ []) (codes "1")
 one_comparator = record {
   comparators = record {
     before = [];

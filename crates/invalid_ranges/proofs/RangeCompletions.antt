@@ -8,11 +8,12 @@ use Rattle.std.proofs.lemmas.Bool.{and_parts, eqb-true}
 use Rattle.std.proofs.lemmas.Bool.Decides.{nat_tests}
 use Rattle.semver_texts.specs.Texts.{Text}
 use Rattle.semver_texts.specs.declared.grammar.Grammar.{Grammar}
-use Rattle.semver_ranges.specs.RangeTree.{Form, bare, equal, less, at_most, greater, at_least, tilde, caret, Simple, RangeTree, empty}
-use Rattle.semver_ranges.specs.RangeTree.{hyphen, simples}
-use Rattle.semver_ranges.specs.RangeTree.{PartialTree, SetTree, Role, after_form, after_hyphen, AreBlanks, AreSomeBlanks, SpellsForm}
-use Rattle.semver_ranges.specs.RangeTree.{SpellsRangeIn}
-use Rattle.semver_ranges.specs.RangeTree.{SpellsPadded, SpellsRange, SpellsSimple, SpellsSimples, SpellsWord}
+use Rattle.semver_ranges.specs.declared.operator.Operator.{Operator}
+use Rattle.semver_ranges.specs.declared.operator.Operator.TheVariants.{Bare, Equal, Less, LessOrEqual, Greater, GreaterOrEqual, Tilde}
+use Rattle.semver_ranges.specs.declared.operator.Operator.TheVariants.{Caret, Hyphen}
+use Rattle.semver_ranges.specs.RangeTree.{Simple, RangeTree, empty, hyphen, simples, PartialTree, SetTree, Role, after_operator, after_hyphen}
+use Rattle.semver_ranges.specs.RangeTree.{AreBlanks, AreSomeBlanks, SpellsOperator, SpellsRangeIn, SpellsPadded, SpellsRange, SpellsSimple}
+use Rattle.semver_ranges.specs.RangeTree.{SpellsSimples, SpellsWord}
 use Rattle.invalid_strings.proofs.Completions.{CompletesBy, Separated, Seq, among, both, byte_by, choice, dependent, in_bytes}
 use Rattle.invalid_strings.proofs.Completions.{many, optional, same, seq}
 use Rattle.invalid_strings.proofs.Leaves.{either}
@@ -49,31 +50,31 @@ sign = closed IsSign (codes "=") refl refl some sign_prefix
 
 module _ (d : Grammar) where
   abbrev IsFormText : Text → Type 0
-  IsFormText t = (form : Form) × SpellsForm d form t
+  IsFormText t = (operator : Operator) × SpellsOperator d operator t
 
   abbrev Signed : Text → Type 0
-  Signed s = (form : Form) × ((x : Text) → AreBlanks d x → SpellsForm d form (s ++ x))
+  Signed s = (operator : Operator) × ((x : Text) → AreBlanks d x → SpellsOperator d operator (s ++ x))
 
   signed : (s : Text) → IsSign s → Signed s
   signed [] is = cc
   signed (a ∷ []) is = elim (either _ _ is) [
-    | inl e ↦ (equal, λ x w. (x, w, ap (λ c. c ∷ x) (eqb-true a 61 e)))
+    | inl e ↦ (Equal, λ x w. (x, w, ap (λ c. c ∷ x) (eqb-true a 61 e)))
     | inr is ↦ elim (either _ _ is) [
-      | inl e ↦ (less, λ x w. (x, w, ap (λ c. c ∷ x) (eqb-true a 60 e)))
+      | inl e ↦ (Less, λ x w. (x, w, ap (λ c. c ∷ x) (eqb-true a 60 e)))
       | inr is ↦ elim (either _ _ is) [
-        | inl e ↦ (greater, λ x w. (x, w, ap (λ c. c ∷ x) (eqb-true a 62 e)))
+        | inl e ↦ (Greater, λ x w. (x, w, ap (λ c. c ∷ x) (eqb-true a 62 e)))
         | inr is ↦ elim (either _ _ is) [
-          | inl e ↦ (tilde, λ x w. inl (x, w, ap (λ c. c ∷ x) (eqb-true a 126 e)))
-          | inr e ↦ (caret, λ x w. (x, w, ap (λ c. c ∷ x) (eqb-true a 94 e)))
+          | inl e ↦ (Tilde, λ x w. inl (x, w, ap (λ c. c ∷ x) (eqb-true a 126 e)))
+          | inr e ↦ (Caret, λ x w. (x, w, ap (λ c. c ∷ x) (eqb-true a 94 e)))
         ]
       ]
     ]
   ]
   signed (a ∷ b ∷ []) is = elim (either _ _ is) [
-    | inl e ↦ (at_most, λ x w. (x, w, two a b 60 61 x e))
+    | inl e ↦ (LessOrEqual, λ x w. (x, w, two a b 60 61 x e))
     | inr is ↦ elim (either _ _ is) [
-      | inl e ↦ (at_least, λ x w. (x, w, two a b 62 61 x e))
-      | inr e ↦ (tilde, λ x w. inr (x, w, two a b 126 62 x e))
+      | inl e ↦ (GreaterOrEqual, λ x w. (x, w, two a b 62 61 x e))
+      | inr e ↦ (Tilde, λ x w. inr (x, w, two a b 126 62 x e))
     ]
   ]
     where
@@ -81,37 +82,38 @@ module _ (d : Grammar) where
       two a b c d x e = let w = and_parts (a == c) (b == d) e in λ i. eqb-true a c w.0 i ∷ eqb-true b d w.1 i ∷ x
   signed (a ∷ b ∷ c ∷ t) is = cc
 
-  form : CompletesBy in_bytes IsFormText [] ([] ∷ [] ∷ [])
-  form = same (optional (seq sign (blanks d))) IsFormText to from
+  operator : CompletesBy in_bytes IsFormText [] ([] ∷ [] ∷ [])
+  operator = same (optional (seq sign (blanks d))) IsFormText to from
     where
       to : (t : Text) → (t ≡ []) ⊎ Seq IsSign (AreBlanks d) t → IsFormText t
-      to t (inl e) = (bare, e)
-      to t (inr w) = let f = signed w.first w.in_first in (f.0, subst (SpellsForm d f.0) (sym w.whole) (f.1 w.second w.in_second))
+      to t (inl e) = (Bare, e)
+      to t (inr w) = let f = signed w.first w.in_first in (f.0, subst (SpellsOperator d f.0) (sym w.whole) (f.1 w.second w.in_second))
 
       after : (sign t : Text) → IsSign sign → (x : Text) × AreBlanks d x × (t ≡ sign ++ x) → (t ≡ []) ⊎ Seq IsSign (AreBlanks d) t
       after sign t is (x, w, e) = inr (record { first = sign; second = x; in_first = is; in_second = w; whole = e })
 
       from : (t : Text) → IsFormText t → (t ≡ []) ⊎ Seq IsSign (AreBlanks d) t
-      from t (bare, e) = inl e
-      from t (equal, w) = after (codes "=") t refl w
-      from t (less, w) = after (codes "<") t refl w
-      from t (at_most, w) = after (codes "<=") t refl w
-      from t (greater, w) = after (codes ">") t refl w
-      from t (at_least, w) = after (codes ">=") t refl w
-      from t (tilde, inl w) = after (codes "~") t refl w
-      from t (tilde, inr w) = after (codes "~>") t refl w
-      from t (caret, w) = after (codes "^") t refl w
+      from t (Bare, e) = inl e
+      from t (Hyphen, w) = absurd w
+      from t (Equal, w) = after (codes "=") t refl w
+      from t (Less, w) = after (codes "<") t refl w
+      from t (LessOrEqual, w) = after (codes "<=") t refl w
+      from t (Greater, w) = after (codes ">") t refl w
+      from t (GreaterOrEqual, w) = after (codes ">=") t refl w
+      from t (Tilde, inl w) = after (codes "~") t refl w
+      from t (Tilde, inr w) = after (codes "~>") t refl w
+      from t (Caret, w) = after (codes "^") t refl w
 
   -- ---- terms
 
   abbrev IsSimpleText : Text → Type 0
   IsSimpleText t = (s : Simple) × SpellsSimple d s t
 
-  abbrev InForm : Form → Text → Type 0
-  InForm f t = SpellsForm d f t
+  abbrev InForm : Operator → Text → Type 0
+  InForm f t = SpellsOperator d f t
 
-  abbrev AfterForm : Form → Text → Type 0
-  AfterForm f t = IsWord d (after_form f) t
+  abbrev AfterOperator : Operator → Text → Type 0
+  AfterOperator f t = IsWord d (after_operator f) t
 
   abbrev IsSimplesText : Text → Type 0
   IsSimplesText t = (first : Simple) × (others : List Simple) × SpellsSimples d first others t
@@ -165,19 +167,19 @@ module _ (d : Grammar) where
   abbrev IsPaddedText : Text → Type 0
   IsPaddedText t = (r : RangeTree) × SpellsPadded d r t
 
-  abbrev Hyphen : Text → Type 0
-  Hyphen = Seq (λ t. t ≡ codes "-") (Seq (AreSomeBlanks d) (IsWord d after_hyphen))
+  abbrev Dashed : Text → Type 0
+  Dashed = Seq (λ t. t ≡ codes "-") (Seq (AreSomeBlanks d) (IsWord d after_hyphen))
 
   abbrev Spaced : Text → Type 0
-  Spaced = Seq (AreSomeBlanks d) (λ t. (t ≡ []) ⊎ Hyphen t)
+  Spaced = Seq (AreSomeBlanks d) (λ t. (t ≡ []) ⊎ Dashed t)
 
   abbrev Begun : Text → Type 0
-  Begun = Seq (IsWord d (after_form bare)) (λ t. (t ≡ []) ⊎ Spaced t)
+  Begun = Seq (IsWord d (after_operator Bare)) (λ t. (t ≡ []) ⊎ Spaced t)
 
   abbrev Range : Text → Type 0
   Range t = (t ≡ []) ⊎ (Simples t ⊎ Begun t)
 
-  alone : (p : PartialTree) (t : Text) → SpellsWord d (after_form bare) p t → SpellsSimple d (record { form = bare; partial = p }) t
+  alone : (p : PartialTree) (t : Text) → SpellsWord d (after_operator Bare) p t → SpellsSimple d (record { operator = Bare; partial = p }) t
   alone p t w = ([], t, refl, w, refl)
 
   padded_from : (t : Text) → Seq (AreBlanks d) (Seq Range (AreBlanks d)) t → IsPaddedText t
@@ -192,11 +194,11 @@ module _ (d : Grammar) where
       begun : Begun w.in_second.first → IsPaddedText t
       begun h = elim h.in_second [
         | inl e ↦ (let same : w.in_second.first ≡ h.first = h.whole ∙ ap (λ x. h.first ++ x) e ∙ append-nil h.first in
-            padded (simples (record { form = bare; partial = h.in_first.0 }) [])
-            (alone h.in_first.0 w.in_second.first (subst (SpellsWord d (after_form bare) h.in_first.0) (sym same) h.in_first.1)))
+            padded (simples (record { operator = Bare; partial = h.in_first.0 }) [])
+            (alone h.in_first.0 w.in_second.first (subst (SpellsWord d (after_operator Bare) h.in_first.0) (sym same) h.in_first.1)))
         | inr g ↦ elim g.in_second [
           | inl e ↦ (
-            simples (record { form = bare; partial = h.in_first.0 }) [],
+            simples (record { operator = Bare; partial = h.in_first.0 }) [],
             (
               w.first,
               h.first,
@@ -299,10 +301,10 @@ module _ (d : Grammar) where
 
   module _ (words : (role : Role) → CompletesBy in_bytes (IsWord d role) (codes "*") word_completions) where
     simple : CompletesBy in_bytes IsSimpleText (codes "*") word_completions
-    simple = among (same (dependent InForm AfterForm form (λ f. words (after_form f))) IsSimpleText
-        (λ t w. (record { form = w.0; partial = w.1.in_second.0 }, (w.1.first, w.1.second, w.1.in_first, w.1.in_second.1, w.1.whole)))
+    simple = among (same (dependent InForm AfterOperator operator (λ f. words (after_operator f))) IsSimpleText
+        (λ t w. (record { operator = w.0; partial = w.1.in_second.0 }, (w.1.first, w.1.second, w.1.in_first, w.1.in_second.1, w.1.whole)))
         (λ t w. let (front, back, f, p, e) = w.1 in
-        (w.0.form, record { first = front; second = back; in_first = f; in_second = (w.0.partial, p); whole = e }))) word_completions refl
+        (w.0.operator, record { first = front; second = back; in_first = f; in_second = (w.0.partial, p); whole = e }))) word_completions refl
 
     pub range_texts : CompletesBy in_bytes IsSetText [] set_completions
     range_texts =
@@ -311,7 +313,7 @@ module _ (d : Grammar) where
         let bars = same (seq bar bar) IsBars (λ t w. w.whole ∙ (λ i. w.in_first i ++ w.in_second i))
         (λ t e. record { first = codes "|"; second = codes "|"; in_first = refl; in_second = refl; whole = e }) in
         let hyphens = seq (byte_by in_bytes 45 (omega arith)) (seq spaces (words after_hyphen)) in
-        let begun = seq (words (after_form bare)) (optional (seq spaces (optional hyphens))) in
+        let begun = seq (words (after_operator Bare)) (optional (seq spaces (optional hyphens))) in
         let all_simples = seq simple (many (seq spaces simple)) in
         let inner = optional (choice all_simples begun (omega arith)) in
         let padded = same (seq (blanks d) (seq inner (blanks d))) IsPaddedText padded_from padded_to in

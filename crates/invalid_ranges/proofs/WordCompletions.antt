@@ -17,9 +17,10 @@ use Rattle.semver_texts.specs.declared.grammar.Grammar.{Grammar}
 use Rattle.semver_texts.specs.declared.grammar.Grammar.TheVariants.{Crate, Npm}
 use Rattle.semver_texts.proofs.Lists.{by_test}
 use Rattle.semver_ranges.specs.NpmLengths.{is_short_number, is_short_pre, is_short_build, is_short_version, leading_digits}
-use Rattle.semver_ranges.specs.RangeTree.{bare, tilde, caret, PartialTree, one, two, three, Role, after_form, after_hyphen, SpellsPartial}
-use Rattle.semver_ranges.specs.RangeTree.{SpellsWord, has_short_parts, has_short_version, is_component, is_taken_whole, is_wildcard}
-use Rattle.semver_ranges.specs.RangeTree.{is_word_of_npm, numbers_and_pre}
+use Rattle.semver_ranges.specs.declared.operator.Operator.TheVariants.{Bare, Tilde, Caret}
+use Rattle.semver_ranges.specs.RangeTree.{PartialTree, one, two, three, Role, after_operator, after_hyphen, SpellsPartial, SpellsWord}
+use Rattle.semver_ranges.specs.RangeTree.{has_short_parts, has_short_version, is_component, is_taken_whole, is_wildcard, is_word_of_npm}
+use Rattle.semver_ranges.specs.RangeTree.{numbers_and_pre}
 use Rattle.invalid_strings.proofs.Completions.{CompletesBy, Seq, among, any, both, byte_by, in_bytes, limited, optional, same, seq}
 use Rattle.invalid_strings.proofs.Cores.{Marked, marked_from, marked_to}
 use Rattle.invalid_strings.proofs.Leaves.{IsBuild, IsPartWith}
@@ -227,15 +228,15 @@ marks_to (x ∷ xs) build q all others short = inr (record {
 
 -- whether node-semver copies a word as a whole; `k` says whether the word has a pre-release
 abbrev is_whole : Role → Bool → Bool
-is_whole (after_form tilde) k = false
-is_whole (after_form caret) k = false
-is_whole (after_form _) k = true
+is_whole (after_operator Tilde) k = false
+is_whole (after_operator Caret) k = false
+is_whole (after_operator _) k = true
 is_whole after_hyphen k = not k
 
 taken : (role : Role) (a b c : Text) (pre build : List Text)
     → is_taken_whole role (three a b c pre build) ≡ is_whole role (not (is_empty pre))
-taken (after_form bare) a b c pre _ = refl
-taken (after_form _) a b c pre _ = refl
+taken (after_operator Bare) a b c pre _ = refl
+taken (after_operator _) a b c pre _ = refl
 taken after_hyphen a b c [] _ = refl
 taken after_hyphen a b c (x ∷ xs) _ = refl
 
@@ -251,16 +252,16 @@ IsShort role k n size = (is_whole role k ≡ true → n ≤ max_length) × (is_w
 -- and if it lacks the first word's pre-release, it has no build metadata
 stays : (role : Role) (k k' : Bool) (n n' core core' q q' : ℕ) → n' ≤ n → core' ≤ core → q' ≤ extra k' q → 2 ≤ q → (k' ≡ true → k ≡ true)
     → (k ≡ true → k' ≡ false → n' ≤ core' + 1) → IsShort role k n (core + extra k q) → IsShort role k' n' (core' + q')
-stays (after_form bare) k k' n n' core core' q q' a b c d e f g = (λ y. omega (arith, a, g.0 refl), λ y. absurd (cc))
-stays (after_form tilde) true true n n' core core' q q' a b c d e f g = (λ y. absurd (cc), λ y. omega (arith, b, c, g.1 refl))
-stays (after_form tilde) true false n n' core core' q q' a b c d e f g = (λ y. absurd (cc), λ y. omega (arith, b, c, g.1 refl))
-stays (after_form tilde) false true n n' core core' q q' a b c d e f g = absurd (let h = e refl in cc)
-stays (after_form tilde) false false n n' core core' q q' a b c d e f g = (λ y. absurd (cc), λ y. omega (arith, b, c, g.1 refl))
-stays (after_form caret) true true n n' core core' q q' a b c d e f g = (λ y. absurd (cc), λ y. omega (arith, b, c, g.1 refl))
-stays (after_form caret) true false n n' core core' q q' a b c d e f g = (λ y. absurd (cc), λ y. omega (arith, b, c, g.1 refl))
-stays (after_form caret) false true n n' core core' q q' a b c d e f g = absurd (let h = e refl in cc)
-stays (after_form caret) false false n n' core core' q q' a b c d e f g = (λ y. absurd (cc), λ y. omega (arith, b, c, g.1 refl))
-stays (after_form _) k k' n n' core core' q q' a b c d e f g = (λ y. omega (arith, a, g.0 refl), λ y. absurd (cc))
+stays (after_operator Bare) k k' n n' core core' q q' a b c d e f g = (λ y. omega (arith, a, g.0 refl), λ y. absurd (cc))
+stays (after_operator Tilde) true true n n' core core' q q' a b c d e f g = (λ y. absurd (cc), λ y. omega (arith, b, c, g.1 refl))
+stays (after_operator Tilde) true false n n' core core' q q' a b c d e f g = (λ y. absurd (cc), λ y. omega (arith, b, c, g.1 refl))
+stays (after_operator Tilde) false true n n' core core' q q' a b c d e f g = absurd (let h = e refl in cc)
+stays (after_operator Tilde) false false n n' core core' q q' a b c d e f g = (λ y. absurd (cc), λ y. omega (arith, b, c, g.1 refl))
+stays (after_operator Caret) true true n n' core core' q q' a b c d e f g = (λ y. absurd (cc), λ y. omega (arith, b, c, g.1 refl))
+stays (after_operator Caret) true false n n' core core' q q' a b c d e f g = (λ y. absurd (cc), λ y. omega (arith, b, c, g.1 refl))
+stays (after_operator Caret) false true n n' core core' q q' a b c d e f g = absurd (let h = e refl in cc)
+stays (after_operator Caret) false false n n' core core' q q' a b c d e f g = (λ y. absurd (cc), λ y. omega (arith, b, c, g.1 refl))
+stays (after_operator _) k k' n n' core core' q q' a b c d e f g = (λ y. omega (arith, a, g.0 refl), λ y. absurd (cc))
 stays after_hyphen true true n n' core core' q q' a b c d e f g = (λ y. absurd (cc), λ y. omega (arith, b, c, g.1 refl))
 stays after_hyphen true false n n' core core' q q' a b c d e f g = (λ y. omega (arith, b, d, f refl refl, g.1 refl), λ y. absurd (cc))
 stays after_hyphen false true n n' core core' q q' a b c d e f g = absurd (let h = e refl in cc)

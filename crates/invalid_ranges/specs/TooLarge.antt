@@ -10,7 +10,9 @@ use Rattle.std.specs.Option.{option_or}
 use Rattle.std.specs.Str.{all_ascii_digits}
 use Rattle.std.specs.Str.Parse.{digits_value}
 use Rattle.semver_texts.specs.Texts.{Text}
-use Rattle.semver_ranges.specs.RangeTree.{Form, at_least, at_most, components, SetTree}
+use Rattle.semver_ranges.specs.declared.operator.Operator.{Operator}
+use Rattle.semver_ranges.specs.declared.operator.Operator.TheVariants.{LessOrEqual}
+use Rattle.semver_ranges.specs.RangeTree.{components, SetTree}
 use Rattle.semver_ranges.specs.TextItems.{FoundWord, Item, one_term}
 use Rattle.tool_ranges.specs.declared.dialect.Dialect.{Dialect}
 use Rattle.tool_ranges.specs.DialectTable.{limit}
@@ -36,18 +38,18 @@ abbrev pub number_begin : ℕ → FoundWord → ℕ → ℕ
 number_begin n v k = n - length (without_v v.from) + component_begin k (components v.partial)
 
 -- the offset of the number that is too large in a version after an operator, if they don't fit
-abbrev pub offset_in : Dialect → ℕ → Form → FoundWord → Option ℕ
-offset_in d n form v = option_map (number_begin n v)
-    (too_large d (read_in d (record { form = form; partial = v.partial })))
+abbrev pub offset_in : Dialect → ℕ → Operator → FoundWord → Option ℕ
+offset_in d n operator v = option_map (number_begin n v)
+    (too_large d (read_in d (record { operator = operator; partial = v.partial })))
 
--- such an offset in a term. The sides of a hyphen range are read as terms with `>=` and `<=`
-abbrev pub offset_in_term : Dialect → ℕ → Form → FoundWord → Option FoundWord → Option ℕ
-offset_in_term d n form version None = offset_in d n form version
-offset_in_term d n form version (Some upper) =
-    option_or (offset_in d n at_least version) (offset_in d n at_most upper)
+-- such an offset in a term. The right side of a hyphen range is read as a term with `<=`
+abbrev pub offset_in_term : Dialect → ℕ → Operator → FoundWord → Option FoundWord → Option ℕ
+offset_in_term d n operator version None = offset_in d n operator version
+offset_in_term d n operator version (Some upper) =
+    option_or (offset_in d n operator version) (offset_in d n LessOrEqual upper)
 
 abbrev pub offset_in_item : Dialect → ℕ → Item → Option ℕ
-offset_in_item d n (one_term x) = offset_in_term d n x.form x.version x.upper
+offset_in_item d n (one_term x) = offset_in_term d n x.operator x.version x.upper
 offset_in_item d n _ = None
 
 -- the first of these offsets, or 0 if all terms fit

@@ -5,7 +5,6 @@ ghost use Rattle.std.specs.List.{slice_split};
 ghost use Rattle.semver_texts.specs.Texts.{is_dot};
 ghost use Rattle.semver_texts.specs.declared.grammar.Grammar.{Grammar as SomeGrammar};
 ghost use Rattle.semver_ranges.specs.RangeTree.{SetTree};
-ghost use Rattle.semver_ranges.specs.Steps.CursorViews.{form_of};
 ghost use Rattle.semver_ranges.specs.TextItems.{FoundWord, Item};
 ghost use Rattle.semver_ranges.specs.Steps.Items.{IsItemOf, IsWordOf};
 ghost use Rattle.tool_ranges.specs.Dialects.{SpellsAs};
@@ -14,7 +13,7 @@ ghost use Rattle.invalid_ranges.specs.TooLarge.{offset_in, offset_in_item, witho
 
 use invalid_strings::reasons::Reason;
 use semver_ranges::cursor::{Cursor, Event};
-use semver_ranges::grammar::Form;
+use semver_ranges::operator::Operator;
 use semver_ranges::term::RawVersion;
 use semver_texts::bytes::run_len;
 use semver_texts::decimals::number_of_digits;
@@ -54,26 +53,30 @@ fn offset_in_event(event: &Event<'_>, len: usize, dialect: Dialect) -> Option<us
     let Event::Term(term) = event else {
         return None;
     };
-    let Some(upper) = &term.upper else {
-        return offset_in(&term.version, term.form, len, dialect);
-    };
-    // The left side of a hyphen range is read as a term with `>=`.
-    if let Some(offset) = offset_in(&term.version, Form::AtLeast, len, dialect) {
+    if let Some(offset) = offset_in(&term.version, term.operator, len, dialect) {
         return Some(offset);
     }
-    offset_in(upper, Form::AtMost, len, dialect)
+    match &term.upper {
+        Some(upper) => offset_in(upper, Operator::LessOrEqual, len, dialect),
+        None => None,
+    }
 }
 
 /// Returns the offset of the number that is too large in a version after an operator, if they don't
 /// fit.
-fn offset_in(version: &RawVersion<'_>, form: Form, len: usize, dialect: Dialect) -> Option<usize>
+fn offset_in(
+    version: &RawVersion<'_>,
+    operator: Operator,
+    len: usize,
+    dialect: Dialect,
+) -> Option<usize>
     requires { (d : SomeGrammar) × (x : FoundWord) × IsWordOf d x version.now
         × (length x.from ≤ len) }
     ensures value { (d : SomeGrammar) (x : FoundWord) → IsWordOf d x version.now
-        → result ≡ offset_in dialect len (form_of form) x }
+        → result ≡ offset_in dialect len operator x }
     ensures within { IfSome result (λ offset. offset ≤ len) }
 {
-    let index = too_large(form, &version.components, dialect)?;
+    let index = too_large(operator, &version.components, dialect)?;
     let numbers = without_v(version.from);
     let word = &numbers[..numbers.len() - version.after.len()];
     Some(len - numbers.len() + component_begin(word, index))

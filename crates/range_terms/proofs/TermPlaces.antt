@@ -7,28 +7,29 @@ use Rattle.std.specs.List.{AllByRecursion, list_all, list_any}
 use Rattle.semver_texts.specs.Texts.{Text, begins_with}
 use Rattle.semver_texts.specs.declared.grammar.Grammar.{Grammar}
 use Rattle.semver_ranges.specs.Partials.{states_nothing}
-use Rattle.semver_ranges.specs.RangeTree.{Form, PartialTree, RangeTree, Role, SetTree, Simple, after_form, after_hyphen, bare}
-use Rattle.semver_ranges.specs.RangeTree.{equal, less, at_most, greater, at_least, tilde, caret, empty, hyphen, simples}
-use Rattle.semver_ranges.specs.RangeTree.{SpellsPartial, SpellsWord, SpellsSimple, SpellsSimples, SpellsRange, SpellsPadded, SpellsRangeIn}
+use Rattle.semver_ranges.specs.declared.operator.Operator.{Operator}
+use Rattle.semver_ranges.specs.declared.operator.Operator.TheVariants.{Bare, Hyphen}
+use Rattle.semver_ranges.specs.RangeTree.{PartialTree, RangeTree, Role, SetTree, Simple, after_operator, after_hyphen, empty, hyphen, simples, is_of_term}
+use Rattle.semver_ranges.specs.RangeTree.{SpellsOperator, SpellsPartial, SpellsWord, SpellsSimple, SpellsSimples, SpellsRange, SpellsPadded, SpellsRangeIn}
 use Rattle.semver_ranges.specs.TextItems.{FoundWord, Item, empty_range, one_term, two_bars}
 use Rattle.semver_ranges.proofs.ReadingPieces.{component_word, is_word_byte, partial_starts, starts, word_starts}
-use Rattle.semver_ranges.specs.CargoGrammar.{SpellsComparator, SpellsComparators, is_every, is_partial_of_cargo, sign}
+use Rattle.semver_ranges.specs.CargoGrammar.{SpellsComparator, SpellsComparators, is_every, is_partial_of_cargo}
+use Rattle.semver_ranges.specs.OperatorTable.{sign}
 use Rattle.tool_ranges.specs.SpelledItems.{comparator_term, comparators_items, padded_items, range_items, ranges_items}
 use Rattle.tool_ranges.specs.SpelledItems.{simple_item, simples_items}
 use Rattle.range_terms.specs.Replacing.{role_in}
-use Rattle.range_terms.specs.WrittenTerms.{WrittenTerm, WrittenVersion, operator_of, terms_of, version_at, written_term}
+use Rattle.range_terms.specs.WrittenTerms.{WrittenTerm, WrittenVersion, terms_of, version_at, written_term}
 use Rattle.range_terms.proofs.LowBytes.{is_low, partial_low, word_low}
 use Rattle.range_terms.proofs.Places.{AllPlaces, ArePlaces, AreWordsOf, IsPlace, IsWordOf}
 
-same_role : (f : Form) → role_in (operator_of f) ≡ after_form f
-same_role bare = refl
-same_role equal = refl
-same_role less = refl
-same_role at_most = refl
-same_role greater = refl
-same_role at_least = refl
-same_role tilde = refl
-same_role caret = refl
+same_role : (o : Operator) → is_of_term o ≡ true → role_in o ≡ after_operator o
+same_role Hyphen e = cc
+same_role _ e = refl
+
+-- only the operator of a term is written
+is_written : (g : Grammar) (o : Operator) (sign : Text) → SpellsOperator g o sign → is_of_term o ≡ true
+is_written g Hyphen sign h = absurd h
+is_written g _ sign h = refl
 
 begins_same : (w u : Text) → starts is_word_byte w ≡ true → begins_with 118 (w ++ u) ≡ begins_with 118 w
 begins_same [] u e = cc
@@ -143,17 +144,17 @@ module _ (whole : Text) (Good : Text → Type 0) where
       word spelled = record { tree = p; word = w; is = rw (begins_same w after some) refl; spelled = spelled }
 
     -- a term of one word
-    one : (s : Simple) (from w after : Text) → starts is_word_byte w ≡ true → list_all is_low w ≡ true → Spelled (after_form s.form) s.partial w
-        → Piece (Words (after_form s.form)) w after
-        → AllTold (one_term (record { from = from; form = s.form; version = word_before s.partial w after; upper = None }) ∷ [])
-    one s from w after some low spelled b = (
+    one : (s : Simple) (from w after : Text) → is_of_term s.operator ≡ true → starts is_word_byte w ≡ true → list_all is_low w ≡ true → Spelled (after_operator s.operator) s.partial w
+        → Piece (Words (after_operator s.operator)) w after
+        → AllTold (one_term (record { from = from; operator = s.operator; version = word_before s.partial w after; upper = None }) ∷ [])
+    one s from w after term some low spelled b = (
       λ k. record {
         places = record {
-          version = rw (same_role s.form) (place (after_form s.form) s.partial w after some low b);
+          version = rw (same_role s.operator term) (place (after_operator s.operator) s.partial w after some low b);
           upper = λ v is. cc;
         };
         words = record {
-          version = rw (same_role s.form) (word (after_form s.form) s.partial w after some spelled);
+          version = rw (same_role s.operator term) (word (after_operator s.operator) s.partial w after some spelled);
           upper = λ v is. cc;
         };
       },
@@ -171,11 +172,11 @@ module _ (whole : Text) (Good : Text → Type 0) where
 
     simple : (s : Simple) (t after : Text) (spelled : SpellsSimple g s t) → Piece (λ t. (s : Simple) × SpellsSimple g s t) t after
         → Are (simple_item g s t after spelled ∷ [])
-    simple s t after (front, w, form, spelled, text) b =
-        let role = after_form s.form in
-        one Word Word s (t ++ after) w after (word_starts g role s.partial w spelled) (word_low g role s.partial w spelled) spelled
+    simple s t after (front, w, operator, spelled, text) b =
+        let role = after_operator s.operator in
+        one Word Word s (t ++ after) w after (is_written g s.operator front operator) (word_starts g role s.partial w spelled) (word_low g role s.partial w spelled) spelled
         (inside b front w [] (text ∙ ap (λ u. front ++ u) (sym (append-nil w))) after refl
-        (λ v is. (record { form = s.form; partial = is.0 }, (front, v, form, is.1, ap (λ u. front ++ u) (append-nil v)))))
+        (λ v is. (record { operator = s.operator; partial = is.0 }, (front, v, operator, is.1, ap (λ u. front ++ u) (append-nil v)))))
 
     some : (first : Simple) (others : List Simple) (t after : Text) (spelled : SpellsSimples g first others t)
         → Piece (λ t. (first : Simple) × (others : List Simple) × SpellsSimples g first others t) t after
@@ -201,24 +202,24 @@ module _ (whole : Text) (Good : Text → Type 0) where
         let middle = gap ++ (45 ∷ gap') in
         let follows = gap ++ (45 ∷ (gap' ++ (r ++ after))) in
         let text : t ≡ l ++ (middle ++ r) = text ∙ simp append_assoc in
-        let made : (p p' : PartialTree) (w w' : Text) → SpellsWord g (after_form bare) p w → SpellsWord g after_hyphen p' w'
+        let made : (p p' : PartialTree) (w w' : Text) → SpellsWord g (after_operator Bare) p w → SpellsWord g after_hyphen p' w'
         → (x : RangeTree) × SpellsRange g x (w ++ (middle ++ w')) =
         λ p p' w w' h h'. (hyphen p p', (w, gap, gap', w', h, blanks, blanks', h', simp append_assoc)) in
-        let first : Piece (Words Word Word (after_form bare)) l follows =
+        let first : Piece (Words Word Word (after_operator Bare)) l follows =
         inside b [] l (middle ++ r) text follows (simp append_assoc) (λ v is. made is.0 right v r is.1 spelled') in
         let second : Piece (Words Word Word after_hyphen) r after =
         inside b (l ++ middle) r [] (text ∙ join l middle r) after refl
         (λ v is. subst (λ u. (x : RangeTree) × SpellsRange g x u) (join l middle v) (made left is.0 l v spelled is.1)) in
-        let starts = word_starts g (after_form bare) left l spelled in
+        let starts = word_starts g (after_operator Bare) left l spelled in
         let starts' = word_starts g after_hyphen right r spelled' in (
           λ k. record {
             places = record {
-              version = place Word Word (after_form bare) left l follows starts (word_low g (after_form bare) left l spelled) first;
+              version = place Word Word (after_operator Bare) left l follows starts (word_low g (after_operator Bare) left l spelled) first;
               upper = λ v is. of_upper (λ v. IsPlace Good (Word after_hyphen) whole v.span) _ v is
                   (place Word Word after_hyphen right r after starts' (word_low g after_hyphen right r spelled') second);
             };
             words = record {
-              version = word Word Word (after_form bare) left l follows starts spelled;
+              version = word Word Word (after_operator Bare) left l follows starts spelled;
               upper = λ v is. of_upper (IsWordOf (Word after_hyphen)) _ v is (word Word Word after_hyphen right r after starts' spelled');
             };
           },
@@ -255,20 +256,21 @@ module _ (whole : Text) (Good : Text → Type 0) where
   comparator : (s : Simple) (t after : Text) (spelled : SpellsComparator s t) → Piece IsComparator t after
       → AllTold MayStand IsWordOfCargo (one_term (comparator_term s t after spelled) ∷ [])
   comparator s t after spelled b =
-      one MayStand IsWordOfCargo s _ spelled.word (spelled.after ++ after)
+      let read = and_parts (is_of_term s.operator) _ spelled.is_read in
+      one MayStand IsWordOfCargo s _ spelled.word (spelled.after ++ after) read.0
       (component_word spelled.word (partial_starts s.partial spelled.word spelled.partial)) (partial_low s.partial spelled.word spelled.partial)
-      (spelled.partial, (and_parts (is_partial_of_cargo s.partial) _ spelled.is_read).0)
-      (inside b (spelled.before ++ (sign s.form ++ spelled.gap)) spelled.word spelled.after (spelled.text ∙ simp append_assoc)
+      (spelled.partial, (and_parts (is_partial_of_cargo s.partial) _ read.1).0)
+      (inside b (spelled.before ++ (sign s.operator ++ spelled.gap)) spelled.word spelled.after (spelled.text ∙ simp append_assoc)
       (spelled.after ++ after) refl (λ w may. made w may.0 may.1))
     where
       assoc : (a b c w d : Text) → (a ++ (b ++ c)) ++ (w ++ d) ≡ a ++ (b ++ (c ++ (w ++ d)))
       assoc a b c w d = simp append_assoc
 
-      made : (w : Text) (p : PartialTree) → MayStand (after_form s.form) p w
-          → IsComparator ((spelled.before ++ (sign s.form ++ spelled.gap)) ++ (w ++ spelled.after))
+      made : (w : Text) (p : PartialTree) → MayStand (after_operator s.operator) p w
+          → IsComparator ((spelled.before ++ (sign s.operator ++ spelled.gap)) ++ (w ++ spelled.after))
       made w p may =
           let parts = and_parts (is_partial_of_cargo p) (not (states_nothing p)) may.1 in
-          let other : Simple = record { form = s.form; partial = p } in (
+          let other : Simple = record { operator = s.operator; partial = p } in (
             other,
             record {
               before = spelled.before;
@@ -279,8 +281,9 @@ module _ (whole : Text) (Good : Text → Type 0) where
               gap_is = spelled.gap_is;
               after_is = spelled.after_is;
               partial = may.0;
-              is_read = and_from (is_partial_of_cargo p) (is_every other || not (states_nothing p)) parts.0 (or_right _ _ parts.1);
-              text = assoc spelled.before (sign s.form) spelled.gap w spelled.after;
+              is_read = and_from (is_of_term s.operator) _ (and_parts (is_of_term s.operator) _ spelled.is_read).0
+                  (and_from (is_partial_of_cargo p) (is_every other || not (states_nothing p)) parts.0 (or_right _ _ parts.1));
+              text = assoc spelled.before (sign s.operator) spelled.gap w spelled.after;
             },
             not-true _ parts.1,
           )

@@ -1,4 +1,3 @@
-pub mod OperatorTable
 pub mod WrittenTerms
 pub mod WrittenTexts
 pub mod Rewriting

@@ -3,15 +3,14 @@ use Rattle.std.specs.Prelude.{◌≡◌, ◌&&◌, not, Some, IsTrue, ◌++◌, 
 use Rattle.semver_texts.specs.Texts.{Text}
 use Rattle.semver_texts.specs.declared.grammar.Grammar.TheVariants as grammar
 use Rattle.semver_ranges.specs.Partials.{states_nothing}
-use Rattle.semver_ranges.specs.RangeTree.{PartialTree, Role, SpellsPartial, SpellsWord, after_form}
-use Rattle.semver_ranges.specs.RangeTree.{after_hyphen, at_least, at_most, bare, caret, equal}
-use Rattle.semver_ranges.specs.RangeTree.{greater, less, tilde}
+use Rattle.semver_ranges.specs.declared.operator.Operator.{Operator}
+use Rattle.semver_ranges.specs.declared.operator.Operator.TheVariants.{Bare, Hyphen}
+use Rattle.semver_ranges.specs.RangeTree.{PartialTree, Role, SpellsPartial, SpellsWord, after_operator}
+use Rattle.semver_ranges.specs.RangeTree.{after_hyphen}
 use Rattle.semver_ranges.specs.CargoGrammar.{is_partial_of_cargo}
 use Rattle.tool_ranges.specs.Dialects.{IsTextAs}
 use Rattle.tool_ranges.specs.declared.dialect.Dialect.{Dialect}
 use Rattle.tool_ranges.specs.declared.dialect.Dialect.TheVariants as dialect
-use Rattle.range_terms.specs.declared.term.Operator.{Operator}
-use Rattle.range_terms.specs.declared.term.Operator.TheVariants as operator
 use Rattle.range_terms.specs.declared.term.Span.{Span}
 use Rattle.range_terms.specs.WrittenTerms.{WrittenTerm, WrittenVersion}
 
@@ -19,17 +18,11 @@ use Rattle.range_terms.specs.WrittenTerms.{WrittenTerm, WrittenVersion}
 abbrev pub replaced : Text → Span → Text → Text
 replaced t span word = take span.start t ++ (word ++ drop span.end t)
 
--- what is before the version of a term, or before the left one of a hyphen range
+-- what is before the version of a term. Before the left version of a hyphen range there is no
+-- operator
 abbrev pub role_in : Operator → Role
-role_in operator.Bare = after_form bare
-role_in operator.Equal = after_form equal
-role_in operator.Less = after_form less
-role_in operator.LessOrEqual = after_form at_most
-role_in operator.Greater = after_form greater
-role_in operator.GreaterOrEqual = after_form at_least
-role_in operator.Tilde = after_form tilde
-role_in operator.Caret = after_form caret
-role_in operator.Hyphen = after_form bare
+role_in Hyphen = after_operator Bare
+role_in operator = after_operator operator
 
 -- a word that may replace another in a dialect. In Cargo's it states a number, since a comparator
 -- that states none must be the only one

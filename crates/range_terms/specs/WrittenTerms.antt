@@ -6,9 +6,9 @@ use Rattle.std.specs.Prelude.{option_map, List, [], ◌∷◌, length, slice_ind
 use Rattle.std.specs.Str.Parse.{digits_value}
 use Rattle.std.specs.List.{join_with_byte}
 use Rattle.semver_texts.specs.Texts.{Text, begins_with}
-use Rattle.semver_ranges.specs.RangeTree.{Form, bare, equal, less, at_most, greater, at_least}
-use Rattle.semver_ranges.specs.RangeTree.{tilde, caret, PartialTree, one, two, three, SetTree}
-use Rattle.semver_ranges.specs.RangeTree.{build_parts, is_wildcard, pre_parts}
+use Rattle.semver_ranges.specs.declared.operator.Operator.{Operator}
+use Rattle.semver_ranges.specs.RangeTree.{PartialTree, one, two, three, SetTree, build_parts}
+use Rattle.semver_ranges.specs.RangeTree.{is_wildcard, pre_parts}
 use Rattle.semver_ranges.specs.Partials.{fits_u64}
 use Rattle.semver_ranges.specs.TextItems.{FoundTerm, FoundWord, Item, one_term}
 use Rattle.semver_ranges.specs.TextItems.{empty_range, two_bars}
@@ -17,8 +17,6 @@ use Rattle.tool_ranges.specs.SpelledItems.{items_in}
 use Rattle.tool_ranges.specs.declared.dialect.Dialect.{Dialect}
 use Rattle.range_terms.specs.declared.term.Component.{Component}
 use Rattle.range_terms.specs.declared.term.Component.TheVariants.{Number, Wildcard}
-use Rattle.range_terms.specs.declared.term.Operator.{Operator}
-use Rattle.range_terms.specs.declared.term.Operator.TheVariants as operator
 use Rattle.range_terms.specs.declared.term.PartialVersion.{PartialVersion}
 use Rattle.range_terms.specs.declared.term.Span.{Span}
 use Rattle.range_terms.specs.declared.term.Term.{Term}
@@ -103,17 +101,6 @@ version_of span has_v p =
       build = join_with_byte (code ".") (build_parts p);
     }
 
--- the operator before a partial version
-abbrev pub operator_of : Form → Operator
-operator_of bare = operator.Bare
-operator_of equal = operator.Equal
-operator_of less = operator.Less
-operator_of at_most = operator.LessOrEqual
-operator_of greater = operator.Greater
-operator_of at_least = operator.GreaterOrEqual
-operator_of tilde = operator.Tilde
-operator_of caret = operator.Caret
-
 -- ---- terms, in a text of n bytes
 
 abbrev pub version_at : ℕ → FoundWord → WrittenVersion
@@ -121,29 +108,24 @@ version_at n x = version_of (record { start = n - length x.from; end = n - lengt
     (begins_with (code "v") x.from)
     x.partial
 
--- the operator of a term; if it has an upper version, that of a hyphen range
-abbrev pub operator_with : Form → Option WrittenVersion → Operator
-operator_with form None = operator_of form
-operator_with form (Some upper) = operator.Hyphen
-
 -- the end of a term: that of its upper version, if there is one
 abbrev pub end_with : WrittenVersion → Option WrittenVersion → ℕ
 end_with version None = version.span.end
 end_with version (Some upper) = upper.span.end
 
 -- a term from its pieces, in the range with an index
-abbrev pub term_of : ℕ → Form → ℕ → WrittenVersion → Option WrittenVersion → WrittenTerm
-term_of k form start version upper =
+abbrev pub term_of : ℕ → Operator → ℕ → WrittenVersion → Option WrittenVersion → WrittenTerm
+term_of k operator start version upper =
     record {
       range = k;
-      operator = operator_with form upper;
+      operator = operator;
       span = record { start = start; end = end_with version upper };
       version = version;
       upper = upper;
     }
 
 abbrev pub written_term : ℕ → ℕ → FoundTerm → WrittenTerm
-written_term n k x = term_of k x.form (n - length x.from) (version_at n x.version)
+written_term n k x = term_of k x.operator (n - length x.from) (version_at n x.version)
     (option_map (version_at n) x.upper)
 
 -- the terms of a text from the range with the index k on

@@ -1,24 +1,22 @@
 //! Iterates over the terms of a range string. Nothing here allocates.
 
-ghost use Rattle.std.specs.Prelude.{◌≡◌, ◌≢◌, ◌≤◌, ◌+◌, Err, IfOk, length, option_map};
+ghost use Rattle.std.specs.Prelude.{◌≡◌, ◌≢◌, ◌≤◌, ◌+◌, Err, IfOk, length};
 ghost use Rattle.std.specs.List.{AllByRecursion};
 ghost use Rattle.semver_texts.specs.Texts.{Text, begins_with};
 ghost use Rattle.semver_texts.specs.declared.grammar.Grammar as some;
 ghost use Rattle.semver_ranges.specs.RangeTree.{SetTree};
-ghost use Rattle.semver_ranges.specs.Steps.CursorViews.{form_of};
 ghost use Rattle.semver_ranges.specs.TextItems.{FoundTerm, FoundWord};
 ghost use Rattle.semver_ranges.specs.Steps.Items.{IsTermOf, IsWordOf};
 ghost use Rattle.semver_ranges.specs.Steps.PartialViews.{IsComponentOf, IsWrittenAs};
 ghost use Rattle.tool_ranges.specs.Dialects.{RefusesAs, SpellsAs};
-ghost use Rattle.range_terms.specs.WrittenTerms.{component_of, operator_of, term_value, terms_in};
+ghost use Rattle.range_terms.specs.WrittenTerms.{component_of, term_value, terms_in};
 ghost use Rattle.range_terms.specs.WrittenTerms.{version_at, version_value, written_term};
 ghost use Rattle.range_terms.specs.Replacing.{IsReplaceable};
 ghost use Rattle.range_terms.specs.RewrittenVersions.{IsRewritable};
 ghost use Rattle.range_terms.specs.Steps.{YieldsTerm};
 
-use crate::term::{Component, Operator, PartialVersion, Span, Term};
+use crate::term::{Component, PartialVersion, Span, Term};
 use semver_ranges::cursor::{Cursor, Event};
-use semver_ranges::grammar::Form;
 use semver_ranges::term::{RawTerm, RawVersion};
 use semver_ranges::{RangeError, partial};
 use semver_texts::dotted::text_of_parts;
@@ -182,13 +180,13 @@ fn term_of<'text>(read: &RawTerm<'text>, range: usize, len: usize) -> Term<'text
         Some(upper) => Some(version_of(upper, len)),
         None => None,
     };
-    let (operator, end) = match &upper {
-        Some(upper) => (Operator::Hyphen, upper.span.end),
-        None => (operator_of(read.form), version.span.end),
+    let end = match &upper {
+        Some(upper) => upper.span.end,
+        None => version.span.end,
     };
     Term {
         range,
-        operator,
+        operator: read.operator,
         span: Span {
             start: len - read.from.len(),
             end,
@@ -198,23 +196,8 @@ fn term_of<'text>(read: &RawTerm<'text>, range: usize, len: usize) -> Term<'text
     }
 }
 
-/// Returns the operator before a partial version.
-fn operator_of(form: Form) -> Operator
-    ensures { result ≡ operator_of (form_of form) }
-{
-    match form {
-        Form::Bare => Operator::Bare,
-        Form::Equal => Operator::Equal,
-        Form::Less => Operator::Less,
-        Form::AtMost => Operator::LessOrEqual,
-        Form::Greater => Operator::Greater,
-        Form::AtLeast => Operator::GreaterOrEqual,
-        Form::Tilde => Operator::Tilde,
-        Form::Caret => Operator::Caret,
-    }
-}
-
 /// Returns a version of a term, in a string with a length of `len` bytes.
+#[inline]
 fn version_of<'text>(written: &RawVersion<'text>, len: usize) -> PartialVersion<'text>
     requires { (d : some.Grammar) × (x : FoundWord) × IsWordOf d x written.now
         × (length x.from ≤ len) }

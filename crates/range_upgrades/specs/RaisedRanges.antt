@@ -9,8 +9,8 @@ use Rattle.version_sets.specs.declared.rules.PreReleases.TheVariants.{Included}
 use Rattle.tool_ranges.specs.Dialects.{HasSetAs}
 use Rattle.tool_ranges.specs.declared.dialect.Dialect.{Dialect}
 use Rattle.tool_ranges.specs.declared.meaning.Rules.{Rules}
-use Rattle.range_terms.specs.declared.term.Operator.{Operator}
-use Rattle.range_terms.specs.declared.term.Operator.TheVariants.{Greater, GreaterOrEqual}
+use Rattle.semver_ranges.specs.declared.operator.Operator.{Operator}
+use Rattle.semver_ranges.specs.declared.operator.Operator.TheVariants.{Greater, GreaterOrEqual}
 use Rattle.range_terms.specs.WrittenTerms.{WrittenTerm, WrittenVersion}
 use Rattle.range_terms.specs.WrittenTexts.{version_text}
 use Rattle.range_upgrades.specs.Alternatives.{HasBars, last_of}

@@ -9,8 +9,8 @@ use Rattle.tool_ranges.specs.declared.dialect.Dialect.{Dialect}
 use Rattle.tool_ranges.specs.declared.dialect.Dialect.TheVariants.{Cargo}
 use Rattle.range_terms.specs.declared.term.Component.{Component}
 use Rattle.range_terms.specs.declared.term.Component.TheVariants.{Number, Wildcard}
-use Rattle.range_terms.specs.declared.term.Operator.{Operator}
-use Rattle.range_terms.specs.declared.term.Operator.TheVariants.{Bare, Less, Tilde, Caret}
+use Rattle.semver_ranges.specs.declared.operator.Operator.{Operator}
+use Rattle.semver_ranges.specs.declared.operator.Operator.TheVariants.{Bare, Less, Tilde, Caret}
 use Rattle.range_terms.specs.Rewriting.{component_with, with_version}
 use Rattle.range_terms.specs.WrittenTerms.{WrittenVersion}
 use Rattle.range_upgrades.specs.declared.raised_versions.Form.{Form}

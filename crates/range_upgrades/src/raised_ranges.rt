@@ -16,8 +16,9 @@ ghost use Rattle.range_upgrades.specs.Upgrades.{IsReadIn};
 
 use crate::alternatives::Alternative;
 use crate::raised_versions::{Form, raised_version};
-use range_terms::term::{Operator, PartialVersion, Term};
+use range_terms::term::{PartialVersion, Term};
 use range_terms::terms::of_range;
+use semver_ranges::operator::Operator;
 use semver_versions::version::VersionRef;
 use std::alloc::{AllocError, Global};
 use tool_ranges::at_or_above::has_at_or_above;

@@ -9,7 +9,8 @@ ghost use Rattle.range_upgrades.specs.RaisedVersions.{is_above_zero, is_wildcard
 ghost use Rattle.range_upgrades.specs.RaisedVersions.{next_bound, next_numbers};
 ghost use Rattle.range_upgrades.specs.RaisedVersions.{raised_version};
 
-use range_terms::term::{Component, Operator, PartialVersion};
+use range_terms::term::{Component, PartialVersion};
+use semver_ranges::operator::Operator;
 use semver_versions::version::VersionRef;
 use tool_ranges::dialect::Dialect;
 use version_sets::Release;

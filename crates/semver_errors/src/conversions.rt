@@ -1,7 +1,7 @@
 //! The errors of other calls, as the error of the Rust crate.
 
 ghost use Rattle.std.specs.Prelude.{◌≡◌, IfErr, IfOk, string_bytes};
-ghost use Rattle.std.specs.Fmt.{WritesOnOk, WritesStyledOnOk};
+ghost use Rattle.std.specs.Fmt.{WritesStyledOnOk};
 ghost use Rattle.repaired_strings.specs.declared.errors.Expected.TheVariants.{Version};
 ghost use Rattle.semver_errors.specs.Conversions.{IsConvertedParser, IsConvertedRange};
 ghost use Rattle.semver_errors.specs.Conversions.{IsRangeError, IsSatisfiesError};

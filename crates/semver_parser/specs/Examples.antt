@@ -8,9 +8,11 @@ use Rattle.semver_ranges.specs.declared.range.Compat.{Compat}
 use Rattle.semver_ranges.specs.declared.range.Compat.TheVariants.{Cargo, Npm}
 use Rattle.semver_texts.specs.declared.grammar.Grammar.TheVariants.{Crate}
 use Rattle.semver_ranges.specs.RangeTexts.{IsTooLarge}
-use Rattle.semver_ranges.specs.RangeTree.{PartialTree, one, three, Form, bare, equal, at_most}
-use Rattle.semver_ranges.specs.RangeTree.{greater, tilde, caret, empty, hyphen, simples, SetTree}
-use Rattle.semver_ranges.specs.RangeTree.{SpellsPartial, SpellsForm, Spells}
+use Rattle.semver_ranges.specs.declared.operator.Operator.{Operator}
+use Rattle.semver_ranges.specs.declared.operator.Operator.TheVariants.{Bare, Equal, LessOrEqual}
+use Rattle.semver_ranges.specs.declared.operator.Operator.TheVariants.{Greater, Tilde, Caret}
+use Rattle.semver_ranges.specs.RangeTree.{PartialTree, one, three, empty, hyphen, simples, SetTree}
+use Rattle.semver_ranges.specs.RangeTree.{SpellsPartial, SpellsOperator, Spells}
 use Rattle.semver_texts.specs.Texts.{Text}
 use Rattle.semver_texts.specs.Precedence.{precedence}
 use Rattle.semver_texts.specs.Versions.{IdentifierValue, numeric, alphanumeric, PlainVersion}
@@ -50,13 +52,13 @@ abbrev pub version : ℕ → ℕ → ℕ → List IdentifierValue → PlainVersi
 version a b c pre = filled (a ∷ b ∷ c ∷ []) pre
 
 -- the set of only one term, and below, its text: the operator and the partial version
-abbrev pub lone : Form → PartialTree → SetTree
-lone form p = simples (record { form = form; partial = p }) [] ∷ []
+abbrev pub lone : Operator → PartialTree → SetTree
+lone operator p = simples (record { operator = operator; partial = p }) [] ∷ []
 
-pub lone-spells : (form : Form) (p : PartialTree) (front back : Text)
-    → SpellsForm Crate form front
-    → SpellsPartial p back → Spells (lone form p) ((front ++ back) ++ [])
-lone-spells form p front back f b =
+pub lone-spells : (operator : Operator) (p : PartialTree) (front back : Text)
+    → SpellsOperator Crate operator front
+    → SpellsPartial p back → Spells (lone operator p) ((front ++ back) ++ [])
+lone-spells operator p front back f b =
     ([], front ++ back, [], refl, (front, back, f, b, refl), refl, refl)
 
 -- the text of a set of only one hyphen range
@@ -88,22 +90,22 @@ hyphen-spells left right front back l r = (
 abbrev pub beta : PartialTree
 beta = three (codes "1") (codes "2") (codes "3") (codes "beta" ∷ codes "4" ∷ []) []
 
-pub caret_beta : Spells (lone caret beta) (codes "^1.2.3-beta.4")
+pub caret_beta : Spells (lone Caret beta) (codes "^1.2.3-beta.4")
 caret_beta =
-    lone-spells caret beta (codes "^") (codes "1.2.3-beta.4") ([], refl, refl)
+    lone-spells Caret beta (codes "^") (codes "1.2.3-beta.4") ([], refl, refl)
     (refl, (refl, refl), refl)
 
 pub caret_beta_prints : (mode : Compat)
     → IsRewritten (codes "^1.2.3-beta.4") mode (codes ">=1.2.3-beta.4 <2.0.0")
 unfolding digits
-caret_beta_prints mode = (lone caret beta, caret_beta, refl, refl)
+caret_beta_prints mode = (lone Caret beta, caret_beta, refl, refl)
 
 -- `~>` means `~`, and blanks may follow it
 pub tilde_prints : (mode : Compat) → IsRewritten (codes "~> 1.2.3") mode (codes ">=1.2.3 <1.3.0")
 unfolding digits
 tilde_prints mode = (
-  lone tilde (three (codes "1") (codes "2") (codes "3") [] []),
-  lone-spells tilde (three (codes "1") (codes "2") (codes "3") [] []) (codes "~> ") (codes "1.2.3")
+  lone Tilde (three (codes "1") (codes "2") (codes "3") [] []),
+  lone-spells Tilde (three (codes "1") (codes "2") (codes "3") [] []) (codes "~> ") (codes "1.2.3")
       (inr (codes " ", refl, refl)) (refl, (refl, refl), refl),
   refl,
   refl,
@@ -113,16 +115,16 @@ tilde_prints mode = (
 abbrev pub plain : PartialTree
 plain = three (codes "1") (codes "2") (codes "3") [] []
 
-pub plain_spells : Spells (lone bare plain) (codes "1.2.3")
-plain_spells = lone-spells bare plain [] (codes "1.2.3") refl (refl, (refl, refl), refl)
+pub plain_spells : Spells (lone Bare plain) (codes "1.2.3")
+plain_spells = lone-spells Bare plain [] (codes "1.2.3") refl (refl, (refl, refl), refl)
 
 pub plain_cargo : IsRewritten (codes "1.2.3") Cargo (codes ">=1.2.3 <2.0.0")
 unfolding digits
-plain_cargo = (lone bare plain, plain_spells, refl, refl)
+plain_cargo = (lone Bare plain, plain_spells, refl, refl)
 
 pub plain_npm : IsRewritten (codes "1.2.3") Npm (codes "=1.2.3")
 unfolding digits
-plain_npm = (lone bare plain, plain_spells, refl, refl)
+plain_npm = (lone Bare plain, plain_spells, refl, refl)
 
 -- a caret raises the first number that isn't 0
 pub caret_zero : (mode : Compat)
@@ -130,8 +132,8 @@ pub caret_zero : (mode : Compat)
 unfolding digits
 caret_zero mode = let p : PartialTree = three (codes "0") (codes "0") (codes "1")
     (codes "beta" ∷ []) [] in (
-      lone caret p,
-      lone-spells caret p (codes "^") (codes "0.0.1-beta") ([], refl, refl)
+      lone Caret p,
+      lone-spells Caret p (codes "^") (codes "0.0.1-beta") ([], refl, refl)
           (refl, (refl, refl), refl),
       refl,
       refl,
@@ -142,8 +144,8 @@ caret_zero mode = let p : PartialTree = three (codes "0") (codes "0") (codes "1"
 pub above_any : (mode : Compat) → IsRewritten (codes ">*") mode (codes "<0.0.0")
 unfolding digits
 above_any mode = (
-  lone greater (one (codes "*")),
-  lone-spells greater (one (codes "*")) (codes ">") (codes "*")
+  lone Greater (one (codes "*")),
+  lone-spells Greater (one (codes "*")) (codes ">") (codes "*")
       ([], refl, refl) (refl, tt, refl),
   refl,
   refl,
@@ -152,8 +154,8 @@ above_any mode = (
 pub up_to_any : (mode : Compat) → IsRewritten (codes "<=*") mode (codes ">=0.0.0")
 unfolding digits
 up_to_any mode = (
-  lone at_most (one (codes "*")),
-  lone-spells at_most (one (codes "*")) (codes "<=") (codes "*")
+  lone LessOrEqual (one (codes "*")),
+  lone-spells LessOrEqual (one (codes "*")) (codes "<=") (codes "*")
       ([], refl, refl) (refl, tt, refl),
   refl,
   refl,
@@ -220,8 +222,8 @@ pub after_wildcard : (mode : Compat)
 unfolding digits
 after_wildcard mode = let p : PartialTree = three (codes "1") (codes "*")
     (codes "99999999999999999999") [] [] in (
-      lone bare p,
-      lone-spells bare p [] (codes "1.*.99999999999999999999") refl
+      lone Bare p,
+      lone-spells Bare p [] (codes "1.*.99999999999999999999") refl
           (refl, (refl, refl), refl),
       refl,
       refl,
@@ -231,17 +233,17 @@ after_wildcard mode = let p : PartialTree = three (codes "1") (codes "*")
 abbrev pub last : PartialTree
 last = three (codes "0") (codes "0") (codes "18446744073709551615") [] []
 
-pub last_spells : Spells (lone bare last) (codes "0.0.18446744073709551615")
+pub last_spells : Spells (lone Bare last) (codes "0.0.18446744073709551615")
 last_spells =
-    lone-spells bare last [] (codes "0.0.18446744073709551615") refl (refl, (refl, refl), refl)
+    lone-spells Bare last [] (codes "0.0.18446744073709551615") refl (refl, (refl, refl), refl)
 
 pub last_npm : IsRewritten (codes "0.0.18446744073709551615") Npm
     (codes "=0.0.18446744073709551615")
 unfolding digits
-last_npm = (lone bare last, last_spells, refl, refl)
+last_npm = (lone Bare last, last_spells, refl, refl)
 
 pub last_cargo : IsTooLarge Cargo (codes "0.0.18446744073709551615")
-last_cargo = (lone bare last, last_spells, refl)
+last_cargo = (lone Bare last, last_spells, refl)
 
 -- parts of digits are kept as numbers if these are at most 2^64 - 1; build metadata is dropped
 pub kept_parts : (mode : Compat)
@@ -250,8 +252,8 @@ pub kept_parts : (mode : Compat)
 unfolding digits
 kept_parts mode = let p : PartialTree = three (codes "1") (codes "2") (codes "3")
     (codes "007" ∷ codes "99999999999999999999" ∷ []) (codes "x" ∷ codes "y" ∷ []) in (
-      lone equal p,
-      lone-spells equal p (codes "=") (codes "1.2.3-007.99999999999999999999+x.y")
+      lone Equal p,
+      lone-spells Equal p (codes "=") (codes "1.2.3-007.99999999999999999999+x.y")
           ([], refl, refl) (refl, (refl, refl), refl),
       refl,
       refl,
@@ -262,8 +264,8 @@ pub hyphen_part : (mode : Compat) → IsRewritten (codes "=1.2.3--1") mode (code
 unfolding digits
 hyphen_part mode = let p : PartialTree = three (codes "1") (codes "2") (codes "3")
     (codes "-1" ∷ []) [] in (
-      lone equal p,
-      lone-spells equal p (codes "=") (codes "1.2.3--1") ([], refl, refl)
+      lone Equal p,
+      lone-spells Equal p (codes "=") (codes "1.2.3--1") ([], refl, refl)
           (refl, (refl, refl), refl),
       refl,
       refl,

@@ -9,10 +9,10 @@ use Rattle.std.specs.List.{list_all, flat_map}
 use Rattle.semver_texts.specs.declared.grammar.Grammar.{Grammar}
 use Rattle.semver_texts.specs.declared.grammar.Grammar.TheVariants.{Crate}
 use Rattle.semver_ranges.specs.declared.range.Compat.{Compat}
+use Rattle.semver_ranges.specs.declared.operator.Operator.TheVariants.{Bare}
 use Rattle.semver_ranges.specs.RangeTree.{PartialTree, Simple, RangeTree, empty, hyphen, simples, SetTree, HasParts, SpellsSimples}
+use Rattle.semver_ranges.specs.RangeTree.{SpellsWord, SpellsRange, SpellsPadded, SpellsRangeIn, Spells, Role, after_operator, after_hyphen}
 use Rattle.semver_texts.specs.Texts.{is_part}
-use Rattle.semver_ranges.specs.RangeTree.{SpellsWord, SpellsRange, SpellsPadded, SpellsRangeIn, Spells}
-use Rattle.semver_ranges.specs.RangeTree.{bare, Role, after_form, after_hyphen}
 use Rattle.semver_texts.specs.Texts.{Text, is_empty}
 use Rattle.semver_texts.specs.Versions.{numbers, IdentifierValue, PlainVersion}
 use Rattle.semver_ranges.specs.Partials.{fits_u64, kept, stated, states_nothing, pre_parts, pre_release, filled, zero_filled}
@@ -68,7 +68,7 @@ module _ (bound_pre : List IdentifierValue) (keeps : list_all is_kept bound_pre 
   simple_printable : (s : Simple) → HasParts s.partial → term_fits mode (of_simple s) ≡ true
       → are_printable (written_simple bound_pre mode s) ≡ true
   simple_printable s h e =
-      let c = cell mode s.form (stated s.partial) in
+      let c = cell mode s.operator (stated s.partial) in
       let fit = and_parts _ _ e in
       cell_printable c (stated s.partial) (zero_filled s.partial)
       (and_from _ _ (filled_fits (stated_shape s.partial) (pre_release s.partial) fit.0) (pre_kept s.partial h)) fit.1
@@ -112,9 +112,9 @@ module _ (d : Grammar) {fit : Simple → Bool} {written : Simple → List PlainC
 
   simples_parts : (first : Simple) (others : List Simple) (t : Text) → SpellsSimples d first others t → HaveParts (first ∷ others)
   unfolding HaveParts
-  simples_parts first [] t (head, tail, f, p, eq) = (word_has_parts (after_form first.form) first.partial tail p, tt)
+  simples_parts first [] t (head, tail, f, p, eq) = (word_has_parts (after_operator first.operator) first.partial tail p, tt)
   simples_parts first (next ∷ others) t (front, gap, back, (head, tail, f, p, eq), g, more, eq') =
-      (word_has_parts (after_form first.form) first.partial tail p, simples_parts next others back more)
+      (word_has_parts (after_operator first.operator) first.partial tail p, simples_parts next others back more)
 
   -- there is at least one comparator, and each is printable
   abbrev ArePrintable : List PlainComparator → Type 0
@@ -130,7 +130,7 @@ module _ (d : Grammar) {fit : Simple → Bool} {written : Simple → List PlainC
   range_printable empty t h e = (refl, refl)
   range_printable (simples first others) t h e = made first others (simples_parts first others t h) e
   range_printable (hyphen left right) t (l, gap, gap', r, h, g, g', h', eq) e =
-      let here = word_has_parts (after_form bare) left l h in
+      let here = word_has_parts (after_operator Bare) left l h in
       let there = word_has_parts after_hyphen right r h' in
       by_test (states_nothing left)
       (λ a. by_test (states_nothing right)

@@ -8,9 +8,7 @@ use Rattle.semver_texts.specs.declared.grammar.Grammar.TheVariants.{Cargo}
 use Rattle.semver_texts.proofs.Lists.{by_test}
 use Rattle.semver_ranges.specs.CargoGrammar.{as_read}
 use Rattle.semver_ranges.specs.RangeTree.{Simple, is_blank}
-use Rattle.semver_ranges.specs.declared.partial.LowerBounds.{LowerBounds}
 use Rattle.semver_ranges.specs.declared.term.RawTerm.{RawTerm}
-use Rattle.semver_ranges.specs.Steps.CursorViews.{form_of}
 use Rattle.semver_ranges.specs.TextItems.{FoundTerm, Item, empty_range, one_term, two_bars}
 use Rattle.semver_ranges.specs.Steps.FoundItems.{after_comma, comparator, comparator_at, may_come}
 use Rattle.semver_ranges.specs.Steps.FoundItems.{simple_of}
@@ -53,9 +51,9 @@ none_left : (is_first : Bool) (t : Text) → comparator is_first t ≡ None → 
     → comparators_left is_first t ≡ None
 none_left is_first t e some = rw (some, e) refl
 
-pub no_events : (lower : LowerBounds) (is_first : Bool) (t : Text) → comparator is_first t ≡ None → (not is_first && is_empty t) ≡ false
-    → events_left Cargo lower is_first t ≡ None
-no_events lower is_first t e some = ap (option_map (λ ss. in_front (map as_read ss) [])) (none_left is_first t e some)
+pub no_events : (is_first : Bool) (t : Text) → comparator is_first t ≡ None → (not is_first && is_empty t) ≡ false
+    → events_left Cargo is_first t ≡ None
+no_events is_first t e some = ap (option_map (λ ss. in_front (map as_read ss) [])) (none_left is_first t e some)
 
 pub some_left : (is_first : Bool) (t : Text) → (is_first ≡ false → 0 < length t) → (not is_first && is_empty t) ≡ false
 some_left true t h = refl
@@ -69,10 +67,10 @@ put_read : (s : Simple) (o : Option (List Simple))
 put_read s None = refl
 put_read s (Some ss) = refl
 
-pub events_next : (lower : LowerBounds) (is_first : Bool) (t : Text) (x : FoundTerm) (u : Text)
+pub events_next : (is_first : Bool) (t : Text) (x : FoundTerm) (u : Text)
     → comparator is_first t ≡ Some (one_term x, u) → (not is_first && is_empty t) ≡ false → x.upper ≡ None
-    → events_left Cargo lower is_first t ≡ put_simples (simples_of Cargo lower x) (events_left Cargo lower false u)
-events_next lower is_first t x u e some none =
+    → events_left Cargo is_first t ≡ put_simples (simples_of Cargo x) (events_left Cargo false u)
+events_next is_first t x u e some none =
     rw none (ap (option_map (λ ss. in_front (map as_read ss) [])) (one_left is_first t x u e some) ∙ put_read (simple_of x) (comparators_left false u))
 
 -- ---- what the reader finds
@@ -100,17 +98,17 @@ after_found t u (Some found) e (x, is, none, within, here) =
 -- a term at the beginning of a text that may come, and one that may not
 module _ (is_first : Bool) (t : Text) (term : RawTerm) (u : Text) (here : IsTermAt Cargo t term u) where
   abbrev s : Simple
-  s = record { form = form_of term.form; partial = here.version.partial }
+  s = record { operator = term.operator; partial = here.version.partial }
 
   abbrev x : FoundTerm
-  x = record { from = t; form = form_of term.form; version = here.version; upper = None }
+  x = record { from = t; operator = term.operator; version = here.version; upper = None }
 
   pub found_here : may_come is_first t s u ≡ true
       → (y : FoundTerm) × IsTermOf Cargo y term × (y.upper ≡ None) × (length y.from ≤ length t)
       × (comparator_at is_first t ≡ Some (one_term y, u))
   found_here may = (
     x,
-    record { from = here.from; form = refl; version = here.is; within = here.within; upper = rw here.upper tt },
+    record { from = here.from; operator = refl; version = here.is; within = here.within; upper = rw here.upper tt },
     refl,
     omega arith,
     rw (here.simple, here.word, may) refl,

@@ -3,9 +3,10 @@
 use Rattle.std.proofs.Common.{arith}
 use Rattle.std.proofs.Common.{◌≡◌, false, List, [], ◌∷◌, Some, None, refl}
 use Rattle.semver_texts.specs.declared.grammar.Grammar.{Grammar}
-use Rattle.semver_ranges.specs.RangeTree.{PartialTree, one, two, three, Form, after_form}
+use Rattle.semver_ranges.specs.declared.operator.Operator.{Operator}
+use Rattle.semver_ranges.specs.RangeTree.{PartialTree, one, two, three, after_operator}
 use Rattle.semver_texts.specs.Texts.{Text}
-use Rattle.semver_ranges.specs.Steps.Reading.{after_blanks, operator, partial, simple, after_pre}
+use Rattle.semver_ranges.specs.Steps.Reading.{after_blanks, operator_at, partial, simple, after_pre}
 use Rattle.semver_texts.specs.Texts.{begins_with}
 use Rattle.semver_ranges.specs.Steps.Reading.{after_three, after_two, after_one}
 use Rattle.semver_ranges.specs.Steps.CursorViews.{marked_parts}
@@ -45,8 +46,8 @@ major_end a [] e = refl
 major_end a (m ∷ t) e = rw e
 
 -- a term, from its operator and its partial version
-pub simple_found : (d : Grammar) (t u v w : Text) (form : Form) (p : PartialTree) → (form, u) ≡ operator d t
-    → partial d (after_form form) u ≡ Some (p, v)
+pub simple_found : (d : Grammar) (t u v w : Text) (operator : Operator) (p : PartialTree) → (operator, u) ≡ operator_at d t
+    → partial d (after_operator operator) u ≡ Some (p, v)
     → w ≡ after_blanks d v
-    → simple d t ≡ Some (record { form = form; partial = p }, w)
-simple_found d t u v w form p sign found blanks = rw (← sign, found, blanks)
+    → simple d t ≡ Some (record { operator = operator; partial = p }, w)
+simple_found d t u v w operator p sign found blanks = rw (← sign, found, blanks)

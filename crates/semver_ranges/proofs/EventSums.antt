@@ -5,7 +5,6 @@ use Rattle.std.proofs.Math.Bool.{and-true}
 use Rattle.std.specs.Prelude.{map}
 use Rattle.std.specs.List.{list_all, flat_map}
 use Rattle.semver_texts.specs.declared.grammar.Grammar.{Grammar}
-use Rattle.semver_ranges.specs.declared.partial.LowerBounds.{LowerBounds}
 use Rattle.semver_ranges.specs.declared.range.Compat.{Compat}
 use Rattle.semver_ranges.specs.declared.range_set.RangeSet.{RangeSet}
 use Rattle.semver_ranges.specs.declared.range_set.RangeError.TheVariants.{NotARange, NumberTooLarge, OutOfMemory}
@@ -60,35 +59,35 @@ fit_end fits None fit e = cc
 fit_end fits (Some es) fit e = (es, refl, let same : list_all (event_fits fits) es ≡ (fit && true) = cc in same ∙ and-true fit)
 
 -- the ranges of a set, from its events
-module _ (written : Simple → List PlainComparator) (mode : Compat) (lower : LowerBounds) where
+module _ (written : Simple → List PlainComparator) (mode : Compat) where
   abbrev made_by : RangeTree → PlainRange
-  made_by r = range_of_simples written mode (yielded lower r)
+  made_by r = range_of_simples written mode (yielded r)
 
   pub front_made : (ss : List Simple) (cs : List PlainComparator) (es : List Event)
       → ranges_by written mode cs (in_front ss es) ≡ ranges_by written mode (cs ++ flat_map written ss) es
   front_made [] cs es = rw append-nil refl
   front_made (s ∷ ss) cs es = front_made ss (cs ++ written s) es ∙ rw append_assoc refl
 
-  set_made : (r : RangeTree) (others : SetTree) → ranges_by written mode [] (events_of lower (r ∷ others)) ≡ map made_by (r ∷ others)
-  set_made r [] = front_made (yielded lower r) [] []
-  set_made r (next ∷ others) = front_made (yielded lower r) [] _ ∙ ap (λ l. made_by r ∷ l) (set_made next others)
+  set_made : (r : RangeTree) (others : SetTree) → ranges_by written mode [] (events_of (r ∷ others)) ≡ map made_by (r ∷ others)
+  set_made r [] = front_made (yielded r) [] []
+  set_made r (next ∷ others) = front_made (yielded r) [] _ ∙ ap (λ l. made_by r ∷ l) (set_made next others)
 
   -- a result that is possible for the events of a text is possible for its tree
   module _ {fit : Simple → Bool} {listed : Simple → List PlainComparator} (table : IsTable fit listed) where
-    tree_fits : (tree : SetTree) (es : List Event) (b : Bool) → Some (events_of lower tree) ≡ Some es → list_all (event_fits fit) es ≡ b
+    tree_fits : (tree : SetTree) (es : List Event) (b : Bool) → Some (events_of tree) ≡ Some es → list_all (event_fits fit) es ≡ b
         → fits_by fit tree ≡ b
-    tree_fits tree es b e f = let same : es ≡ events_of lower tree = cc in sym (set_fits table lower tree) ∙ rw same at f
+    tree_fits tree es b e f = let same : es ≡ events_of tree = cc in sym (set_fits table tree) ∙ rw same at f
 
     pub answered_by : (made : SetTree → PlainSet) → ((tree : SetTree) → record { ranges = map made_by tree; compat = mode } ≡ made tree)
         → (d : Grammar) (t : Text) (o : Option SetTree) (r : Result RangeSet RangeError) → read d t ≡ o
-        → IsAnswerBy (set_events lower o) fit written mode r → IsAnswerOf o fit made r
+        → IsAnswerBy (set_events o) fit written mode r → IsAnswerOf o fit made r
     answered_by made same d t None (Ok set) is (es, e, fits, has) = cc
     answered_by made same d t None (Err NotARange) is e = refl
     answered_by made same d t None (Err NumberTooLarge) is (es, e, fits) = cc
     answered_by made same d t None (Err OutOfMemory) is (es, e, fits) = cc
     answered_by made same d t (Some []) r is h = absurd (read_sound d t [] is)
     answered_by made same d t (Some (x ∷ others)) (Ok set) is (es, e, fits, has) =
-        let same_events : es ≡ events_of lower (x ∷ others) = cc in (
+        let same_events : es ≡ events_of (x ∷ others) = cc in (
           x ∷ others,
           refl,
           tree_fits (x ∷ others) es true e fits,

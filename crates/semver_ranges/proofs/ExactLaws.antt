@@ -17,7 +17,7 @@ use Rattle.semver_ranges.proofs.SetMeanings.{stated_shape, set_meets}
 -- satisfies the tree
 pub some_means : (mode : Compat) (tree : SetTree) (v : PlainVersion) → meets_set v (rewritten_exactly mode tree) ≡ meets_tree mode tree v
 some_means mode tree v = set_meets lowest_pre_release mode v (λ term. meets_term mode term v)
-    (λ s. exact_row v mode s.form (stated_shape s.partial) _) refl tree
+    (λ s. exact_row v mode s.operator (stated_shape s.partial) _) refl tree
 
 -- a version is below an exact bound if and only if it is below the bound itself and isn't a
 -- pre-release of it

@@ -1,13 +1,10 @@
 -- The events that were left begin with the event that was read.
 use Rattle.std.proofs.Common.{◌≡◌, ℕ, ◌≤◌, Bool, true, false, arith, List, [], ◌∷◌, Option, Some, None, length, refl}
 use Rattle.semver_texts.specs.declared.grammar.Grammar.{Grammar}
-use Rattle.semver_texts.proofs.Lists.{by_test}
-use Rattle.semver_ranges.specs.CargoGrammar.{is_cargo, read_in}
 use Rattle.semver_ranges.specs.declared.events.Events.{Events}
 use Rattle.semver_ranges.specs.declared.grammar.Simple as read
 use Rattle.semver_ranges.specs.declared.events.Event.TheVariants as event
 use Rattle.semver_ranges.specs.declared.cursor.Event.TheVariants.{Term, EmptyRange}
-use Rattle.semver_ranges.specs.declared.partial.LowerBounds.{LowerBounds}
 use Rattle.semver_ranges.specs.declared.term.RawTerm as written
 use Rattle.semver_ranges.specs.declared.term.RawVersion.{RawVersion}
 use Rattle.semver_texts.specs.Texts.{Text}
@@ -19,7 +16,7 @@ use Rattle.semver_ranges.specs.RangeTree.{Simple}
 use Rattle.semver_ranges.specs.Steps.Reading.{simple}
 use Rattle.semver_ranges.specs.Steps.RangeEvents.{Event, one_simple, next_range, put, put_simples, wildcard}
 use Rattle.semver_ranges.specs.Steps.FoundItems.{flag}
-use Rattle.semver_ranges.specs.Steps.CursorViews.{IsSimpleOf, AreSides, IsEventOf, HasAfter, HasLeft, IsFirst, form_of}
+use Rattle.semver_ranges.specs.Steps.CursorViews.{IsSimpleOf, AreSides, IsEventOf, HasAfter, HasLeft, IsFirst}
 
 -- the events of a hyphen range begin with its first side, and the other side, if there is one, is
 -- left
@@ -87,28 +84,24 @@ module _ (d : Grammar) where
   no_upper t None is = refl
   no_upper t (Some u) is = absurd is
 
-  -- the operator that is read doesn't change the version
-  pub same_partial : (s : Simple) → (read_in d s).partial ≡ s.partial
-  same_partial s = by_test (is_cargo d) (λ y. rw y refl) (λ n. rw n refl)
-
   -- a term that was read, without a right side
   pub term_here : (t : Text) (term : written.RawTerm) (u : Text) → IsTermAt d t term u
       → (x : FoundTerm) × IsTermOf d x term × (simple d t ≡ Some (simple_of x, u))
   term_here t term u here = (
-    record { from = t; form = form_of term.form; version = here.version; upper = None },
-    record { from = here.from; form = refl; version = here.is; within = here.within; upper = rw here.upper tt },
+    record { from = t; operator = term.operator; version = here.version; upper = None },
+    record { from = here.from; operator = refl; version = here.is; within = here.within; upper = rw here.upper tt },
     here.simple,
   )
 
   -- the view of an event in plain terms
-  pub view_term : (g : Grammar) (lower : LowerBounds) (n : ℕ) (x : Item) (term : written.RawTerm) (first : read.Simple) (upper : Option read.Simple)
-      → IsItemOf d n x (Term term) → ((y : FoundTerm) → IsTermOf d y term → AreSides (simples_of g lower y) first upper)
-      → IsViewOf g lower x true (event.Simple first) upper
-  view_term g lower n (one_term y) term first upper is sides =
-      (λ o. sides_first (simples_of g lower y) first upper o (sides y is.0), flag_small _)
-  view_term g lower n _ term first upper is sides = absurd is
+  pub view_term : (g : Grammar) (n : ℕ) (x : Item) (term : written.RawTerm) (first : read.Simple) (upper : Option read.Simple)
+      → IsItemOf d n x (Term term) → ((y : FoundTerm) → IsTermOf d y term → AreSides (simples_of g y) first upper)
+      → IsViewOf g x true (event.Simple first) upper
+  view_term g n (one_term y) term first upper is sides =
+      (λ o. sides_first (simples_of g y) first upper o (sides y is.0), flag_small _)
+  view_term g n _ term first upper is sides = absurd is
 
-  pub view_empty : (g : Grammar) (lower : LowerBounds) (n : ℕ) (x : Item) (simple : read.Simple) → IsItemOf d n x EmptyRange
-      → IsSimpleOf wildcard simple → IsViewOf g lower x false (event.Simple simple) None
-  view_empty g lower n empty_range simple is one = (λ o. (one_simple wildcard, o, one, refl, refl), omega arith)
-  view_empty g lower n _ simple is one = absurd is
+  pub view_empty : (g : Grammar) (n : ℕ) (x : Item) (simple : read.Simple) → IsItemOf d n x EmptyRange
+      → IsSimpleOf wildcard simple → IsViewOf g x false (event.Simple simple) None
+  view_empty g n empty_range simple is one = (λ o. (one_simple wildcard, o, one, refl, refl), omega arith)
+  view_empty g n _ simple is one = absurd is

@@ -9,11 +9,11 @@ use Rattle.semver_ranges.specs.CargoGrammar.{is_cargo}
 use Rattle.semver_ranges.specs.TextItems.{FoundWord, Item, empty_range, two_bars}
 use Rattle.semver_ranges.specs.Steps.FoundItems.{comparator, may_come, range_item, with_comparator}
 use Rattle.semver_texts.proofs.Lists.{by_test}
-use Rattle.semver_ranges.specs.RangeTree.{RangeTree, Simple, after_form, is_blank}
+use Rattle.semver_ranges.specs.RangeTree.{RangeTree, Simple, after_operator, is_blank}
 use Rattle.semver_ranges.specs.Steps.FoundItems.{size_at}
 use Rattle.semver_ranges.specs.Steps.FoundItems.{after_item, begins_after, item, items_left, some_items}
 use Rattle.semver_ranges.specs.Steps.FoundItems.{upper_word, with_simple, with_upper, word_at}
-use Rattle.semver_ranges.specs.Steps.Reading.{after_bars, after_blanks, ends_range, operator, right_side, simple, with_right}
+use Rattle.semver_ranges.specs.Steps.Reading.{after_bars, after_blanks, ends_range, operator_at, right_side, simple, with_right}
 use Rattle.semver_ranges.proofs.ReadingSteps.{back_shorter, shorter_bars, shorter_right, shorter_simple}
 
 -- if an item was found, what is left after it is smaller than `m`
@@ -78,7 +78,7 @@ module _ (d : Grammar) where
   range_smaller : (begins : Bool) (t : Text) → IsSmaller (size_at begins t) (range_item d begins t)
   range_smaller begins t = by_test (ends_range t)
       (λ y. rw y (at_end begins))
-      (λ n. rw n (simple_smaller begins t (simple d t) (word_at d (after_form (operator d t).0) (operator d t).1) refl))
+      (λ n. rw n (simple_smaller begins t (simple d t) (word_at d (after_operator (operator_at d t).0) (operator_at d t).1) refl))
     where
       at_end : (begins : Bool)
           → IsSmaller (size_at begins t) (if begins then Some (empty_range, t) else option_map (λ u. (two_bars, after_blanks d u)) (after_bars t))

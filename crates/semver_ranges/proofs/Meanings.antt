@@ -20,7 +20,7 @@ use Rattle.semver_ranges.proofs.Tests.{list_all-weaker, list_any-weaker, list_al
 -- terms, it satisfies the term or is a pre-release of the term's raised bound
 pub some_agrees : (mode : Compat) (tree : SetTree) (v : PlainVersion) → meets_set v (rewritten mode tree) ≡ meets_tree_or_bounds mode tree v
 some_agrees mode tree v = set_meets [] mode v (λ term. meets_term_or_bound mode term v)
-    (λ s. row v mode s.form (stated_shape s.partial) (pre_release s.partial)) (sym (or-false _)) tree
+    (λ s. row v mode s.operator (stated_shape s.partial) (pre_release s.partial)) (sym (or-false _)) tree
 
 own_meaning_weaker : (mode : Compat) (tree : SetTree) (v : PlainVersion) → meets_tree mode tree v ≡ true
     → meets_tree_or_bounds mode tree v ≡ true

@@ -14,10 +14,11 @@ use Rattle.semver_texts.specs.declared.grammar.Grammar.TheVariants.{Crate}
 use Rattle.semver_ranges.specs.declared.range.Op.{Op}
 use Rattle.semver_ranges.specs.declared.range.Op.TheVariants.{Lt, Lte, Gt, Gte, Eq}
 use Rattle.semver_ranges.specs.declared.range.Compat.{Compat}
-use Rattle.semver_ranges.specs.RangeTree.{PartialTree, three, Form, equal, less, at_most, greater, at_least, Simple, RangeTree, empty}
-use Rattle.semver_ranges.specs.RangeTree.{simples, SetTree, is_blank, is_wildcard, SpellsPartial}
+use Rattle.semver_ranges.specs.declared.operator.Operator.{Operator}
+use Rattle.semver_ranges.specs.declared.operator.Operator.TheVariants.{Equal, Less, LessOrEqual, Greater, GreaterOrEqual}
+use Rattle.semver_ranges.specs.RangeTree.{PartialTree, three, Simple, RangeTree, empty, simples, SetTree, is_blank, is_wildcard}
+use Rattle.semver_ranges.specs.RangeTree.{SpellsPartial, SpellsOperator, SpellsSimple, SpellsSimples, SpellsRange, Spells}
 use Rattle.semver_texts.specs.Texts.{is_number, is_part}
-use Rattle.semver_ranges.specs.RangeTree.{SpellsForm, SpellsSimple, SpellsSimples, SpellsRange, Spells}
 use Rattle.semver_texts.specs.Texts.{is_part_byte, Text, is_empty, joined}
 use Rattle.semver_texts.specs.Versions.{numbers, IdentifierValue, numeric, alphanumeric, PlainVersion}
 use Rattle.semver_ranges.specs.Partials.{fits_u64, kept, stated}
@@ -86,19 +87,19 @@ abbrev version_tree : PlainVersion → PartialTree
 version_tree v = three (decimal v.major) (decimal v.minor) (decimal v.patch) (map identifier_text v.pre) []
 
 -- the term with the operator and the version of a comparator
-abbrev form_of : Op → Form
-form_of Lt = less
-form_of Lte = at_most
-form_of Gt = greater
-form_of Gte = at_least
-form_of Eq = equal
+abbrev operator_of : Op → Operator
+operator_of Lt = Less
+operator_of Lte = LessOrEqual
+operator_of Gt = Greater
+operator_of Gte = GreaterOrEqual
+operator_of Eq = Equal
 
 abbrev simple_of : PlainComparator → Simple
-simple_of c = record { form = form_of c.op; partial = version_tree c.version }
+simple_of c = record { operator = operator_of c.op; partial = version_tree c.version }
 
-form_spells : (op : Op) → SpellsForm Crate (form_of op) (op_text op)
-form_spells Lt = ([], refl, refl)
-form_spells _ = ([], refl, refl)
+operator_spells : (op : Op) → SpellsOperator Crate (operator_of op) (op_text op)
+operator_spells Lt = ([], refl, refl)
+operator_spells _ = ([], refl, refl)
 
 -- whether the versions of all comparators are printable
 abbrev pub are_printable : List PlainComparator → Bool
@@ -127,7 +128,7 @@ module _ (v : PlainVersion) (h : is_printable_version v ≡ true) where
   )
 
 comparator_spells : (c : PlainComparator) → is_printable_version c.version ≡ true → SpellsSimple Crate (simple_of c) (comparator_text c)
-comparator_spells c h = (op_text c.op, plain_text c.version, form_spells c.op, version_spells c.version h, refl)
+comparator_spells c h = (op_text c.op, plain_text c.version, operator_spells c.op, version_spells c.version h, refl)
 
 simples_spell : (c : PlainComparator) (cs : List PlainComparator) → are_printable (c ∷ cs) ≡ true
     → SpellsSimples Crate (simple_of c) (map simple_of cs) (joined (codes " ") (map comparator_text (c ∷ cs)))
@@ -138,14 +139,14 @@ simples_spell c (next ∷ cs) e =
 module _ (bound_pre : List IdentifierValue) (mode : Compat) where
   -- a term with three numbers and an operator of comparators has no raised bound, so its comparator
   -- doesn't depend on `bound_pre`
-  of_three : (op : Op) (v : PlainVersion) → written_cell bound_pre (cell mode (form_of op) (numbers v)) (numbers v) v ≡ comparator op v ∷ []
+  of_three : (op : Op) (v : PlainVersion) → written_cell bound_pre (cell mode (operator_of op) (numbers v)) (numbers v) v ≡ comparator op v ∷ []
   of_three Lt v = refl
   of_three _ v = refl
 
   comparator_again : (c : PlainComparator) → is_printable_version c.version ≡ true → written_simple bound_pre mode (simple_of c) ≡ c ∷ []
   comparator_again c h = rw (stated_numbers c.version h, identifiers_kept c.version.pre (grind arith)) (of_three c.op c.version)
 
-  no_bound : (op : Op) (v : PlainVersion) → cell_raised (cell mode (form_of op) (numbers v)) (numbers v) ≡ None
+  no_bound : (op : Op) (v : PlainVersion) → cell_raised (cell mode (operator_of op) (numbers v)) (numbers v) ≡ None
   no_bound Lt v = refl
   no_bound _ v = refl
 

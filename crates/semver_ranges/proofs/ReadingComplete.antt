@@ -4,9 +4,11 @@ use Rattle.std.proofs.Common.{append_assoc, append-nil, arith}
 use Rattle.std.proofs.lemmas.Bool.{or_left, or_right, and_parts, eqb-true, not_from_false}
 use Rattle.std.proofs.lemmas.Bool.Decides.{nat_tests}
 use Rattle.semver_texts.specs.declared.grammar.Grammar.{Grammar}
-use Rattle.semver_ranges.specs.RangeTree.{PartialTree, Form, bare, tilde, Simple, RangeTree, after_form, after_hyphen}
-use Rattle.semver_ranges.specs.RangeTree.{empty, hyphen, simples, SetTree, is_blank, AreBlanks, AreSomeBlanks, SpellsWord, SpellsForm}
-use Rattle.semver_ranges.specs.RangeTree.{SpellsSimple, SpellsSimples, SpellsRange, SpellsPadded, SpellsRangeIn}
+use Rattle.semver_ranges.specs.declared.operator.Operator.{Operator}
+use Rattle.semver_ranges.specs.declared.operator.Operator.TheVariants.{Bare, Tilde, Hyphen}
+use Rattle.semver_ranges.specs.RangeTree.{PartialTree, Simple, RangeTree, after_operator, after_hyphen, empty, hyphen, simples, SetTree}
+use Rattle.semver_ranges.specs.RangeTree.{is_blank, AreBlanks, AreSomeBlanks, SpellsWord, SpellsOperator, SpellsSimple, SpellsSimples}
+use Rattle.semver_ranges.specs.RangeTree.{SpellsRange, SpellsPadded, SpellsRangeIn}
 use Rattle.semver_texts.specs.Texts.{Text}
 use Rattle.semver_ranges.specs.Steps.Reading.{after_blanks, ends_range, ends_word, simple}
 use Rattle.semver_texts.specs.Texts.{begins_with}
@@ -40,16 +42,17 @@ end_no_hyphen [] e = refl
 end_no_hyphen (b ∷ t) e = grind (arith, nat_tests)
 
 module _ (d : Grammar) where
-  pub form_starts : (f : Form) (sign t : Text) → SpellsForm d f sign → starts is_word_byte t ≡ true
+  pub form_starts : (f : Operator) (sign t : Text) → SpellsOperator d f sign → starts is_word_byte t ≡ true
       → starts is_simple_byte (sign ++ t) ≡ true
-  form_starts bare sign t h e = rw h (word_simple t e)
-  form_starts tilde sign t h e = elim h [ inl (blanks, h, text) ↦ rw text | inr (blanks, h, text) ↦ rw text ]
+  form_starts Bare sign t h e = rw h (word_simple t e)
+  form_starts Hyphen sign t h e = absurd h
+  form_starts Tilde sign t h e = elim h [ inl (blanks, h, text) ↦ rw text | inr (blanks, h, text) ↦ rw text ]
   form_starts _ sign t (blanks, h, text) e = rw text
 
   pub simple_starts : (s : Simple) (w u : Text) → SpellsSimple d s w → starts is_simple_byte (w ++ u) ≡ true
-  simple_starts s w u (sign, text, form, spelled, whole) =
+  simple_starts s w u (sign, text, operator, spelled, whole) =
       rw whole (starts-append is_simple_byte (sign ++ text) u
-      (form_starts s.form sign text form (word_starts d (after_form s.form) s.partial text spelled)))
+      (form_starts s.operator sign text operator (word_starts d (after_operator s.operator) s.partial text spelled)))
 
   pub simples_start : (first : Simple) (others : List Simple) (w u : Text) → SpellsSimples d first others w
       → starts is_simple_byte (w ++ u) ≡ true
@@ -127,7 +130,7 @@ module _ (d : Grammar) where
       let found = simples_read first others inner blanks u h b e in
       rw (blanks_after d [] t refl (simple_stops t begins), simple_no_end t begins, found.head, found.no_hyphen, found.tail)
   range_here_read (hyphen left right) inner blanks u (l, gap, gap', r, h, g, g', h', text) b e =
-      let s : Simple = record { form = bare; partial = left } in
+      let s : Simple = record { operator = Bare; partial = left } in
       let spelled : SpellsSimple d s l = ([], l, refl, h, refl) in
       let rest = 45 ∷ (gap' ++ (r ++ (blanks ++ u))) in
       let t = l ++ (gap ++ rest) in

@@ -12,15 +12,16 @@ use Rattle.std.specs.Str.{all_ascii_digits}
 use Rattle.std.specs.List.{list_all, slice_split, join_with_byte}
 use Rattle.semver_texts.specs.declared.grammar.Grammar.{Grammar}
 use Rattle.semver_texts.specs.declared.grammar.Grammar.TheVariants.{Crate, Cargo, Npm}
-use Rattle.semver_ranges.specs.RangeTree.{PartialTree, one, two, three, Form, Simple, is_blank, is_wildcard, is_component}
-use Rattle.semver_ranges.specs.RangeTree.{AreBlanks, SpellsPartial, SpellsWord, IsSignAndBlanks, SpellsForm, SpellsSimple}
-use Rattle.semver_ranges.specs.RangeTree.{Role, after_form, is_word_of_npm}
+use Rattle.semver_ranges.specs.declared.operator.Operator.{Operator}
+use Rattle.semver_ranges.specs.RangeTree.{PartialTree, one, two, three, Simple, is_blank, is_wildcard, is_component, AreBlanks}
+use Rattle.semver_ranges.specs.RangeTree.{SpellsPartial, SpellsWord, IsSignAndBlanks, SpellsOperator, SpellsSimple, Role, after_operator}
+use Rattle.semver_ranges.specs.RangeTree.{is_word_of_npm}
 use Rattle.semver_texts.specs.Texts.{is_part}
 use Rattle.semver_texts.specs.Texts.{Text, begins_with, is_empty, marked, is_dot}
 use Rattle.semver_ranges.specs.Steps.Reading.{front, back, after_blanks, ends_range, ends_word, component, parts}
 use Rattle.semver_texts.specs.Texts.{is_dotted_byte}
 use Rattle.semver_ranges.specs.Steps.Reading.{with_build, after_pre, with_pre, after_three, with_third, after_two, with_second}
-use Rattle.semver_ranges.specs.Steps.Reading.{after_one, with_first, whole_word, partial, after_less, after_greater, after_tilde, operator}
+use Rattle.semver_ranges.specs.Steps.Reading.{after_one, with_first, whole_word, partial, after_less, after_greater, after_tilde, operator_at}
 use Rattle.semver_ranges.specs.Steps.Reading.{with_form, simple, after_v, takes}
 
 -- a text is its `front` and its `back`, and each byte of the `front` passes
@@ -233,8 +234,8 @@ module _ (d : Grammar) where
   partial_sound role t = let u = after_v d t in word_sound role t _ (first_sound u _ (component_sound u))
 
   -- an operator that is found is spelled at the beginning of the text, with the blanks after it
-  abbrev pub FormAt : Text → Form × Text → Type 0
-  FormAt t found = (w : Text) × SpellsForm d found.0 w × (t ≡ w ++ found.1)
+  abbrev pub FormAt : Text → Operator × Text → Type 0
+  FormAt t found = (w : Text) × SpellsOperator d found.0 w × (t ≡ w ++ found.1)
 
   signed : (sign t : Text) → (w : Text) × IsSignAndBlanks d sign w × (sign ++ t ≡ w ++ after_blanks d t)
   signed sign t = (
@@ -261,7 +262,7 @@ module _ (d : Grammar) where
       (λ e. rw (eqb-true b 62 e) (let r = signed (codes "~>") t in (r.0, inr r.1, r.2)))
       (λ e. rw e (let r = signed (codes "~") (b ∷ t) in (r.0, inl r.1, r.2)))
 
-  pub operator_sound : (t : Text) → FormAt t (operator d t)
+  pub operator_sound : (t : Text) → FormAt t (operator_at d t)
   operator_sound [] = ([], refl, refl)
   operator_sound (b ∷ t) = by_test (b == 61)
       (λ e. rw (eqb-true b 61 e) (signed (codes "=") t))
@@ -288,16 +289,16 @@ module _ (d : Grammar) where
   SimpleAt t None = Unit {0}
   SimpleAt t (Some found) = (w : Text) × (gap : Text) × SpellsSimple d found.0 w × IsGap gap found.1 × (t ≡ w ++ (gap ++ found.1))
 
-  form_sound : (t : Text) (found : Form × Text) (o : Option (PartialTree × Text)) → FormAt t found
-      → WordAt d (after_form found.0) found.1 o → SimpleAt t (with_form d found.0 o)
+  form_sound : (t : Text) (found : Operator × Text) (o : Option (PartialTree × Text)) → FormAt t found
+      → WordAt d (after_operator found.0) found.1 o → SimpleAt t (with_form d found.0 o)
   form_sound t found None h k = tt
-  form_sound t found (Some (p, u)) (sign, form, text) (w, spelled, text', ends) = (
+  form_sound t found (Some (p, u)) (sign, operator, text) (w, spelled, text', ends) = (
     sign ++ w,
     front (is_blank d) u,
-    (sign, w, form, spelled, refl),
+    (sign, w, operator, spelled, refl),
     gap_parts u ends,
     rw (text, text', ← front-back (is_blank d) u, append_assoc),
   )
 
   pub simple_sound : (t : Text) → SimpleAt t (simple d t)
-  simple_sound t = form_sound t (operator d t) _ (operator_sound t) (partial_sound (after_form (operator d t).0) (operator d t).1)
+  simple_sound t = form_sound t (operator_at d t) _ (operator_sound t) (partial_sound (after_operator (operator_at d t).0) (operator_at d t).1)

@@ -6,9 +6,11 @@ use Rattle.std.proofs.Common.{arith}
 use Rattle.std.proofs.lemmas.Bool.Decides.{nat_tests}
 use Rattle.semver_texts.specs.declared.grammar.Grammar.{Grammar}
 use Rattle.semver_texts.specs.declared.grammar.Grammar.TheVariants.{Crate, Cargo, Npm}
-use Rattle.semver_ranges.specs.RangeTree.{PartialTree, Form, bare, Simple, RangeTree, after_form, after_hyphen, is_bare}
-use Rattle.semver_ranges.specs.RangeTree.{SetTree, is_blank, AreBlanks, AreSomeBlanks, SpellsWord, SpellsForm, SpellsSimple, SpellsSimples}
-use Rattle.semver_ranges.specs.RangeTree.{SpellsRange, SpellsPadded, SpellsRangeIn}
+use Rattle.semver_ranges.specs.declared.operator.Operator.{Operator}
+use Rattle.semver_ranges.specs.declared.operator.Operator.TheVariants.{Bare}
+use Rattle.semver_ranges.specs.RangeTree.{PartialTree, Simple, RangeTree, after_operator, after_hyphen, is_bare, SetTree, is_blank, AreBlanks}
+use Rattle.semver_ranges.specs.RangeTree.{AreSomeBlanks, SpellsWord, SpellsOperator, SpellsSimple, SpellsSimples, SpellsRange, SpellsPadded}
+use Rattle.semver_ranges.specs.RangeTree.{SpellsRangeIn}
 use Rattle.semver_texts.specs.Texts.{Text}
 use Rattle.semver_ranges.specs.Steps.Reading.{front, after_blanks, ends_range, put_before, simple}
 use Rattle.semver_texts.specs.Texts.{begins_with}
@@ -19,15 +21,15 @@ use Rattle.semver_ranges.proofs.ReadingPieces.{front-back, front_all, WordAt, pa
 use Rattle.semver_texts.proofs.Lists.{by_test}
 
 -- the text of a term without an operator is a word
-form_bare : (f : Form) → is_bare f ≡ true → f ≡ bare
-form_bare bare e = refl
+form_bare : (f : Operator) → is_bare f ≡ true → f ≡ Bare
+form_bare Bare e = refl
 form_bare _ e = cc
 
-bare_partial : (d : Grammar) (s : Simple) (w : Text) → is_bare s.form ≡ true → SpellsSimple d s w
-    → SpellsWord d (after_form bare) s.partial w
-bare_partial d s w e (sign, text, form, spelled, whole) =
-    let nothing : sign ≡ [] = subst (λ f. SpellsForm d f sign) (form_bare s.form e) form in
-    rw (whole, nothing) (subst (λ f. SpellsWord d (after_form f) s.partial text) (form_bare s.form e) spelled)
+bare_partial : (d : Grammar) (s : Simple) (w : Text) → is_bare s.operator ≡ true → SpellsSimple d s w
+    → SpellsWord d (after_operator Bare) s.partial w
+bare_partial d s w e (sign, text, operator, spelled, whole) =
+    let nothing : sign ≡ [] = subst (λ f. SpellsOperator d f sign) (form_bare s.operator e) operator in
+    rw (whole, nothing) (subst (λ f. SpellsWord d (after_operator f) s.partial text) (form_bare s.operator e) spelled)
 
 -- no term begins with a comma
 no_comma : (d : Grammar) (t : Text) → begins_with 44 t ≡ true → simple d t ≡ None
@@ -129,7 +131,7 @@ module _ (d : Grammar) where
   hyphen_sound : (s : Simple) (w gap t : Text) (o : Option (PartialTree × Text)) → SpellsSimple d s w → AreSomeBlanks d gap
       → RightAt t o → RangeAt (w ++ (gap ++ t)) (with_right s o)
   hyphen_sound s w gap t None spelled blanks h = tt
-  hyphen_sound s w gap t (Some (p, u)) spelled blanks (gap', w', after, blanks', spelled', ends, text) = by_test (is_bare s.form)
+  hyphen_sound s w gap t (Some (p, u)) spelled blanks (gap', w', after, blanks', spelled', ends, text) = by_test (is_bare s.operator)
       (λ e. rw e (
         _,
         after,

@@ -4,11 +4,12 @@ use Rattle.std.proofs.Common.{◌≡◌, ℕ, zero, suc, ◌<◌, ◌≤◌, Boo
 use Rattle.std.proofs.Common.{ap, Option, Some, None, arith, length-append}
 use Rattle.semver_texts.specs.declared.grammar.Grammar.{Grammar}
 use Rattle.semver_texts.specs.declared.grammar.Grammar.TheVariants.{Crate, Cargo, Npm}
-use Rattle.semver_ranges.specs.RangeTree.{Form, PartialTree, Simple, RangeTree, SetTree, is_blank, Role, after_form, after_hyphen}
+use Rattle.semver_ranges.specs.declared.operator.Operator.{Operator}
+use Rattle.semver_ranges.specs.RangeTree.{PartialTree, Simple, RangeTree, SetTree, is_blank, Role, after_operator, after_hyphen}
 use Rattle.semver_texts.specs.Texts.{Text}
 use Rattle.semver_ranges.proofs.ReadingPieces.{front-back, WordAt, partial_sound, starts, is_word_byte, word_starts, SimpleAt}
 use Rattle.semver_ranges.proofs.ReadingPieces.{simple_sound, FormAt, operator_sound}
-use Rattle.semver_ranges.specs.Steps.Reading.{back, after_blanks, ends_range, operator, partial, simple, put_before}
+use Rattle.semver_ranges.specs.Steps.Reading.{back, after_blanks, ends_range, operator_at, partial, simple, put_before}
 use Rattle.semver_texts.specs.Texts.{begins_with}
 use Rattle.semver_ranges.specs.Steps.Reading.{after_simple, some_simples, all_simples, range_end, right_side, with_right}
 use Rattle.semver_ranges.specs.Steps.Reading.{with_others, after_first, range, after_bars, onto, more_ranges, after_range}
@@ -58,8 +59,8 @@ module _ (d : Grammar) where
   simple_leaves n t h = left (simple d t) (simple_sound d t) where
     left : (o : Option (Simple × Text)) → SimpleAt d t o → Leaves n o
     left None k = tt
-    left (Some found) (w, gap, (sign, text, form, spelled, whole), gapped, e) =
-        let some = some_bytes is_word_byte text (word_starts d (after_form found.0.form) found.0.partial text spelled) in
+    left (Some found) (w, gap, (sign, text, operator, spelled, whole), gapped, e) =
+        let some = some_bytes is_word_byte text (word_starts d (after_operator found.0.operator) found.0.partial text spelled) in
         omega (arith, simp length-append at (ap length e), simp length-append at (ap length whole))
 
   pub shorter_simple : (t u : Text) (s : Simple) → simple d t ≡ Some (s, u) → length u < length t
@@ -67,11 +68,11 @@ module _ (d : Grammar) where
   shorter_simple (b ∷ t) u s e =
       let h = rw e at (simple_leaves (length t) (b ∷ t) (omega arith)) in omega arith
 
-  form_shorter : (t : Text) (found : Form × Text) → FormAt d t found → length found.1 ≤ length t
+  form_shorter : (t : Text) (found : Operator × Text) → FormAt d t found → length found.1 ≤ length t
   form_shorter t found (w, spelled, text) = omega (arith, simp length-append at (ap length text))
 
-  pub operator_shorter : (t : Text) → length (operator d t).1 ≤ length t
-  operator_shorter t = form_shorter t (operator d t) (operator_sound d t)
+  pub operator_shorter : (t : Text) → length (operator_at d t).1 ≤ length t
+  operator_shorter t = form_shorter t (operator_at d t) (operator_sound d t)
 
   put_stops : (n : ℕ) (s : Simple) (o : Option (List Simple × Text)) → Stops n o → Stops n (put_before s o)
   put_stops n s None h = tt

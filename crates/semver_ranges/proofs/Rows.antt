@@ -12,7 +12,8 @@ use Rattle.std.specs.declared.cmp.Ordering.{Ordering}
 use Rattle.std.specs.declared.cmp.Ordering.TheVariants.{Less, Equal, Greater}
 use Rattle.semver_ranges.specs.declared.range.Compat.{Compat}
 use Rattle.semver_ranges.specs.declared.range.Compat.TheVariants.{Cargo, Npm}
-use Rattle.semver_ranges.specs.RangeTree.{Form, bare, caret}
+use Rattle.semver_ranges.specs.declared.operator.Operator.{Operator}
+use Rattle.semver_ranges.specs.declared.operator.Operator.TheVariants.{Bare, Caret, Hyphen}
 use Rattle.semver_texts.specs.Texts.{is_empty}
 use Rattle.semver_texts.specs.Precedence.{precedence, pre_cmp}
 use Rattle.semver_texts.specs.Versions.{numbers, IdentifierValue, numeric, alphanumeric, PlainVersion}
@@ -99,9 +100,9 @@ excepted_never v None = refl
 excepted_never v (Some bound) = and-false _
 
 -- a version satisfies the comparators of a cell if and only if it satisfies the term or is excepted
-abbrev RowAgrees : List IdentifierValue → Bool → Compat → Form → List ℕ → List IdentifierValue → PlainVersion → Type 0
-RowAgrees f i mode form s p v = list_all (meets_comparator v) (written_cell f (cell mode form s) s (filled s p))
-    ≡ (meets_stated mode form s (filled s p) v || excepted i v (cell_raised (cell mode form s) s))
+abbrev RowAgrees : List IdentifierValue → Bool → Compat → Operator → List ℕ → List IdentifierValue → PlainVersion → Type 0
+RowAgrees f i mode operator s p v = list_all (meets_comparator v) (written_cell f (cell mode operator s) s (filled s p))
+    ≡ (meets_stated mode operator s (filled s p) v || excepted i v (cell_raised (cell mode operator s) s))
 
 -- f is the pre-release of a raised bound, p is that of the partial version, and i says whether the
 -- pre-release of v is below f
@@ -123,14 +124,15 @@ module _ (v : PlainVersion) (f p : List IdentifierValue) {i : Bool} (t : is_lt (
   within_three x y w = grind (arith, nat_tests)
 
   -- one number stated
-  row_one : (mode : Compat) (form : Form) (x : ℕ) → RowAgrees f i mode form (x ∷ []) p v
-  row_one Cargo bare x = grind (arith, nat_tests)
+  row_one : (mode : Compat) (operator : Operator) (x : ℕ) → RowAgrees f i mode operator (x ∷ []) p v
+  row_one Cargo Bare x = grind (arith, nat_tests)
+  row_one mode Hyphen x = grind (arith, nat_tests)
   row_one _ _ x = grind (arith, nat_tests)
 
   -- two numbers stated
-  row_two : (mode : Compat) (form : Form) (x y : ℕ) → RowAgrees f i mode form (x ∷ y ∷ []) p v
-  row_two Cargo bare x y = within_two x y 0
-  row_two mode caret x y = let one = within_one x y 0 in let two = within_two x y 0 in grind (arith, nat_tests)
+  row_two : (mode : Compat) (operator : Operator) (x y : ℕ) → RowAgrees f i mode operator (x ∷ y ∷ []) p v
+  row_two Cargo Bare x y = within_two x y 0
+  row_two mode Caret x y = let one = within_one x y 0 in let two = within_two x y 0 in grind (arith, nat_tests)
   row_two _ _ x y = grind (arith, nat_tests)
 
   -- three numbers stated
@@ -139,32 +141,32 @@ module _ (v : PlainVersion) (f p : List IdentifierValue) {i : Bool} (t : is_lt (
   caret_three true false = within_two
   caret_three false c = within_one
 
-  row_caret : (x y w : ℕ) → RowAgrees f i Npm caret (x ∷ y ∷ w ∷ []) p v
+  row_caret : (x y w : ℕ) → RowAgrees f i Npm Caret (x ∷ y ∷ w ∷ []) p v
   row_caret x y w = rw (same_agreement (x ∷ y ∷ w ∷ []) (numbers v)) (caret_three (x == 0) (y == 0) x y w)
 
-  row_three : (mode : Compat) (form : Form) (x y w : ℕ) → RowAgrees f i mode form (x ∷ y ∷ w ∷ []) p v
-  row_three Cargo bare = row_caret
-  row_three mode caret = row_caret
+  row_three : (mode : Compat) (operator : Operator) (x y w : ℕ) → RowAgrees f i mode operator (x ∷ y ∷ w ∷ []) p v
+  row_three Cargo Bare = row_caret
+  row_three mode Caret = row_caret
   row_three _ _ = λ x y w. grind (arith, nat_tests)
 
   -- any row of the table
-  any_row : (mode : Compat) (form : Form) {s : List ℕ} → Shape s → RowAgrees f i mode form s p v
-  any_row mode form none = grind (arith, nat_tests)
-  any_row mode form (one x) = row_one mode form x
-  any_row mode form (two x y) = row_two mode form x y
-  any_row mode form (three x y w) = row_three mode form x y w
+  any_row : (mode : Compat) (operator : Operator) {s : List ℕ} → Shape s → RowAgrees f i mode operator s p v
+  any_row mode operator none = grind (arith, nat_tests)
+  any_row mode operator (one x) = row_one mode operator x
+  any_row mode operator (two x y) = row_two mode operator x y
+  any_row mode operator (three x y w) = row_three mode operator x y w
 
 -- a version satisfies the comparators of a cell if and only if it satisfies the term or is a
 -- pre-release of its raised bound
-pub row : (v : PlainVersion) (mode : Compat) (form : Form) {s : List ℕ} → Shape s → (p : List IdentifierValue)
-    → list_all (meets_comparator v) (cell_comparators (cell mode form s) s (filled s p))
-    ≡ (meets_stated mode form s (filled s p) v || is_pre_release_of v (cell_raised (cell mode form s) s))
-row v mode form {s = s} shape p =
-    rw (← excepted_plainly v (cell_raised (cell mode form s) s)) (any_row v [] p (lower_tail (tail v.pre)) mode form shape)
+pub row : (v : PlainVersion) (mode : Compat) (operator : Operator) {s : List ℕ} → Shape s → (p : List IdentifierValue)
+    → list_all (meets_comparator v) (cell_comparators (cell mode operator s) s (filled s p))
+    ≡ (meets_stated mode operator s (filled s p) v || is_pre_release_of v (cell_raised (cell mode operator s) s))
+row v mode operator {s = s} shape p =
+    rw (← excepted_plainly v (cell_raised (cell mode operator s) s)) (any_row v [] p (lower_tail (tail v.pre)) mode operator shape)
 
 -- a version satisfies the comparators with an exact bound if and only if it satisfies the term
-pub exact_row : (v : PlainVersion) (mode : Compat) (form : Form) {s : List ℕ} → Shape s → (p : List IdentifierValue)
-    → list_all (meets_comparator v) (written_cell lowest_pre_release (cell mode form s) s (filled s p))
-    ≡ meets_stated mode form s (filled s p) v
-exact_row v mode form {s = s} shape p = any_row v lowest_pre_release p (lower_tail (floor v.pre)) mode form shape
+pub exact_row : (v : PlainVersion) (mode : Compat) (operator : Operator) {s : List ℕ} → Shape s → (p : List IdentifierValue)
+    → list_all (meets_comparator v) (written_cell lowest_pre_release (cell mode operator s) s (filled s p))
+    ≡ meets_stated mode operator s (filled s p) v
+exact_row v mode operator {s = s} shape p = any_row v lowest_pre_release p (lower_tail (floor v.pre)) mode operator shape
     ∙ rw (excepted_never v _, or-false)

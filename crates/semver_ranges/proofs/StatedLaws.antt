@@ -11,7 +11,9 @@ use Rattle.std.specs.Cmp.Lexicographic.{pointwise}
 use Rattle.semver_ranges.specs.declared.range.Compat.{Compat}
 use Rattle.semver_ranges.specs.declared.range.Compat.TheVariants.{Cargo, Npm}
 use Rattle.semver_ranges.specs.declared.range.Op.TheVariants.{Lt}
-use Rattle.semver_ranges.specs.RangeTree.{Form, bare, Simple, RangeTree, SetTree}
+use Rattle.semver_ranges.specs.declared.operator.Operator.{Operator}
+use Rattle.semver_ranges.specs.declared.operator.Operator.TheVariants.{Bare}
+use Rattle.semver_ranges.specs.RangeTree.{Simple, RangeTree, SetTree}
 use Rattle.semver_texts.specs.Texts.{is_empty}
 use Rattle.semver_texts.specs.Versions.{numbers, IdentifierValue, PlainVersion}
 use Rattle.semver_ranges.specs.Partials.{kept, stated, pre_parts, pre_release, filled, zero_filled}
@@ -38,9 +40,9 @@ with_z (between k) = true
 with_z _ = false
 
 -- each cell for three stated numbers does
-three_with_z : (mode : Compat) (form : Form) (s : List ℕ) → with_z (three_stated mode form s) ≡ true
-three_with_z Cargo bare s = refl
-three_with_z Npm bare s = refl
+three_with_z : (mode : Compat) (operator : Operator) (s : List ℕ) → with_z (three_stated mode operator s) ≡ true
+three_with_z Cargo Bare s = refl
+three_with_z Npm Bare s = refl
 three_with_z _ _ s = refl
 
 module _ (v : PlainVersion) where
@@ -67,14 +69,14 @@ module _ (v : PlainVersion) where
 
   -- a cell compares with a z that has the version's numbers and a pre-release if and only if the
   -- partial version states both
-  told : (mode : Compat) (form : Form) {s : List ℕ} → Shape s → (parts : List IdentifierValue)
+  told : (mode : Compat) (operator : Operator) {s : List ℕ} → Shape s → (parts : List IdentifierValue)
       → let pre : List IdentifierValue = (if length s == 3 then parts else []) in
-      (with_z (cell mode form s) && (not (is_empty pre) && pointwise nat_eq (numbers v) (numbers (filled s pre))))
+      (with_z (cell mode operator s) && (not (is_empty pre) && pointwise nat_eq (numbers v) (numbers (filled s pre))))
       ≡ (not (is_empty pre) && pointwise nat_eq (numbers v) s)
-  told mode form none parts = and-false _
-  told mode form (one x) parts = and-false _
-  told mode form (two x y) parts = and-false _
-  told mode form (three x y w) parts = rw (three_with_z mode form _) refl
+  told mode operator none parts = and-false _
+  told mode operator (one x) parts = and-false _
+  told mode operator (two x y) parts = and-false _
+  told mode operator (three x y w) parts = rw (three_with_z mode operator _) refl
 
   module _ (mode : Compat) where
     abbrev meets : Term → Bool
@@ -84,12 +86,12 @@ module _ (v : PlainVersion) where
     states term = states_pre_release_at term v
 
     met_simple : (s : Simple) → list_all (meets_comparator v) (written_simple lowest_pre_release mode s) ≡ meets (of_simple s)
-    met_simple s = exact_row v mode s.form (stated_shape s.partial) (pre_release s.partial)
+    met_simple s = exact_row v mode s.operator (stated_shape s.partial) (pre_release s.partial)
 
     silent_simple : (s : Simple)
         → list_all silent (written_simple lowest_pre_release mode s) ≡ (meets (of_simple s) && not (states (of_simple s)))
     silent_simple s = silent_cell _ (stated s.partial) (zero_filled s.partial)
-        ∙ rw (met_simple s, told mode s.form (stated_shape s.partial) (map kept (pre_parts s.partial))) refl
+        ∙ rw (met_simple s, told mode s.operator (stated_shape s.partial) (map kept (pre_parts s.partial))) refl
 
     range_stated : (r : RangeTree) → let cs : List PlainComparator = written_range lowest_pre_release mode r in
         (list_all (meets_comparator v) cs && (is_empty v.pre || list_any (has_pre_release_at v) cs))

@@ -11,15 +11,16 @@ use Rattle.std.specs.Str.{all_ascii_digits}
 use Rattle.std.specs.List.{list_all, join_with_byte}
 use Rattle.semver_texts.specs.declared.grammar.Grammar.{Grammar}
 use Rattle.semver_texts.specs.declared.grammar.Grammar.TheVariants.{Crate, Cargo, Npm}
-use Rattle.semver_ranges.specs.RangeTree.{PartialTree, one, two, three, Form, bare, less, greater, tilde}
-use Rattle.semver_ranges.specs.RangeTree.{Simple, is_blank, is_component, AreBlanks}
+use Rattle.semver_ranges.specs.declared.operator.Operator.{Operator}
+use Rattle.semver_ranges.specs.declared.operator.Operator.TheVariants.{Bare, Less, Greater, Tilde, Hyphen}
+use Rattle.semver_ranges.specs.RangeTree.{PartialTree, one, two, three, Simple, is_blank, is_component, AreBlanks, Role, after_operator}
+use Rattle.semver_ranges.specs.RangeTree.{SpellsPartial, SpellsWord, SpellsOperator, SpellsSimple}
 use Rattle.semver_texts.specs.Texts.{is_part}
-use Rattle.semver_ranges.specs.RangeTree.{Role, after_form, SpellsPartial, SpellsWord, SpellsForm, SpellsSimple}
 use Rattle.semver_texts.specs.Texts.{is_part_byte, Text, marked}
 use Rattle.semver_ranges.specs.Steps.Reading.{front, back, after_blanks, ends_word, component, parts, after_pre}
 use Rattle.semver_texts.specs.Texts.{is_dotted_byte}
 use Rattle.semver_ranges.specs.Steps.Reading.{with_pre, after_three, after_two, after_one, with_first}
-use Rattle.semver_ranges.specs.Steps.Reading.{partial, takes, after_less, after_greater, after_tilde, operator, simple}
+use Rattle.semver_ranges.specs.Steps.Reading.{partial, takes, after_less, after_greater, after_tilde, operator_at, simple}
 use Rattle.semver_texts.proofs.PartRuns.{split_parts}
 use Rattle.semver_ranges.proofs.Tests.{list_all-weaker}
 use Rattle.semver_ranges.proofs.ReadingPieces.{starts, starts-append, is_word_byte, word_starts, word_parts, length_before}
@@ -170,15 +171,15 @@ module _ (d : Grammar) where
   no_sign sign blank other [] (b ∷ t) h k = not_from_false _ (apart is_word_byte b sign k other)
   no_sign sign blank other (b ∷ blanks) t h k = not_from_false _ (apart (is_blank d) b sign (grind arith) blank)
 
-  less_alone : (t : Text) → stops (λ b. b == 61) t ≡ true → after_less d t ≡ (less, after_blanks d t)
+  less_alone : (t : Text) → stops (λ b. b == 61) t ≡ true → after_less d t ≡ (Less, after_blanks d t)
   less_alone [] s = refl
   less_alone (b ∷ t) s = grind arith
 
-  greater_alone : (t : Text) → stops (λ b. b == 61) t ≡ true → after_greater d t ≡ (greater, after_blanks d t)
+  greater_alone : (t : Text) → stops (λ b. b == 61) t ≡ true → after_greater d t ≡ (Greater, after_blanks d t)
   greater_alone [] s = refl
   greater_alone (b ∷ t) s = grind arith
 
-  tilde_alone : (t : Text) → stops (λ b. b == 62) t ≡ true → after_tilde d t ≡ (tilde, after_blanks d t)
+  tilde_alone : (t : Text) → stops (λ b. b == 62) t ≡ true → after_tilde d t ≡ (Tilde, after_blanks d t)
   tilde_alone [] s = refl
   tilde_alone (b ∷ t) s = grind arith
 
@@ -189,18 +190,19 @@ module _ (d : Grammar) where
   no_blank [] e = cc
   no_blank (b ∷ t) e = not_from_false _ (no_blank_byte d b (word_written b e))
 
-  bare_read : (t : Text) → starts is_word_byte t ≡ true → operator d t ≡ (bare, t)
+  bare_read : (t : Text) → starts is_word_byte t ≡ true → operator_at d t ≡ (Bare, t)
   bare_read [] e = cc
   bare_read (b ∷ t) e = grind (arith, nat_tests)
 
-  pub operator_read : (f : Form) (sign t : Text) → SpellsForm d f sign → starts is_word_byte t ≡ true
-      → operator d (sign ++ t) ≡ (f, t)
-  operator_read bare sign t h e = rw h (bare_read t e)
-  operator_read less sign t (blanks, h, text) e =
+  pub operator_read : (f : Operator) (sign t : Text) → SpellsOperator d f sign → starts is_word_byte t ≡ true
+      → operator_at d (sign ++ t) ≡ (f, t)
+  operator_read Bare sign t h e = rw h (bare_read t e)
+  operator_read Hyphen sign t h e = absurd h
+  operator_read Less sign t (blanks, h, text) e =
       rw (text, less_alone _ (no_sign 61 (no_blank_byte d 61 refl) refl blanks t h e), blanks_after blanks t h (no_blank t e))
-  operator_read greater sign t (blanks, h, text) e =
+  operator_read Greater sign t (blanks, h, text) e =
       rw (text, greater_alone _ (no_sign 61 (no_blank_byte d 61 refl) refl blanks t h e), blanks_after blanks t h (no_blank t e))
-  operator_read tilde sign t signed e = elim signed [
+  operator_read Tilde sign t signed e = elim signed [
     | inl (blanks, h, text) ↦
         rw (text, tilde_alone _ (no_sign 62 (no_blank_byte d 62 refl) refl blanks t h e), blanks_after blanks t h (no_blank t e))
     | inr (blanks, h, text) ↦ rw (text, blanks_after blanks t h (no_blank t e))
@@ -210,11 +212,11 @@ module _ (d : Grammar) where
   -- a term is read, together with the blanks after it
   pub simple_read : (s : Simple) (w gap u : Text) → SpellsSimple d s w → AreBlanks d gap → ends_word d (gap ++ u) ≡ true
       → stops (is_blank d) u ≡ true → simple d (w ++ (gap ++ u)) ≡ Some (s, u)
-  simple_read s w gap u (sign, text, form, spelled, whole) blanks ends first =
+  simple_read s w gap u (sign, text, operator, spelled, whole) blanks ends first =
       rw (
         whole,
         append_assoc,
-        operator_read s.form sign (text ++ (gap ++ u)) form
-            (starts-append is_word_byte text (gap ++ u) (word_starts d (after_form s.form) s.partial text spelled)),
+        operator_read s.operator sign (text ++ (gap ++ u)) operator
+            (starts-append is_word_byte text (gap ++ u) (word_starts d (after_operator s.operator) s.partial text spelled)),
       )
-      (rw (partial_read d (after_form s.form) s.partial text (gap ++ u) spelled ends, blanks_after gap u blanks first))
+      (rw (partial_read d (after_operator s.operator) s.partial text (gap ++ u) spelled ends, blanks_after gap u blanks first))

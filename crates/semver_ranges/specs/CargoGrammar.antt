@@ -5,24 +5,13 @@ use Rattle.std.specs.List.{list_all, list_any}
 use Rattle.semver_texts.specs.Texts.{Text, is_empty}
 use Rattle.semver_texts.specs.declared.grammar.Grammar.{Grammar}
 use Rattle.semver_texts.specs.declared.grammar.Grammar.TheVariants.{Cargo}
-use Rattle.semver_ranges.specs.RangeTree.{Form, is_bare, bare, equal, less, at_most, greater}
-use Rattle.semver_ranges.specs.RangeTree.{at_least, tilde, caret, PartialTree, one, Simple}
-use Rattle.semver_ranges.specs.RangeTree.{SetTree, simples}
-use Rattle.semver_ranges.specs.RangeTree.{AreBlanks, components, has_no_leading_zeros, qualifier}
-use Rattle.semver_ranges.specs.RangeTree.{is_wildcard}
-use Rattle.semver_ranges.specs.RangeTree.{SpellsPartial}
+use Rattle.semver_ranges.specs.declared.operator.Operator.{Operator}
+use Rattle.semver_ranges.specs.declared.operator.Operator.TheVariants.{Bare, Equal, Caret}
+use Rattle.semver_ranges.specs.OperatorTable.{sign}
+use Rattle.semver_ranges.specs.RangeTree.{is_bare, is_of_term, PartialTree, one, Simple, SetTree}
+use Rattle.semver_ranges.specs.RangeTree.{simples, AreBlanks, components, has_no_leading_zeros}
+use Rattle.semver_ranges.specs.RangeTree.{qualifier, is_wildcard, SpellsPartial}
 use Rattle.semver_ranges.specs.Partials.{stated, states_nothing}
-
--- the sign of an operator; nothing if there is no operator
-abbrev pub sign : Form → Text
-sign bare = []
-sign equal = codes "="
-sign less = codes "<"
-sign at_most = codes "<="
-sign greater = codes ">"
-sign at_least = codes ">="
-sign tilde = codes "~"
-sign caret = codes "^"
 
 -- whether each component after a wildcard is a wildcard
 abbrev pub wildcards_are_last : List Text → Bool
@@ -44,14 +33,18 @@ is_one _ = false
 
 -- whether a comparator is a single wildcard without an operator, which contains every release
 abbrev pub is_every : Simple → Bool
-is_every s = is_bare s.form && (is_one s.partial && states_nothing s.partial)
+is_every s = is_bare s.operator && (is_one s.partial && states_nothing s.partial)
 
--- whether Cargo accepts a comparator: its partial version is acceptable and states the first
--- number, unless the comparator is a single wildcard without an operator
+-- whether Cargo accepts a partial version after an operator: it is acceptable and states the first
+-- number, unless it is a single wildcard without an operator
+abbrev pub is_accepted : Simple → Bool
+is_accepted s = is_partial_of_cargo s.partial && (is_every s || not (states_nothing s.partial))
+
+-- whether Cargo, which has no hyphen ranges, accepts a comparator
 abbrev pub is_of_cargo : Simple → Bool
-is_of_cargo s = is_partial_of_cargo s.partial && (is_every s || not (states_nothing s.partial))
+is_of_cargo s = is_of_term s.operator && is_accepted s
 
--- a comparator's text: its sign and its partial version, with any number of spaces before, between
+-- a comparator's text: the sign of its operator and its partial version, with any number of spaces before, between
 -- and after them
 pub record SpellsComparator (s : Simple) (t : Text) : Type 0 where
   pub before : Text
@@ -63,7 +56,7 @@ pub record SpellsComparator (s : Simple) (t : Text) : Type 0 where
   pub after_is : AreBlanks Cargo after
   pub partial : SpellsPartial s.partial word
   pub is_read : IsTrue (is_of_cargo s)
-  pub text : t ≡ before ++ (sign s.form ++ (gap ++ (word ++ after)))
+  pub text : t ≡ before ++ (sign s.operator ++ (gap ++ (word ++ after)))
 
 -- the text of one or more comparators, separated by commas
 abbrev pub SpellsComparators : List Simple → Text → Type 0
@@ -96,13 +89,13 @@ abbrev pub has_wildcard : PartialTree → Bool
 has_wildcard p = list_any is_wildcard (components p)
 
 -- the operator that Cargo reads: without one it is `^`, or `=` if there is a wildcard
-abbrev pub named : Bool → Form → Form
-named wild bare = if wild then equal else caret
-named wild form = form
+abbrev pub named : Bool → Operator → Operator
+named wild Bare = if wild then Equal else Caret
+named wild operator = operator
 
 -- a comparator with the operator that Cargo reads
 abbrev pub as_read : Simple → Simple
-as_read s = record { form = named (has_wildcard s.partial) s.form; partial = s.partial }
+as_read s = record { operator = named (has_wildcard s.partial) s.operator; partial = s.partial }
 
 -- whether a grammar is Cargo's; and below, a term with the operator that a grammar reads
 abbrev pub is_cargo : Grammar → Bool

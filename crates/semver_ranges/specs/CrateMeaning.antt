@@ -8,8 +8,12 @@ use Rattle.std.specs.Ordering.{nat_cmp, is_eq, is_lt, is_gt, is_le, is_ge}
 use Rattle.std.specs.Cmp.Lexicographic.{slice_cmp}
 use Rattle.semver_ranges.specs.declared.range.Compat.{Compat}
 use Rattle.semver_ranges.specs.declared.range.Compat.TheVariants.{Cargo, Npm}
-use Rattle.semver_ranges.specs.RangeTree.{Form, bare, equal, less, at_most, greater, at_least}
-use Rattle.semver_ranges.specs.RangeTree.{tilde, caret, SetTree}
+use Rattle.semver_ranges.specs.declared.operator.Operator.{Operator}
+use Rattle.semver_ranges.specs.declared.operator.Operator.TheVariants.{Bare, Equal, Less}
+use Rattle.semver_ranges.specs.declared.operator.Operator.TheVariants.{LessOrEqual, Greater}
+use Rattle.semver_ranges.specs.declared.operator.Operator.TheVariants.{GreaterOrEqual, Tilde, Caret}
+use Rattle.semver_ranges.specs.declared.operator.Operator.TheVariants.{Hyphen}
+use Rattle.semver_ranges.specs.RangeTree.{SetTree}
 use Rattle.semver_texts.specs.Texts.{is_empty}
 use Rattle.semver_texts.specs.Precedence.{precedence}
 use Rattle.semver_texts.specs.Versions.{numbers, PlainVersion}
@@ -58,32 +62,33 @@ meets_bare Cargo s z v = if length s == 3 then meets_caret s z v else meets_equa
 meets_bare Npm s z v = meets_equal s z v
 
 -- no number stated: with `<` or `>`, v is below 0.0.0; otherwise v isn't below 0.0.0
-abbrev pub meets_nothing_stated : Form → PlainVersion → Bool
-meets_nothing_stated less v = is_lt (precedence v zero_version)
-meets_nothing_stated greater v = is_lt (precedence v zero_version)
+abbrev pub meets_nothing_stated : Operator → PlainVersion → Bool
+meets_nothing_stated Less v = is_lt (precedence v zero_version)
+meets_nothing_stated Greater v = is_lt (precedence v zero_version)
 meets_nothing_stated _ v = is_ge (precedence v zero_version)
 
 -- some number stated: the operator decides
-abbrev pub meets_form : Compat → Form → List ℕ → PlainVersion → PlainVersion → Bool
-meets_form mode bare s z v = meets_bare mode s z v
-meets_form mode equal s z v = meets_equal s z v
-meets_form mode less s z v = is_lt (precedence v z)
-meets_form mode at_most s z v = meets_at_most s z v
-meets_form mode greater s z v = is_gt (precedence v z)
-meets_form mode at_least s z v = is_ge (precedence v z)
-meets_form mode tilde s z v = meets_tilde s z v
-meets_form mode caret s z v = meets_caret s z v
+abbrev pub meets_operator : Compat → Operator → List ℕ → PlainVersion → PlainVersion → Bool
+meets_operator mode Bare s z v = meets_bare mode s z v
+meets_operator mode Equal s z v = meets_equal s z v
+meets_operator mode Less s z v = is_lt (precedence v z)
+meets_operator mode LessOrEqual s z v = meets_at_most s z v
+meets_operator mode Greater s z v = is_gt (precedence v z)
+meets_operator mode GreaterOrEqual s z v = is_ge (precedence v z)
+meets_operator mode Hyphen s z v = is_ge (precedence v z)
+meets_operator mode Tilde s z v = meets_tilde s z v
+meets_operator mode Caret s z v = meets_caret s z v
 
 -- the rule for terms that state no number comes before the rules for operators
-abbrev pub meets_stated : Compat → Form → List ℕ → PlainVersion → PlainVersion → Bool
-meets_stated mode form s z v =
-    if is_empty s then meets_nothing_stated form v else meets_form mode form s z v
+abbrev pub meets_stated : Compat → Operator → List ℕ → PlainVersion → PlainVersion → Bool
+meets_stated mode operator s z v =
+    if is_empty s then meets_nothing_stated operator v else meets_operator mode operator s z v
 
 -- whether a version satisfies a term. An empty range is a term that every version from 0.0.0 on
 -- satisfies
 abbrev pub meets_term : Compat → Term → PlainVersion → Bool
 meets_term mode (of_simple s) v =
-    meets_stated mode s.form (stated s.partial) (zero_filled s.partial) v
+    meets_stated mode s.operator (stated s.partial) (zero_filled s.partial) v
 meets_term mode of_nothing v = is_ge (precedence v zero_version)
 
 -- whether a version satisfies a text: it satisfies all terms of some range

@@ -1,4 +1,5 @@
 pub mod NpmLengths
+pub mod OperatorTable
 pub mod RangeTree
 pub mod Partials
 pub mod CargoGrammar

@@ -9,6 +9,9 @@ use Rattle.std.specs.Prelude.{◌≡◌, ℕ, Bool, true, false, ◌&&◌, ◌||
 use Rattle.std.specs.Prelude.{◌∷◌, ◌++◌, codes, IsTrue, length, if◌then◌else◌}
 use Rattle.std.specs.Int.{is_in_range}
 use Rattle.std.specs.List.{list_all, join_with_byte}
+use Rattle.semver_ranges.specs.declared.operator.Operator.{Operator}
+use Rattle.semver_ranges.specs.declared.operator.Operator.TheVariants.{Bare, Tilde, Caret, Hyphen}
+use Rattle.semver_ranges.specs.OperatorTable.{sign}
 use Rattle.semver_texts.specs.declared.grammar.Grammar.{Grammar}
 use Rattle.semver_texts.specs.declared.grammar.Grammar.TheVariants.{Crate, Cargo, Npm}
 use Rattle.semver_texts.specs.Texts.{Text, has_no_leading_zero, is_empty, is_number, is_part}
@@ -24,18 +27,20 @@ pub data PartialTree : Type 0 where
   two : Text → Text → PartialTree
   three : Text → Text → Text → List Text → List Text → PartialTree
 
--- the operator before a partial version: none, or one of seven
-pub data Form : Type 0 where
-  bare equal less at_most greater at_least tilde caret : Form
-
 -- whether there is no operator
-abbrev pub is_bare : Form → Bool
-is_bare bare = true
+abbrev pub is_bare : Operator → Bool
+is_bare Bare = true
 is_bare _ = false
+
+-- whether it is the operator of a term outside of a hyphen range. `Hyphen` is that of the left side
+-- of such a range
+abbrev pub is_of_term : Operator → Bool
+is_of_term Hyphen = false
+is_of_term _ = true
 
 -- a partial version and its operator
 pub record Simple : Type 0 where
-  pub form : Form
+  pub operator : Operator
   pub partial : PartialTree
 
 -- a range: the empty range, a hyphen range, or one or more terms
@@ -129,16 +134,16 @@ states_three (three a b c pre build) = not (is_wildcard a || (is_wildcard b || i
 -- after the operator. On the left side of a hyphen range, it comes after no operator, and on the
 -- right side after the hyphen
 pub data Role : Type 0 where
-  after_form : Form → Role
+  after_operator : Operator → Role
   after_hyphen : Role
 
 -- whether node-semver copies a word of three stated numbers to its comparator together with its `v`
 -- and its build metadata. It doesn't after `~` and `^`, nor after a hyphen if there is a
 -- pre-release
 abbrev pub is_taken_whole : Role → PartialTree → Bool
-is_taken_whole (after_form tilde) p = false
-is_taken_whole (after_form caret) p = false
-is_taken_whole (after_form _) p = true
+is_taken_whole (after_operator Tilde) p = false
+is_taken_whole (after_operator Caret) p = false
+is_taken_whole (after_operator _) p = true
 is_taken_whole after_hyphen p = is_empty (pre_parts p)
 
 -- the version that node-semver has in its comparator if it doesn't copy the whole word
@@ -172,22 +177,18 @@ abbrev pub IsSignAndBlanks : Grammar → Text → Text → Type 0
 IsSignAndBlanks d sign t = (blanks : Text) × AreBlanks d blanks × (t ≡ sign ++ blanks)
 
 -- the text before a partial version: nothing if there is no operator, otherwise its sign and any
--- number of blanks. `~>` means `~`
-abbrev pub SpellsForm : Grammar → Form → Text → Type 0
-SpellsForm d bare t = t ≡ []
-SpellsForm d equal t = IsSignAndBlanks d (codes "=") t
-SpellsForm d less t = IsSignAndBlanks d (codes "<") t
-SpellsForm d at_most t = IsSignAndBlanks d (codes "<=") t
-SpellsForm d greater t = IsSignAndBlanks d (codes ">") t
-SpellsForm d at_least t = IsSignAndBlanks d (codes ">=") t
-SpellsForm d tilde t = IsSignAndBlanks d (codes "~") t ⊎ IsSignAndBlanks d (codes "~>") t
-SpellsForm d caret t = IsSignAndBlanks d (codes "^") t
+-- number of blanks. `~>` means `~`. No text has the operator of the left side of a hyphen range
+abbrev pub SpellsOperator : Grammar → Operator → Text → Type 0
+SpellsOperator d Bare t = t ≡ []
+SpellsOperator d Tilde t = IsSignAndBlanks d (codes "~") t ⊎ IsSignAndBlanks d (codes "~>") t
+SpellsOperator d Hyphen t = ⊥
+SpellsOperator d operator t = IsSignAndBlanks d (sign operator) t
 
 -- the text of a term: its operator, and then its partial version
 abbrev pub SpellsSimple : Grammar → Simple → Text → Type 0
 SpellsSimple d s t =
-    (front : Text) × (back : Text) × SpellsForm d s.form front
-    × SpellsWord d (after_form s.form) s.partial back × (t ≡ front ++ back)
+    (front : Text) × (back : Text) × SpellsOperator d s.operator front
+    × SpellsWord d (after_operator s.operator) s.partial back × (t ≡ front ++ back)
 
 -- the text of one or more terms, separated by one or more blanks
 abbrev pub SpellsSimples : Grammar → Simple → List Simple → Text → Type 0
@@ -201,7 +202,7 @@ SpellsSimples d first (next ∷ others) t = (front : Text) × (gap : Text) × (b
 abbrev pub SpellsRange : Grammar → RangeTree → Text → Type 0
 SpellsRange d empty t = t ≡ []
 SpellsRange d (hyphen left right) t = (front : Text) × (gap : Text) × (gap' : Text)
-    × (back : Text) × SpellsWord d (after_form bare) left front × AreSomeBlanks d gap
+    × (back : Text) × SpellsWord d (after_operator Bare) left front × AreSomeBlanks d gap
     × AreSomeBlanks d gap' × SpellsWord d after_hyphen right back
     × (t ≡ front ++ gap ++ codes "-" ++ gap' ++ back)
 SpellsRange d (simples first others) t = SpellsSimples d first others t

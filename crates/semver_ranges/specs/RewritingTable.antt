@@ -7,9 +7,12 @@ use Rattle.semver_ranges.specs.declared.range.Op.{Op}
 use Rattle.semver_ranges.specs.declared.range.Op.TheVariants.{Lt, Lte, Gt, Gte, Eq}
 use Rattle.semver_ranges.specs.declared.range.Compat.{Compat}
 use Rattle.semver_ranges.specs.declared.range.Compat.TheVariants.{Cargo, Npm}
-use Rattle.semver_ranges.specs.RangeTree.{Form, bare, equal, less, at_most, greater, at_least}
-use Rattle.semver_ranges.specs.RangeTree.{tilde, caret, Simple, RangeTree, empty, hyphen, simples}
-use Rattle.semver_ranges.specs.RangeTree.{SetTree}
+use Rattle.semver_ranges.specs.declared.operator.Operator.{Operator}
+use Rattle.semver_ranges.specs.declared.operator.Operator.TheVariants.{Bare, Equal, Less}
+use Rattle.semver_ranges.specs.declared.operator.Operator.TheVariants.{LessOrEqual, Greater}
+use Rattle.semver_ranges.specs.declared.operator.Operator.TheVariants.{GreaterOrEqual, Tilde, Caret}
+use Rattle.semver_ranges.specs.declared.operator.Operator.TheVariants.{Hyphen}
+use Rattle.semver_ranges.specs.RangeTree.{Simple, RangeTree, empty, hyphen, simples, SetTree}
 use Rattle.semver_texts.specs.Versions.{numbers, IdentifierValue, PlainVersion}
 use Rattle.semver_ranges.specs.Partials.{stated, states_nothing, filled, zero_filled, zero_version}
 use Rattle.semver_ranges.specs.Partials.{leading_place, fits_u64}
@@ -40,41 +43,43 @@ pub data Cell : Type 0 where
   between : ℕ → Cell  -- `>=z <up(k)`
 
 -- the column for terms that state no number
-abbrev pub nothing_stated : Form → Cell
-nothing_stated less = below_zero
-nothing_stated greater = below_zero
+abbrev pub nothing_stated : Operator → Cell
+nothing_stated Less = below_zero
+nothing_stated Greater = below_zero
 nothing_stated _ = from_zero
 
 -- the column for terms that state one or two numbers
-abbrev pub some_stated : Form → List ℕ → Cell
-some_stated bare s = between (length s)
-some_stated equal s = between (length s)
-some_stated less s = against Lt
-some_stated at_most s = below (length s)
-some_stated greater s = against Gt
-some_stated at_least s = against Gte
-some_stated tilde s = between (length s)
-some_stated caret s = between (leading_place s)
+abbrev pub some_stated : Operator → List ℕ → Cell
+some_stated Bare s = between (length s)
+some_stated Equal s = between (length s)
+some_stated Less s = against Lt
+some_stated LessOrEqual s = below (length s)
+some_stated Greater s = against Gt
+some_stated GreaterOrEqual s = against Gte
+some_stated Hyphen s = against Gte
+some_stated Tilde s = between (length s)
+some_stated Caret s = between (leading_place s)
 
 -- the column for terms that state three numbers. The mode matters only in this column, and there
 -- only for terms without an operator
-abbrev pub three_stated : Compat → Form → List ℕ → Cell
-three_stated Cargo bare s = between (leading_place s)
-three_stated Npm bare s = against Eq
-three_stated mode equal s = against Eq
-three_stated mode less s = against Lt
-three_stated mode at_most s = against Lte
-three_stated mode greater s = against Gt
-three_stated mode at_least s = against Gte
-three_stated mode tilde s = between 2
-three_stated mode caret s = between (leading_place s)
+abbrev pub three_stated : Compat → Operator → List ℕ → Cell
+three_stated Cargo Bare s = between (leading_place s)
+three_stated Npm Bare s = against Eq
+three_stated mode Equal s = against Eq
+three_stated mode Less s = against Lt
+three_stated mode LessOrEqual s = against Lte
+three_stated mode Greater s = against Gt
+three_stated mode GreaterOrEqual s = against Gte
+three_stated mode Hyphen s = against Gte
+three_stated mode Tilde s = between 2
+three_stated mode Caret s = between (leading_place s)
 
 -- the table: the cell for a mode, an operator and the stated numbers
-abbrev pub cell : Compat → Form → List ℕ → Cell
-cell mode form [] = nothing_stated form
-cell mode form (a ∷ []) = some_stated form (a ∷ [])
-cell mode form (a ∷ b ∷ []) = some_stated form (a ∷ b ∷ [])
-cell mode form (a ∷ b ∷ c ∷ rest) = three_stated mode form (a ∷ b ∷ c ∷ rest)
+abbrev pub cell : Compat → Operator → List ℕ → Cell
+cell mode operator [] = nothing_stated operator
+cell mode operator (a ∷ []) = some_stated operator (a ∷ [])
+cell mode operator (a ∷ b ∷ []) = some_stated operator (a ∷ b ∷ [])
+cell mode operator (a ∷ b ∷ c ∷ rest) = three_stated mode operator (a ∷ b ∷ c ∷ rest)
 
 -- the first k numbers, with the k-th raised by one if there are that many
 abbrev pub raised : ℕ → List ℕ → List ℕ
@@ -123,7 +128,7 @@ cell_raised _ s = None
 -- the comparators of a term, with `bound_pre` as the pre-release of its raised bound
 abbrev pub written_simple : List IdentifierValue → Compat → Simple → List PlainComparator
 written_simple bound_pre mode s =
-    written_cell bound_pre (cell mode s.form (stated s.partial)) (stated s.partial)
+    written_cell bound_pre (cell mode s.operator (stated s.partial)) (stated s.partial)
     (zero_filled s.partial)
 
 -- the comparators of a range, if `written` gives those of each term: the comparators of its terms,
@@ -157,7 +162,7 @@ rewritten mode tree = written_set [] mode tree
 -- the raised bound of a term, if its cell has one
 abbrev pub raised_bound : Compat → Term → Option PlainVersion
 raised_bound mode (of_simple s) =
-    cell_raised (cell mode s.form (stated s.partial)) (stated s.partial)
+    cell_raised (cell mode s.operator (stated s.partial)) (stated s.partial)
 raised_bound mode of_nothing = None
 
 -- whether the numbers of a raised bound, if there is one, are at most 2^64 - 1

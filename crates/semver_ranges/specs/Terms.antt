@@ -1,7 +1,7 @@
 -- The terms of a range. A version has to satisfy each of them.
 use Rattle.std.specs.Prelude.{◌&&◌, not, if◌then◌else◌, List, [], ◌∷◌, map}
-use Rattle.semver_ranges.specs.RangeTree.{at_most, at_least, PartialTree, Simple, RangeTree, empty}
-use Rattle.semver_ranges.specs.RangeTree.{hyphen, simples}
+use Rattle.semver_ranges.specs.declared.operator.Operator.TheVariants.{LessOrEqual, Hyphen}
+use Rattle.semver_ranges.specs.RangeTree.{PartialTree, Simple, RangeTree, empty, hyphen, simples}
 use Rattle.semver_ranges.specs.Partials.{states_nothing}
 
 -- a term: a partial version with its operator, or an empty range
@@ -9,13 +9,14 @@ pub data Term : Type 0 where
   of_simple : Simple → Term
   of_nothing : Term
 
--- the left side of a hyphen range as a term, with `>=`
+-- the left side of a hyphen range as a term. Its operator means the same as `>=`, except that in
+-- npm's dialect it may contain more pre-releases
 abbrev pub left_side : PartialTree → Simple
-left_side p = record { form = at_least; partial = p }
+left_side p = record { operator = Hyphen; partial = p }
 
 -- the right side of a hyphen range as a term, with `<=`
 abbrev pub right_side : PartialTree → Simple
-right_side p = record { form = at_most; partial = p }
+right_side p = record { operator = LessOrEqual; partial = p }
 
 -- the sides of a hyphen range as terms. A side that states no number is left out if the other side
 -- states one

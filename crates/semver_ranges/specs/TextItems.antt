@@ -3,7 +3,8 @@
 -- of the whole text without the length of that text.
 use Rattle.std.specs.Prelude.{Option}
 use Rattle.semver_texts.specs.Texts.{Text}
-use Rattle.semver_ranges.specs.RangeTree.{Form, PartialTree}
+use Rattle.semver_ranges.specs.declared.operator.Operator.{Operator}
+use Rattle.semver_ranges.specs.RangeTree.{PartialTree}
 
 -- a partial version, the text from its word on, and what follows the word
 pub record FoundWord : Type 0 where
@@ -15,7 +16,7 @@ pub record FoundWord : Type 0 where
 -- range
 pub record FoundTerm : Type 0 where
   pub from : Text
-  pub form : Form
+  pub operator : Operator
   pub version : FoundWord
   pub upper : Option FoundWord
 

@@ -5,14 +5,14 @@ ghost use Rattle.std.specs.Prelude.{◌≡◌, ◌&&◌, ◌||◌, not, length, 
 ghost use Rattle.semver_texts.specs.Texts.{is_empty};
 ghost use Rattle.semver_ranges.specs.RangeTree.{Simple as SimpleTree, PartialTree, qualifier};
 ghost use Rattle.semver_ranges.specs.Partials.{states_nothing};
-ghost use Rattle.semver_ranges.specs.CargoGrammar.{has_wildcard, is_of_cargo, named};
-ghost use Rattle.semver_ranges.specs.Steps.CursorViews.{form_of};
+ghost use Rattle.semver_ranges.specs.CargoGrammar.{has_wildcard, is_accepted, is_of_cargo, named};
 ghost use Rattle.semver_ranges.specs.Steps.FoundItems.{after_comma, begins_with_tilde_greater};
 ghost use Rattle.semver_ranges.specs.Steps.FoundItems.{comparator, comparator_at};
 ghost use Rattle.semver_ranges.specs.Steps.Items.{FindsItem};
 ghost use Rattle.semver_ranges.specs.Steps.PartialViews.{AreWritten};
 
-use crate::grammar::{Form, after_blanks, read_term};
+use crate::grammar::{after_blanks, read_term};
+use crate::operator::Operator;
 use crate::partial::{Component, Components};
 use crate::term::RawTerm;
 use semver_texts::dotted::have_no_leading_zeros;
@@ -58,14 +58,14 @@ fn read_comparator(text: &[u8], is_first: bool) -> Option<(RawTerm<'_>, &[u8])>
 /// states no number is the only one.
 #[inline(always)]
 fn may_come(text: &[u8], term: &RawTerm<'_>, is_only: bool) -> bool
-    ensures { (s : SimpleTree) → form_of term.now.form ≡ s.form
+    ensures { (s : SimpleTree) → term.now.operator ≡ s.operator
         → AreWritten s.partial term.now.version.components
         → result ≡ (not (begins_with_tilde_greater text.now)
         && (is_of_cargo s && (not (states_nothing s.partial) || is_only))) }
 {
     let written = &term.version.components;
     !begins_with_tilde_greater(text)
-        && is_of_cargo(term.form, written)
+        && is_of_cargo(term.operator, written)
         && (!begins_with_wildcard(written) || is_only)
 }
 
@@ -77,19 +77,28 @@ fn begins_with_tilde_greater(text: &[u8]) -> bool
     matches!(text, [b'~', b'>', ..])
 }
 
-/// Returns whether Cargo accepts a comparator. A single wildcard is accepted; it matches every
-/// release. All others need all of these:
+/// Returns whether Cargo, which has no hyphen ranges, accepts a comparator.
+#[inline(always)]
+fn is_of_cargo(operator: Operator, written: &Components<'_>) -> bool
+    ensures { (s : SimpleTree) → operator ≡ s.operator → AreWritten s.partial written.now
+        → result ≡ is_of_cargo s }
+{
+    !matches!(operator, Operator::Hyphen) && is_accepted(operator, written)
+}
+
+/// Returns whether Cargo accepts a version after an operator. A single wildcard without an operator
+/// is accepted; it matches every release. All others need all of these:
 /// - The first component is a number.
 /// - Only wildcards follow a wildcard.
 /// - Only three numbers are followed by a pre-release or build metadata.
 /// - No number in the pre-release has a leading zero.
 #[inline(always)]
-fn is_of_cargo(form: Form, written: &Components<'_>) -> bool
-    ensures { (s : SimpleTree) → form_of form ≡ s.form → AreWritten s.partial written.now
-        → result ≡ is_of_cargo s }
+fn is_accepted(operator: Operator, written: &Components<'_>) -> bool
+    ensures { (s : SimpleTree) → operator ≡ s.operator → AreWritten s.partial written.now
+        → result ≡ is_accepted s }
 {
     match (written.major, written.minor, written.patch) {
-        (Component::Wildcard(_), None, _) => matches!(form, Form::Bare),
+        (Component::Wildcard(_), None, _) => matches!(operator, Operator::Bare),
         (Component::Wildcard(_), Some(_), _) => false,
         (_, Some(Component::Wildcard(_)), Some(Component::Number(_))) => false,
         (_, _, Some(Component::Wildcard(_))) => !is_qualified(written),
@@ -116,13 +125,13 @@ fn begins_with_wildcard(written: &Components<'_>) -> bool
 
 /// Returns the operator that Cargo reads, where none means `^`, or `=` with a wildcard.
 #[inline(always)]
-pub(crate) fn named(form: Form, has_wildcard: bool) -> Form
-    ensures { form_of result ≡ named has_wildcard (form_of form) }
+pub(crate) fn named(operator: Operator, has_wildcard: bool) -> Operator
+    ensures { result ≡ named has_wildcard operator }
 {
-    match form {
-        Form::Bare if has_wildcard => Form::Equal,
-        Form::Bare => Form::Caret,
-        _ => form,
+    match operator {
+        Operator::Bare if has_wildcard => Operator::Equal,
+        Operator::Bare => Operator::Caret,
+        _ => operator,
     }
 }
 

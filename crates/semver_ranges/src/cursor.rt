@@ -8,7 +8,8 @@ ghost use Rattle.semver_ranges.specs.Steps.Reading.{after_blanks, ends_range};
 ghost use Rattle.semver_ranges.specs.Steps.Items.{GivesItem, IsTermAt, TakesItem};
 
 use crate::cargo::next_comparator;
-use crate::grammar::{Form, after_bars, after_blanks, ends_range, read_right_side, read_term};
+use crate::grammar::{after_bars, after_blanks, ends_range, read_right_side, read_term};
+use crate::operator::Operator;
 use crate::range_set::RangeError;
 use crate::term::RawTerm;
 use semver_texts::dotted::strip_mark;
@@ -160,12 +161,13 @@ impl<'text> Cursor<'text> {
         requires left { IsTermAt grammar self.old.rest.now left (codes "-" ++ after.now) }
         ensures { TakesItem grammar true self.old.rest.now result self.new }
     {
-        let Form::Bare = left.form else {
+        let Operator::Bare = left.operator else {
             return None;
         };
         let (upper, rest) = read_right_side(after, grammar)?;
         self.rest = rest;
         Some(Event::Term(RawTerm {
+            operator: Operator::Hyphen,
             upper: Some(upper),
             ..left
         }))

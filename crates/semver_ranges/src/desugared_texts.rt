@@ -4,7 +4,6 @@ ghost use Rattle.std.specs.Prelude.{◌≡◌, ◌++◌, [], Some, List, map, tr
 ghost use Rattle.std.specs.Prelude.{IfOk, MatchResult};
 ghost use Rattle.std.specs.List.{list_all};
 ghost use Rattle.semver_texts.specs.declared.grammar.Grammar.TheVariants.{Crate};
-ghost use Rattle.semver_ranges.specs.declared.partial.LowerBounds.TheVariants.{Stated};
 ghost use Rattle.semver_ranges.specs.RangeTree.{Simple as SimpleTree};
 ghost use Rattle.semver_ranges.specs.RewritingTable.{simple_fits, written_simple};
 ghost use Rattle.semver_ranges.specs.RangeViews.{comparator_of, range_of};
@@ -17,7 +16,7 @@ ghost use Rattle.semver_ranges.specs.Steps.RangeEvents.{Event as EventTree, even
 use crate::desugaring::rewritten;
 use crate::events::{Event, Events};
 use crate::grammar::Simple;
-use crate::partial::{LowerBounds, RaisedBounds};
+use crate::partial::RaisedBounds;
 use crate::range::{Comparator, Compat, Range};
 use crate::range_set::{RangeError, RangeSet};
 use semver_texts::grammar::Grammar;
@@ -31,7 +30,7 @@ pub(crate) fn read_in_two_runs(
     compat: Compat,
     raised: RaisedBounds,
 ) -> Result<RangeSet, RangeError>
-    ensures { IsAnswerBy (events Crate Stated text.now) (simple_fits compat)
+    ensures { IsAnswerBy (events Crate text.now) (simple_fits compat)
         (written_simple (pre_of raised) compat) compat result }
 {
     let sizes = survey(text, compat)?;
@@ -55,12 +54,12 @@ struct Sizes {
 /// Returns the sizes of a string, or the reason why it has no set.
 fn survey(text: &[u8], compat: Compat) -> Result<Sizes, RangeError>
     ensures { MatchResult result
-        (λ _. (es : List EventTree) × (events Crate Stated text.now ≡ Some es)
+        (λ _. (es : List EventTree) × (events Crate text.now ≡ Some es)
         × IsTrue (list_all (event_fits (simple_fits compat)) es))
-        (λ e. IsRefusalBy (events Crate Stated text.now) (simple_fits compat) e) }
+        (λ e. IsRefusalBy (events Crate text.now) (simple_fits compat) e) }
 {
     let grammar = Grammar::Crate;
-    let mut events = Events::new(text, grammar, LowerBounds::Stated);
+    let mut events = Events::new(text, grammar);
     let mut comparators = [0usize; REMEMBERED];
     let mut ended = 0usize;
     let mut fit = true;
@@ -110,14 +109,14 @@ fn build(
     compat: Compat,
     raised: RaisedBounds,
 ) -> Result<Vec<Range>, AllocError>
-    requires { (es : List EventTree) × (events Crate Stated text.now ≡ Some es)
+    requires { (es : List EventTree) × (events Crate text.now ≡ Some es)
         × IsTrue (list_all (event_fits (simple_fits compat)) es) }
     ensures { IfOk result (λ ranges. (es : List EventTree)
-        → events Crate Stated text.now ≡ Some es → map range_of ranges.items
+        → events Crate text.now ≡ Some es → map range_of ranges.items
         ≡ ranges_by (written_simple (pre_of raised) compat) compat [] es) }
 {
     let grammar = Grammar::Crate;
-    let mut events = Events::new(text, grammar, LowerBounds::Stated);
+    let mut events = Events::new(text, grammar);
     let mut ranges = Vec::with_capacity(alloc, sizes.ranges)?;
     let mut comparator_set = Vec::with_capacity(alloc, sizes.comparators[0])?;
     while let Some(event) = events.next_in(grammar) {

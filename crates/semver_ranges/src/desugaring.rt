@@ -11,12 +11,13 @@ ghost use Rattle.semver_ranges.specs.RangeTree.{Simple as SimpleTree};
 ghost use Rattle.semver_ranges.specs.RewritingTable.{nothing_stated, some_stated, three_stated};
 ghost use Rattle.semver_ranges.specs.RangeViews.{comparator_of};
 ghost use Rattle.semver_ranges.specs.Steps.PartialViews.{stated_of, place_number};
-ghost use Rattle.semver_ranges.specs.Steps.CursorViews.{form_of, IsSimpleOf};
+ghost use Rattle.semver_ranges.specs.Steps.CursorViews.{IsSimpleOf};
 ghost use Rattle.semver_ranges.specs.Steps.DesugaredViews.{cell_of, op_of, place_of, bounds_fit};
 ghost use Rattle.semver_ranges.specs.Steps.DesugaredViews.{comparators_of, with_version, IsPlaced};
 ghost use Rattle.semver_ranges.specs.Steps.DesugaredViews.{IsBuildable, IsRow};
 
-use crate::grammar::{Form, Simple};
+use crate::grammar::Simple;
+use crate::operator::Operator;
 use crate::partial::{Partial, PartialKind, Place, RaisedBounds};
 use crate::range::{Comparator, Compat, Op};
 use std::alloc::{AllocError, Global};
@@ -142,63 +143,62 @@ pub(crate) fn rewritten(simple: &Simple<'_>, compat: Compat) -> Desugared
 {
     let partial = &simple.partial;
     match partial.kind() {
-        PartialKind::XRangeOnly => with_nothing_stated(simple.form),
-        PartialKind::MajorOnly => with_some_stated(simple.form, partial, Place::Major),
-        PartialKind::MajorMinor => with_some_stated(simple.form, partial, Place::Minor),
-        PartialKind::MajorMinorPatch => with_three_stated(simple.form, partial, compat),
+        PartialKind::XRangeOnly => with_nothing_stated(simple.operator),
+        PartialKind::MajorOnly => with_some_stated(simple.operator, partial, Place::Major),
+        PartialKind::MajorMinor => with_some_stated(simple.operator, partial, Place::Minor),
+        PartialKind::MajorMinorPatch => with_three_stated(simple.operator, partial, compat),
     }
 }
 
 /// Returns the column of the table for terms without a number. The partial is 0.0.0 then.
 #[inline(always)]
-fn with_nothing_stated(form: Form) -> Desugared
-    ensures cell { cell_of result ≡ with_version (nothing_stated (form_of form)) }
+fn with_nothing_stated(operator: Operator) -> Desugared
+    ensures cell { cell_of result ≡ with_version (nothing_stated operator) }
     ensures placed { (partial : PartialView) → IsPlaced result partial }
 {
-    match form {
-        Form::Less | Form::Greater => Desugared::Against(Op::Lt),
-        Form::Bare | Form::Equal | Form::AtMost | Form::AtLeast | Form::Tilde | Form::Caret =>
-            Desugared::Against(Op::Gte),
+    match operator {
+        Operator::Less | Operator::Greater => Desugared::Against(Op::Lt),
+        _ => Desugared::Against(Op::Gte),
     }
 }
 
 /// Returns the column of the table for terms of one or two numbers, the last of them at a place.
 #[inline(always)]
-fn with_some_stated(form: Form, partial: &Partial<'_>, last: Place) -> Desugared
+fn with_some_stated(operator: Operator, partial: &Partial<'_>, last: Place) -> Desugared
     requires some { 1 ≤ length (stated_of partial.now) }
     requires last { length (stated_of partial.now) ≡ place_number last }
-    ensures cell { cell_of result ≡ some_stated (form_of form) (stated_of partial.now) }
+    ensures cell { cell_of result ≡ some_stated operator (stated_of partial.now) }
     ensures placed { IsPlaced result partial.now }
 {
-    match form {
-        Form::Bare | Form::Equal | Form::Tilde => Desugared::Between(last),
-        Form::Less => Desugared::Against(Op::Lt),
-        Form::AtMost => Desugared::Below(last),
-        Form::Greater => Desugared::Against(Op::Gt),
-        Form::AtLeast => Desugared::Against(Op::Gte),
-        Form::Caret => Desugared::Between(partial.leading_place()),
+    match operator {
+        Operator::Bare | Operator::Equal | Operator::Tilde => Desugared::Between(last),
+        Operator::Less => Desugared::Against(Op::Lt),
+        Operator::LessOrEqual => Desugared::Below(last),
+        Operator::Greater => Desugared::Against(Op::Gt),
+        Operator::GreaterOrEqual | Operator::Hyphen => Desugared::Against(Op::Gte),
+        Operator::Caret => Desugared::Between(partial.leading_place()),
     }
 }
 
 /// Returns the column of the table for terms of three numbers. The mode decides only how a bare
 /// version is read.
 #[inline(always)]
-fn with_three_stated(form: Form, partial: &Partial<'_>, compat: Compat) -> Desugared
+fn with_three_stated(operator: Operator, partial: &Partial<'_>, compat: Compat) -> Desugared
     requires { length (stated_of partial.now) ≡ 3 }
-    ensures cell { cell_of result ≡ three_stated compat (form_of form) (stated_of partial.now) }
+    ensures cell { cell_of result ≡ three_stated compat operator (stated_of partial.now) }
     ensures placed { IsPlaced result partial.now }
 {
-    match form {
-        Form::Bare => match compat {
+    match operator {
+        Operator::Bare => match compat {
             Compat::Cargo => Desugared::Between(partial.leading_place()),
             Compat::Npm => Desugared::Against(Op::Eq),
         },
-        Form::Equal => Desugared::Against(Op::Eq),
-        Form::Less => Desugared::Against(Op::Lt),
-        Form::AtMost => Desugared::Against(Op::Lte),
-        Form::Greater => Desugared::Against(Op::Gt),
-        Form::AtLeast => Desugared::Against(Op::Gte),
-        Form::Tilde => Desugared::Between(Place::Minor),
-        Form::Caret => Desugared::Between(partial.leading_place()),
+        Operator::Equal => Desugared::Against(Op::Eq),
+        Operator::Less => Desugared::Against(Op::Lt),
+        Operator::LessOrEqual => Desugared::Against(Op::Lte),
+        Operator::Greater => Desugared::Against(Op::Gt),
+        Operator::GreaterOrEqual | Operator::Hyphen => Desugared::Against(Op::Gte),
+        Operator::Tilde => Desugared::Between(Place::Minor),
+        Operator::Caret => Desugared::Between(partial.leading_place()),
     }
 }

@@ -3,18 +3,20 @@
 
 ghost use Rattle.std.specs.Prelude.{◌≡◌, ◌<◌, Some, [], Err, IfSome, List, Option, ℕ};
 ghost use Rattle.semver_texts.specs.declared.grammar.Grammar.{Grammar as SomeGrammar};
-ghost use Rattle.semver_ranges.specs.RangeTree.{PartialTree, hyphen};
+ghost use Rattle.semver_ranges.specs.RangeTree.{PartialTree, Simple as SimpleTree};
 ghost use Rattle.semver_ranges.specs.Steps.PartialViews.{IsPartialOf};
 ghost use Rattle.semver_ranges.specs.Steps.RangeEvents as list;
-ghost use Rattle.semver_ranges.specs.Steps.RangeEvents.{yielded};
+ghost use Rattle.semver_ranges.specs.Steps.RangeEvents.{yielded_sides};
 ghost use Rattle.semver_ranges.specs.TextItems.{FoundTerm, Item};
 ghost use Rattle.semver_ranges.specs.Steps.Items.{IsItemOf, IsTermOf, IsViewOf, is_term, simples_of};
 ghost use Rattle.semver_ranges.specs.Steps.CursorViews.{AreSides, Gives, HasLeft, IsBegunIn};
+ghost use Rattle.semver_ranges.specs.Steps.CursorViews.{IsSimpleOf};
 ghost use Rattle.semver_ranges.specs.Steps.CursorViews.{size_left};
 
 use crate::cursor::{self, Cursor};
-use crate::grammar::{Form, Simple};
-use crate::partial::{LowerBounds, Partial};
+use crate::grammar::Simple;
+use crate::operator::Operator;
+use crate::partial::Partial;
 use crate::range_set::RangeError;
 use crate::term::RawTerm;
 use semver_texts::grammar::Grammar;
@@ -22,8 +24,8 @@ use semver_texts::grammar::Grammar;
 /// The next part of a range string.
 #[derive(Clone, Copy)]
 pub enum Event<'input> {
-    /// A term of the range. An empty range gives a bare wildcard, and a hyphen range gives `>=` its
-    /// left side and `<=` its right side.
+    /// A term of the range. An empty range gives a bare wildcard, and a hyphen range gives its left
+    /// side, and `<=` its right side.
     Simple(Simple<'input>),
     /// Two bars, after which the next range begins.
     NextRange,
@@ -35,21 +37,18 @@ pub struct Events<'input> {
     cursor: Cursor<'input>,
     /// The right side of a hyphen range, if it comes next.
     upper: Option<Simple<'input>>,
-    lower: LowerBounds,
 }
 
 impl<'input> Events<'input> {
     // Determined by: equation.
-    /// Returns the events of a string in a dialect. `lower` says how the left side of a hyphen
-    /// range is written.
+    /// Returns the events of a string in a dialect.
     #[inline(always)]
-    pub fn new(text: &'input [u8], grammar: Grammar, lower: LowerBounds) -> Events<'input>
-        ensures { IsBegunIn grammar lower text.now result }
+    pub fn new(text: &'input [u8], grammar: Grammar) -> Events<'input>
+        ensures { IsBegunIn grammar text.now result }
     {
         Events {
             cursor: Cursor::new(text, grammar),
             upper: None,
-            lower,
         }
     }
 
@@ -70,7 +69,7 @@ impl<'input> Events<'input> {
         }
         match self.cursor.next_in(grammar)? {
             Ok(event) => {
-                let (event, upper) = view(&event, self.lower, grammar);
+                let (event, upper) = view(&event, grammar);
                 self.upper = upper;
                 Some(Ok(event))
             }
@@ -83,16 +82,15 @@ impl<'input> Events<'input> {
 #[inline(always)]
 fn view<'input>(
     event: &cursor::Event<'input>,
-    lower: LowerBounds,
     grammar: Grammar,
 ) -> (Event<'input>, Option<Simple<'input>>)
     requires { (d : SomeGrammar) × (n : ℕ) × (x : Item) × IsItemOf d n x event.now }
     ensures { (d : SomeGrammar) (n : ℕ) (x : Item) → IsItemOf d n x event.now
-        → IsViewOf grammar lower x (is_term event.now) result.0 result.1 }
+        → IsViewOf grammar x (is_term event.now) result.0 result.1 }
 {
     match event {
         cursor::Event::Term(term) => {
-            let (first, upper) = simples(term, lower, grammar);
+            let (first, upper) = simples(term, grammar);
             (Event::Simple(first), upper)
         }
         cursor::Event::EmptyRange => (Event::Simple(Simple::wildcard()), None),
@@ -104,16 +102,15 @@ fn view<'input>(
 #[inline(always)]
 fn simples<'input>(
     term: &RawTerm<'input>,
-    lower: LowerBounds,
     grammar: Grammar,
 ) -> (Simple<'input>, Option<Simple<'input>>)
     requires { (d : SomeGrammar) × (x : FoundTerm) × IsTermOf d x term.now }
     ensures { (d : SomeGrammar) (x : FoundTerm) → IsTermOf d x term.now
-        → AreSides (simples_of grammar lower x) result.0 result.1 }
+        → AreSides (simples_of grammar x) result.0 result.1 }
 {
     let simple = term.simple(grammar);
     match &term.upper {
-        Some(upper) => hyphen_sides(simple.partial, Partial::of(&upper.components), lower),
+        Some(upper) => hyphen_sides(simple, Partial::of(&upper.components)),
         None => (simple, None),
     }
 }
@@ -122,26 +119,21 @@ fn simples<'input>(
 /// except for the left one if neither side has a number.
 #[inline(always)]
 fn hyphen_sides<'input>(
-    left: Partial<'input>,
+    left: Simple<'input>,
     right: Partial<'input>,
-    lower: LowerBounds,
 ) -> (Simple<'input>, Option<Simple<'input>>)
-    ensures { (l r : PartialTree) → IsPartialOf l left.entry → IsPartialOf r right.entry
-        → AreSides (yielded lower (hyphen l r)) result.0 result.1 }
+    ensures { (s : SimpleTree) (r : PartialTree) → IsSimpleOf s left.entry → IsPartialOf r right.entry
+        → AreSides (yielded_sides s r) result.0 result.1 }
 {
-    let lower = Simple {
-        form: Form::AtLeast,
-        partial: left.begun(lower),
-    };
     let upper = Simple {
-        form: Form::AtMost,
+        operator: Operator::LessOrEqual,
         partial: right,
     };
     if right.states_nothing() {
-        (lower, None)
-    } else if left.states_nothing() {
+        (left, None)
+    } else if left.partial.states_nothing() {
         (upper, None)
     } else {
-        (lower, Some(upper))
+        (left, Some(upper))
     }
 }

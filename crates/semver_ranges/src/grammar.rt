@@ -17,19 +17,20 @@ ghost use Rattle.semver_ranges.specs.RangeTree.{PartialTree, has_no_leading_zero
 ghost use Rattle.semver_texts.specs.declared.grammar.Grammar.TheVariants as grammar;
 ghost use Rattle.semver_ranges.specs.Steps.Reading.{after_v, takes};
 ghost use Rattle.semver_ranges.specs.Steps.Reading.{back, ends_range, ends_word};
-ghost use Rattle.semver_ranges.specs.Steps.Reading.{component, operator};
+ghost use Rattle.semver_ranges.specs.Steps.Reading.{component, operator_at};
 ghost use Rattle.semver_ranges.specs.Steps.Reading.{with_first, after_bars};
 ghost use Rattle.semver_ranges.specs.Steps.Reading.{front, after_blanks};
 ghost use Rattle.semver_ranges.specs.Steps.RangeEvents.{wildcard};
 ghost use Rattle.semver_ranges.specs.Steps.PartialViews.{IsValue, IsComponentOf};
 ghost use Rattle.semver_ranges.specs.Steps.PartialViews.{AreWritten};
 ghost use Rattle.semver_ranges.specs.Steps.Items.{FindsRight, FindsTerm, FindsWord};
-ghost use Rattle.semver_ranges.specs.Steps.CursorViews.{form_of, Finds, FindsPre};
+ghost use Rattle.semver_ranges.specs.Steps.CursorViews.{Finds, FindsPre};
 ghost use Rattle.semver_ranges.specs.Steps.CursorViews.{IsSimpleOf, role_of};
 ghost use Rattle.semver_ranges.specs.Steps.NpmLimits.{IsBefore};
 
 use crate::cargo::{has_wildcard, named};
 use crate::npm_lengths::is_short_word;
+use crate::operator::Operator;
 use crate::partial::{Component, Components, Partial};
 use crate::term::{RawTerm, RawVersion};
 use semver_texts::decimals;
@@ -38,32 +39,11 @@ use semver_texts::grammar::Grammar;
 use semver_texts::npm_limits::MAX_SAFE_BUILD_LENGTH;
 use semver_texts::white_space::is_ascii_white_space;
 
-/// The operator before a partial, if there is one.
-#[derive(Clone, Copy, Debug)]
-pub enum Form {
-    /// No operator.
-    Bare,
-    /// `=`.
-    Equal,
-    /// `<`.
-    Less,
-    /// `<=`.
-    AtMost,
-    /// `>`.
-    Greater,
-    /// `>=`.
-    AtLeast,
-    /// `~` or `~>`.
-    Tilde,
-    /// `^`.
-    Caret,
-}
-
 /// What a word, which is a partial and its `v`, comes after.
 #[derive(Clone, Copy)]
 pub(crate) enum Role {
-    /// The operator of a term. For the left side of a hyphen range, no operator.
-    AfterForm(Form),
+    /// The operator of a term as it is written. For the left side of a hyphen range, none.
+    AfterOperator(Operator),
     /// The hyphen of a hyphen range.
     AfterHyphen,
 }
@@ -72,7 +52,7 @@ pub(crate) enum Role {
 #[derive(Clone, Copy, Debug)]
 pub struct Simple<'input> {
     /// The operator.
-    pub form: Form,
+    pub operator: Operator,
     /// The partial.
     pub partial: Partial<'input>,
 }
@@ -82,17 +62,17 @@ impl<'input> Simple<'input> {
     /// Returns a term with the operator that a grammar reads. In Cargo's, none means `^`, or `=` if
     /// there is a wildcard.
     #[inline(always)]
-    pub fn of(form: Form, written: &Components<'input>, grammar: Grammar) -> Simple<'input>
+    pub fn of(operator: Operator, written: &Components<'input>, grammar: Grammar) -> Simple<'input>
         requires { list_all is_part (cut_at_dots written.now.pre.now) ≡ true }
-        ensures { (s : SimpleTree) → form_of form ≡ s.form → AreWritten s.partial written.now
+        ensures { (s : SimpleTree) → operator ≡ s.operator → AreWritten s.partial written.now
             → IsSimpleOf (read_in grammar s) result }
     {
-        let form = match grammar {
-            Grammar::Cargo => named(form, has_wildcard(written)),
-            Grammar::Crate | Grammar::Npm => form,
+        let operator = match grammar {
+            Grammar::Cargo => named(operator, has_wildcard(written)),
+            Grammar::Crate | Grammar::Npm => operator,
         };
         Simple {
-            form,
+            operator,
             partial: Partial::of(written),
         }
     }
@@ -110,7 +90,7 @@ impl<'input> Simple<'input> {
             build: &[],
         };
         Simple {
-            form: Form::Bare,
+            operator: Operator::Bare,
             partial: Partial::of(&written),
         }
     }
@@ -139,11 +119,11 @@ pub(crate) fn read_right_side(after: &[u8], grammar: Grammar) -> Option<(RawVers
 pub(crate) fn read_term(text: &[u8], grammar: Grammar) -> Option<(RawTerm<'_>, &[u8])>
     ensures { FindsTerm grammar text.now result }
 {
-    let (form, word) = read_operator(text, grammar);
-    let version = read_version(word, grammar, Role::AfterForm(form))?;
+    let (operator, word) = read_operator(text, grammar);
+    let version = read_version(word, grammar, Role::AfterOperator(operator))?;
     let term = RawTerm {
         from: text,
-        form,
+        operator,
         version,
         upper: None,
     };
@@ -152,21 +132,21 @@ pub(crate) fn read_term(text: &[u8], grammar: Grammar) -> Option<(RawTerm<'_>, &
 
 /// Returns the operator at the beginning of a string, and what follows it and its blanks.
 #[inline(always)]
-fn read_operator(text: &[u8], grammar: Grammar) -> (Form, &[u8])
-    ensures { (form_of result.0, result.1.now) ≡ operator grammar text.now }
+fn read_operator(text: &[u8], grammar: Grammar) -> (Operator, &[u8])
+    ensures { (result.0, result.1.now) ≡ operator_at grammar text.now }
 {
-    let (form, rest) = match text {
-        [b'^', rest @ ..] => (Form::Caret, rest),
-        [b'>', b'=', rest @ ..] => (Form::AtLeast, rest),
-        [b'>', rest @ ..] => (Form::Greater, rest),
-        [b'<', b'=', rest @ ..] => (Form::AtMost, rest),
-        [b'<', rest @ ..] => (Form::Less, rest),
-        [b'~', b'>', rest @ ..] => (Form::Tilde, rest),
-        [b'~', rest @ ..] => (Form::Tilde, rest),
-        [b'=', rest @ ..] => (Form::Equal, rest),
-        _ => return (Form::Bare, text),
+    let (operator, rest) = match text {
+        [b'^', rest @ ..] => (Operator::Caret, rest),
+        [b'>', b'=', rest @ ..] => (Operator::GreaterOrEqual, rest),
+        [b'>', rest @ ..] => (Operator::Greater, rest),
+        [b'<', b'=', rest @ ..] => (Operator::LessOrEqual, rest),
+        [b'<', rest @ ..] => (Operator::Less, rest),
+        [b'~', b'>', rest @ ..] => (Operator::Tilde, rest),
+        [b'~', rest @ ..] => (Operator::Tilde, rest),
+        [b'=', rest @ ..] => (Operator::Equal, rest),
+        _ => return (Operator::Bare, text),
     };
-    (form, after_blanks(rest, grammar))
+    (operator, after_blanks(rest, grammar))
 }
 
 /// Returns the version at the beginning of a string, which ends with its word.

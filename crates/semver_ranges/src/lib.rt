@@ -17,6 +17,7 @@ pub mod events;
 pub mod grammar;
 pub mod laws;
 mod npm_lengths;
+pub mod operator;
 pub mod partial;
 mod range;
 mod range_set;

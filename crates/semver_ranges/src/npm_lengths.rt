@@ -14,7 +14,8 @@ ghost use Rattle.semver_ranges.specs.Steps.PartialViews.{AreWritten};
 ghost use Rattle.semver_ranges.specs.Steps.Reading.{after_v};
 ghost use Rattle.semver_texts.specs.declared.grammar.Grammar.TheVariants as grammar;
 
-use crate::grammar::{Form, Role, after_v, read_components};
+use crate::grammar::{Role, after_v, read_components};
+use crate::operator::Operator;
 use crate::partial::{Component, Components};
 use semver_texts::dotted::{marked_len, split_at_dot};
 use semver_texts::grammar::Grammar;
@@ -92,7 +93,7 @@ fn is_taken_whole(written: &Components<'_>, role: Role) -> bool
         → result ≡ is_taken_whole (role_of role) p }
 {
     match role {
-        Role::AfterForm(form) => !matches!(form, Form::Tilde | Form::Caret),
+        Role::AfterOperator(operator) => !matches!(operator, Operator::Tilde | Operator::Caret),
         Role::AfterHyphen => written.pre.is_empty(),
     }
 }

@@ -8,14 +8,14 @@ ghost use Rattle.semver_ranges.specs.RangeTree.{PartialTree, one, two};
 ghost use Rattle.semver_texts.specs.Texts.{is_part};
 ghost use Rattle.semver_ranges.specs.Partials.{kept, leading_place};
 ghost use Rattle.semver_ranges.specs.RewritingTable.{comparator, up, up_with, bound_fits};
-ghost use Rattle.semver_ranges.specs.ExactBounds.{exact_bound, lowest_pre_release};
+ghost use Rattle.semver_ranges.specs.ExactBounds.{lowest_pre_release};
 ghost use Rattle.semver_ranges.specs.RangeViews.{comparator_of, identifier_of};
 ghost use Rattle.semver_ranges.specs.Steps.PartialViews.{states_none, stated_of};
 ghost use Rattle.semver_texts.specs.Texts.{cut_at_dots};
 ghost use Rattle.semver_ranges.specs.Steps.PartialViews.{number_at, place_number, pre_of};
 ghost use Rattle.semver_ranges.specs.Steps.PartialViews.{version_of};
 ghost use Rattle.semver_ranges.specs.Steps.PartialViews.{AreWritten, IsPartialOf};
-ghost use Rattle.semver_ranges.specs.Steps.PartialViews.{PartsPass, begun_as};
+ghost use Rattle.semver_ranges.specs.Steps.PartialViews.{PartsPass};
 
 use crate::range::{Comparator, Identifier, Op};
 use semver_texts::decimals::number_of_digits;
@@ -73,15 +73,6 @@ pub enum RaisedBounds {
     Plain,
     /// With the lowest pre-release, such as `<2.0.0-0`.
     Exact,
-}
-
-/// How a lower bound that begins with a partial is written.
-#[derive(Clone, Copy, Debug)]
-pub enum LowerBounds {
-    /// As it is in the string, such as `>=1.2.0`.
-    Stated,
-    /// With the lowest pre-release if the partial names none, such as `>=1.2.0-0`.
-    Lowest,
 }
 
 /// The numbers of a partial, with zeros for the missing ones, and its pre-release after three
@@ -191,33 +182,6 @@ impl<'input> Partial<'input> {
             PartialKind::MajorMinorPatch if self.minor > 0 => Place::Minor,
             PartialKind::MajorMinorPatch => Place::Patch,
         }
-    }
-
-    /// Returns the same numbers with the lowest pre-release, which is `0`.
-    #[inline(always)]
-    pub(crate) fn lowest(self) -> Partial<'input>
-        ensures stated { stated_of result ≡ stated_of self.entry }
-        ensures kind { result.kind ≡ self.entry.kind }
-        ensures fits { result.fits ≡ self.entry.fits }
-        ensures version { version_of result ≡ exact_bound (version_of self.entry) }
-        ensures parts { PartsPass result }
-    {
-        Partial { pre: b"0", ..self }
-    }
-
-    /// Returns the partial as the beginning of a lower bound.
-    #[inline(always)]
-    pub(crate) fn begun(self, lower: LowerBounds) -> Partial<'input>
-        ensures { (t : PartialTree) → IsPartialOf t self.entry
-            → IsPartialOf (begun_as lower t) result }
-    {
-        let LowerBounds::Lowest = lower else {
-            return self;
-        };
-        if self.states_three() && self.pre.is_empty() {
-            return self.lowest();
-        }
-        self
     }
 
     // Determined by: equation.

@@ -1,6 +1,5 @@
 //! A term of a range string as it is written, and where it is.
 
-ghost use Rattle.std.specs.Prelude.{◌≡◌};
 ghost use Rattle.semver_texts.specs.declared.grammar.Grammar.{Grammar as SomeGrammar};
 ghost use Rattle.semver_ranges.specs.CargoGrammar.{read_in};
 ghost use Rattle.semver_ranges.specs.TextItems.{FoundTerm};
@@ -8,7 +7,8 @@ ghost use Rattle.semver_ranges.specs.Steps.FoundItems.{simple_of};
 ghost use Rattle.semver_ranges.specs.Steps.Items.{IsTermOf};
 ghost use Rattle.semver_ranges.specs.Steps.CursorViews.{IsSimpleOf};
 
-use crate::grammar::{Form, Simple};
+use crate::grammar::Simple;
+use crate::operator::Operator;
 use crate::partial::Components;
 use semver_texts::grammar::Grammar;
 
@@ -28,8 +28,8 @@ pub struct RawVersion<'text> {
 pub struct RawTerm<'text> {
     /// The string from its first byte on.
     pub from: &'text [u8],
-    /// The operator before its version. A hyphen range has none.
-    pub form: Form,
+    /// Its operator.
+    pub operator: Operator,
     /// Its version; in a hyphen range, the one before the hyphen.
     pub version: RawVersion<'text>,
     /// The version after the hyphen of a hyphen range.
@@ -44,6 +44,6 @@ impl<'text> RawTerm<'text> {
         ensures { (d : SomeGrammar) (x : FoundTerm) → IsTermOf d x self.now
             → IsSimpleOf (read_in grammar (simple_of x)) result }
     {
-        Simple::of(self.form, &self.version.components, grammar)
+        Simple::of(self.operator, &self.version.components, grammar)
     }
 }

@@ -5,7 +5,8 @@ use Rattle.semver_texts.specs.Digits.{any_size, plain_by}
 use Rattle.semver_texts.specs.Texts.{is_empty}
 use Rattle.semver_texts.specs.Versions.{IdentifierValue, PlainVersion, numbers}
 use Rattle.semver_texts.specs.declared.grammar.Digits.TheVariants.{AnySize}
-use Rattle.semver_ranges.specs.RangeTree.{Form, PartialTree}
+use Rattle.semver_ranges.specs.declared.operator.Operator.{Operator}
+use Rattle.semver_ranges.specs.RangeTree.{PartialTree}
 use Rattle.semver_ranges.specs.Partials.{pre_release}
 use Rattle.semver_ranges.specs.SatisfiedComparators.{meets_comparator, meets_range, meets_set, op_holds}
 use Rattle.semver_ranges.specs.RewritingTable.{PlainComparator, PlainRange, PlainSet}
@@ -42,6 +43,6 @@ release_set v s e = release_ranges v s.ranges e
 pub zero_any : (v : PlainVersion) → is_zero (plain_by AnySize v) ≡ is_zero v
 zero_any v = ap (λ b. list_all (λ n. n == 0) (numbers v) && b) (by_empty AnySize v.pre)
 
-pub asks_any : (form : Form) (s : List ℕ) (z : PlainVersion)
-    → asks_nothing_by form (is_empty s) (is_zero (plain_by AnySize z)) ≡ asks_nothing_by form (is_empty s) (is_zero z)
-asks_any form s z = ap (asks_nothing_by form (is_empty s)) (zero_any z)
+pub asks_any : (operator : Operator) (s : List ℕ) (z : PlainVersion)
+    → asks_nothing_by operator (is_empty s) (is_zero (plain_by AnySize z)) ≡ asks_nothing_by operator (is_empty s) (is_zero z)
+asks_any operator s z = ap (asks_nothing_by operator (is_empty s)) (zero_any z)

@@ -9,8 +9,10 @@ use Rattle.semver_texts.specs.Texts.{is_empty}
 use Rattle.semver_texts.specs.Versions.{numbers, IdentifierValue, PlainVersion}
 use Rattle.semver_ranges.specs.declared.range.Compat.{Compat}
 use Rattle.semver_ranges.specs.declared.range.Compat.TheVariants as mode
-use Rattle.semver_ranges.specs.RangeTree.{Form, bare, equal, less, at_most, greater, at_least, tilde, caret}
-use Rattle.semver_ranges.specs.CrateMeaning.{agrees, agrees_past_zeros, meets_form, meets_stated}
+use Rattle.semver_ranges.specs.declared.operator.Operator.{Operator}
+use Rattle.semver_ranges.specs.declared.operator.Operator.TheVariants.{Bare, Equal, Less, LessOrEqual, Greater, GreaterOrEqual, Tilde}
+use Rattle.semver_ranges.specs.declared.operator.Operator.TheVariants.{Caret, Hyphen}
+use Rattle.semver_ranges.specs.CrateMeaning.{agrees, agrees_past_zeros, meets_operator, meets_stated}
 use Rattle.semver_ranges.specs.Partials.{filled, leading_place}
 use Rattle.semver_ranges.proofs.Rows.{Shape}
 use Rattle.version_sets.specs.Steps.Cuts.{first_numbers}
@@ -39,69 +41,73 @@ module _ (v : PlainVersion) where
   exact_caret spot p = past_zeros_within v spot p _ (from_first v spot p)
 
   -- ---- three stated numbers, in the crate's dialects
-  three_cargo : (form : Form) (x y w : ℕ) (p : List IdentifierValue)
-      → meets_form mode.Cargo form (x ∷ y ∷ w ∷ []) (filled (x ∷ y ∷ w ∷ []) p) v
-      ≡ is_within CrateCargo form (x ∷ y ∷ w ∷ []) (filled (x ∷ y ∷ w ∷ []) p) v
-  three_cargo less x y w p = sym (not_ge _)
-  three_cargo at_most x y w p = sym (not_gt _)
-  three_cargo greater x y w p = sym (and-true _)
-  three_cargo at_least x y w p = sym (and-true _)
-  three_cargo tilde x y w p = exact_block (Spot.second_of_three x y w) p
-  three_cargo caret x y w p = exact_caret (leading_of_three x y w) p
-  three_cargo bare x y w p = exact_caret (leading_of_three x y w) p
-  three_cargo equal x y w p = sym (both_eq _)
+  three_cargo : (operator : Operator) (x y w : ℕ) (p : List IdentifierValue)
+      → meets_operator mode.Cargo operator (x ∷ y ∷ w ∷ []) (filled (x ∷ y ∷ w ∷ []) p) v
+      ≡ is_within CrateCargo operator (x ∷ y ∷ w ∷ []) (filled (x ∷ y ∷ w ∷ []) p) v
+  three_cargo Less x y w p = sym (not_ge _)
+  three_cargo LessOrEqual x y w p = sym (not_gt _)
+  three_cargo Greater x y w p = sym (and-true _)
+  three_cargo GreaterOrEqual x y w p = sym (and-true _)
+  three_cargo Hyphen x y w p = sym (and-true _)
+  three_cargo Tilde x y w p = exact_block (Spot.second_of_three x y w) p
+  three_cargo Caret x y w p = exact_caret (leading_of_three x y w) p
+  three_cargo Bare x y w p = exact_caret (leading_of_three x y w) p
+  three_cargo Equal x y w p = sym (both_eq _)
 
-  three_npm : (form : Form) (x y w : ℕ) (p : List IdentifierValue)
-      → meets_form mode.Npm form (x ∷ y ∷ w ∷ []) (filled (x ∷ y ∷ w ∷ []) p) v
-      ≡ is_within CrateNpm form (x ∷ y ∷ w ∷ []) (filled (x ∷ y ∷ w ∷ []) p) v
-  three_npm less x y w p = sym (not_ge _)
-  three_npm at_most x y w p = sym (not_gt _)
-  three_npm greater x y w p = sym (and-true _)
-  three_npm at_least x y w p = sym (and-true _)
-  three_npm tilde x y w p = exact_block (Spot.second_of_three x y w) p
-  three_npm caret x y w p = exact_caret (leading_of_three x y w) p
-  three_npm bare x y w p = sym (both_eq _)
-  three_npm equal x y w p = sym (both_eq _)
+  three_npm : (operator : Operator) (x y w : ℕ) (p : List IdentifierValue)
+      → meets_operator mode.Npm operator (x ∷ y ∷ w ∷ []) (filled (x ∷ y ∷ w ∷ []) p) v
+      ≡ is_within CrateNpm operator (x ∷ y ∷ w ∷ []) (filled (x ∷ y ∷ w ∷ []) p) v
+  three_npm Less x y w p = sym (not_ge _)
+  three_npm LessOrEqual x y w p = sym (not_gt _)
+  three_npm Greater x y w p = sym (and-true _)
+  three_npm GreaterOrEqual x y w p = sym (and-true _)
+  three_npm Hyphen x y w p = sym (and-true _)
+  three_npm Tilde x y w p = exact_block (Spot.second_of_three x y w) p
+  three_npm Caret x y w p = exact_caret (leading_of_three x y w) p
+  three_npm Bare x y w p = sym (both_eq _)
+  three_npm Equal x y w p = sym (both_eq _)
 
   -- ---- fewer stated numbers, in the crate's dialects
-  abbrev OwnCell : Compat → Dialect → Form → List ℕ → List IdentifierValue → Type 0
-  OwnCell compat dialect form s p = meets_stated compat form s (filled s p) v ≡ is_within dialect form s (filled s p) v
+  abbrev OwnCell : Compat → Dialect → Operator → List ℕ → List IdentifierValue → Type 0
+  OwnCell compat dialect operator s p = meets_stated compat operator s (filled s p) v ≡ is_within dialect operator s (filled s p) v
 
-  own_none : (form : Form) → OwnCell mode.Cargo CrateCargo form [] [] × OwnCell mode.Npm CrateNpm form [] []
-  own_none less = (sym (not_ge _), sym (not_ge _))
-  own_none greater = (sym (not_ge _), sym (not_ge _))
+  own_none : (operator : Operator) → OwnCell mode.Cargo CrateCargo operator [] [] × OwnCell mode.Npm CrateNpm operator [] []
+  own_none Less = (sym (not_ge _), sym (not_ge _))
+  own_none Greater = (sym (not_ge _), sym (not_ge _))
   own_none _ = (sym (and-true _), sym (and-true _))
 
-  own_one : (form : Form) (x : ℕ) → OwnCell mode.Cargo CrateCargo form (x ∷ []) [] × OwnCell mode.Npm CrateNpm form (x ∷ []) []
-  own_one less x = (sym (not_ge _), sym (not_ge _))
-  own_one at_most x = (sym (not_gt _), sym (not_gt _))
-  own_one greater x = (sym (and-true _), sym (and-true _))
-  own_one at_least x = (sym (and-true _), sym (and-true _))
-  own_one tilde x = (exact_block (Spot.first_of_one x) [], exact_block (Spot.first_of_one x) [])
-  own_one caret x = (exact_caret (Spot.first_of_one x) [], exact_caret (Spot.first_of_one x) [])
-  own_one bare x = (exact_block (Spot.first_of_one x) [], exact_block (Spot.first_of_one x) [])
-  own_one equal x = (exact_block (Spot.first_of_one x) [], exact_block (Spot.first_of_one x) [])
+  own_one : (operator : Operator) (x : ℕ) → OwnCell mode.Cargo CrateCargo operator (x ∷ []) [] × OwnCell mode.Npm CrateNpm operator (x ∷ []) []
+  own_one Less x = (sym (not_ge _), sym (not_ge _))
+  own_one LessOrEqual x = (sym (not_gt _), sym (not_gt _))
+  own_one Greater x = (sym (and-true _), sym (and-true _))
+  own_one GreaterOrEqual x = (sym (and-true _), sym (and-true _))
+  own_one Hyphen x = (sym (and-true _), sym (and-true _))
+  own_one Tilde x = (exact_block (Spot.first_of_one x) [], exact_block (Spot.first_of_one x) [])
+  own_one Caret x = (exact_caret (Spot.first_of_one x) [], exact_caret (Spot.first_of_one x) [])
+  own_one Bare x = (exact_block (Spot.first_of_one x) [], exact_block (Spot.first_of_one x) [])
+  own_one Equal x = (exact_block (Spot.first_of_one x) [], exact_block (Spot.first_of_one x) [])
 
-  own_two : (form : Form) (x y : ℕ) → OwnCell mode.Cargo CrateCargo form (x ∷ y ∷ []) [] × OwnCell mode.Npm CrateNpm form (x ∷ y ∷ []) []
-  own_two less x y = (sym (not_ge _), sym (not_ge _))
-  own_two at_most x y = (sym (not_gt _), sym (not_gt _))
-  own_two greater x y = (sym (and-true _), sym (and-true _))
-  own_two at_least x y = (sym (and-true _), sym (and-true _))
-  own_two tilde x y = (exact_block (Spot.second_of_two x y) [], exact_block (Spot.second_of_two x y) [])
-  own_two caret x y = (exact_caret (leading_of_two x y) [], exact_caret (leading_of_two x y) [])
-  own_two bare x y = (exact_block (Spot.second_of_two x y) [], exact_block (Spot.second_of_two x y) [])
-  own_two equal x y = (exact_block (Spot.second_of_two x y) [], exact_block (Spot.second_of_two x y) [])
+  own_two : (operator : Operator) (x y : ℕ) → OwnCell mode.Cargo CrateCargo operator (x ∷ y ∷ []) [] × OwnCell mode.Npm CrateNpm operator (x ∷ y ∷ []) []
+  own_two Less x y = (sym (not_ge _), sym (not_ge _))
+  own_two LessOrEqual x y = (sym (not_gt _), sym (not_gt _))
+  own_two Greater x y = (sym (and-true _), sym (and-true _))
+  own_two GreaterOrEqual x y = (sym (and-true _), sym (and-true _))
+  own_two Hyphen x y = (sym (and-true _), sym (and-true _))
+  own_two Tilde x y = (exact_block (Spot.second_of_two x y) [], exact_block (Spot.second_of_two x y) [])
+  own_two Caret x y = (exact_caret (leading_of_two x y) [], exact_caret (leading_of_two x y) [])
+  own_two Bare x y = (exact_block (Spot.second_of_two x y) [], exact_block (Spot.second_of_two x y) [])
+  own_two Equal x y = (exact_block (Spot.second_of_two x y) [], exact_block (Spot.second_of_two x y) [])
 
-  pub own_within : (form : Form) {s : List ℕ} → Shape s → (p : List IdentifierValue) → ((length s == 3) ≡ false → p ≡ [])
-      → OwnCell mode.Cargo CrateCargo form s p × OwnCell mode.Npm CrateNpm form s p
-  own_within form Shape.none p none = rw (none refl) (own_none form)
-  own_within form (Shape.one x) p none = rw (none refl) (own_one form x)
-  own_within form (Shape.two x y) p none = rw (none refl) (own_two form x y)
-  own_within form (Shape.three x y w) p none = (three_cargo form x y w p, three_npm form x y w p)
+  pub own_within : (operator : Operator) {s : List ℕ} → Shape s → (p : List IdentifierValue) → ((length s == 3) ≡ false → p ≡ [])
+      → OwnCell mode.Cargo CrateCargo operator s p × OwnCell mode.Npm CrateNpm operator s p
+  own_within operator Shape.none p none = rw (none refl) (own_none operator)
+  own_within operator (Shape.one x) p none = rw (none refl) (own_one operator x)
+  own_within operator (Shape.two x y) p none = rw (none refl) (own_two operator x y)
+  own_within operator (Shape.three x y w) p none = (three_cargo operator x y w p, three_npm operator x y w p)
 
   -- ---- Cargo's dialect, with every pre-release within the bounds
-  abbrev AllCell : Form → List ℕ → List IdentifierValue → Type 0
-  AllCell form s p = meets_by_count Included form s (filled s p) v ≡ is_within Cargo form s (filled s p) v
+  abbrev AllCell : Operator → List ℕ → List IdentifierValue → Type 0
+  AllCell operator s p = meets_by_count Included operator s (filled s p) v ≡ is_within Cargo operator s (filled s p) v
 
   at_most_all : (s : List ℕ) → (is_lt (against s v) || (is_eq (against s v) && true)) ≡ not (is_gt (against s v))
   at_most_all s = ap (λ b. is_lt (against s v) || b) (and-true _) ∙ sym (not_gt _ ∙ le_parts _)
@@ -123,44 +129,46 @@ module _ (v : PlainVersion) where
   caret_two x y = ap (λ b. b && agrees_past_zeros (x ∷ y ∷ []) (numbers v)) (sym (two_from v x y))
       ∙ past_zeros_within v (leading_of_two x y) [] _ (numbers_first v (leading_of_two x y) [])
 
-  all_one : (form : Form) (x : ℕ) → AllCell form (x ∷ []) []
-  all_one less x = sym (not_ge _)
-  all_one at_most x = at_most_all (x ∷ [])
-  all_one greater x = sym (and-true _)
-  all_one at_least x = at_least_all (x ∷ []) _ (one_from v x)
-  all_one caret x = caret_one x
-  all_one tilde x = equal_all (x ∷ []) _ (one_from v x)
-  all_one bare x = equal_all (x ∷ []) _ (one_from v x)
-  all_one equal x = equal_all (x ∷ []) _ (one_from v x)
+  all_one : (operator : Operator) (x : ℕ) → AllCell operator (x ∷ []) []
+  all_one Less x = sym (not_ge _)
+  all_one LessOrEqual x = at_most_all (x ∷ [])
+  all_one Greater x = sym (and-true _)
+  all_one GreaterOrEqual x = at_least_all (x ∷ []) _ (one_from v x)
+  all_one Hyphen x = at_least_all (x ∷ []) _ (one_from v x)
+  all_one Caret x = caret_one x
+  all_one Tilde x = equal_all (x ∷ []) _ (one_from v x)
+  all_one Bare x = equal_all (x ∷ []) _ (one_from v x)
+  all_one Equal x = equal_all (x ∷ []) _ (one_from v x)
 
-  all_two : (form : Form) (x y : ℕ) → AllCell form (x ∷ y ∷ []) []
-  all_two less x y = sym (not_ge _)
-  all_two at_most x y = at_most_all (x ∷ y ∷ [])
-  all_two greater x y = sym (and-true _)
-  all_two at_least x y = at_least_all (x ∷ y ∷ []) _ (two_from v x y)
-  all_two caret x y = caret_two x y
-  all_two tilde x y = equal_all (x ∷ y ∷ []) _ (two_from v x y)
-  all_two bare x y = equal_all (x ∷ y ∷ []) _ (two_from v x y)
-  all_two equal x y = equal_all (x ∷ y ∷ []) _ (two_from v x y)
+  all_two : (operator : Operator) (x y : ℕ) → AllCell operator (x ∷ y ∷ []) []
+  all_two Less x y = sym (not_ge _)
+  all_two LessOrEqual x y = at_most_all (x ∷ y ∷ [])
+  all_two Greater x y = sym (and-true _)
+  all_two GreaterOrEqual x y = at_least_all (x ∷ y ∷ []) _ (two_from v x y)
+  all_two Hyphen x y = at_least_all (x ∷ y ∷ []) _ (two_from v x y)
+  all_two Caret x y = caret_two x y
+  all_two Tilde x y = equal_all (x ∷ y ∷ []) _ (two_from v x y)
+  all_two Bare x y = equal_all (x ∷ y ∷ []) _ (two_from v x y)
+  all_two Equal x y = equal_all (x ∷ y ∷ []) _ (two_from v x y)
 
-  three_as : (form : Form) (x y w : ℕ) (p : List IdentifierValue)
-      → is_within CrateCargo form (x ∷ y ∷ w ∷ []) (filled (x ∷ y ∷ w ∷ []) p) v
-      ≡ is_within Cargo form (x ∷ y ∷ w ∷ []) (filled (x ∷ y ∷ w ∷ []) p) v
-  three_as greater x y w p = refl
-  three_as less x y w p = refl
+  three_as : (operator : Operator) (x y w : ℕ) (p : List IdentifierValue)
+      → is_within CrateCargo operator (x ∷ y ∷ w ∷ []) (filled (x ∷ y ∷ w ∷ []) p) v
+      ≡ is_within Cargo operator (x ∷ y ∷ w ∷ []) (filled (x ∷ y ∷ w ∷ []) p) v
+  three_as Greater x y w p = refl
+  three_as Less x y w p = refl
   three_as _ x y w p = refl
 
-  pub cargo_all : (form : Form) {s : List ℕ} → Shape s → (p : List IdentifierValue) → ((length s == 3) ≡ false → p ≡ [])
-      → AllCell form s p
-  cargo_all form Shape.none p none = sym (and-true _ ∙ none_from v)
-  cargo_all form (Shape.one x) p none = rw (none refl) (all_one form x)
-  cargo_all form (Shape.two x y) p none = rw (none refl) (all_two form x y)
-  cargo_all form (Shape.three x y w) p none = three_cargo form x y w p ∙ three_as form x y w p
+  pub cargo_all : (operator : Operator) {s : List ℕ} → Shape s → (p : List IdentifierValue) → ((length s == 3) ≡ false → p ≡ [])
+      → AllCell operator s p
+  cargo_all operator Shape.none p none = sym (and-true _ ∙ none_from v)
+  cargo_all operator (Shape.one x) p none = rw (none refl) (all_one operator x)
+  cargo_all operator (Shape.two x y) p none = rw (none refl) (all_two operator x y)
+  cargo_all operator (Shape.three x y w) p none = three_cargo operator x y w p ∙ three_as operator x y w p
 
   -- ---- Cargo's dialect by default, for releases
   module _ (release : v.pre ≡ []) where
-    abbrev ReleaseCell : Form → List ℕ → List IdentifierValue → Type 0
-    ReleaseCell form s p = meets_by_count ByDialect form s (filled s p) v ≡ is_within Cargo form s (filled s p) v
+    abbrev ReleaseCell : Operator → List ℕ → List IdentifierValue → Type 0
+    ReleaseCell operator s p = meets_by_count ByDialect operator s (filled s p) v ≡ is_within Cargo operator s (filled s p) v
 
     is_release : is_empty v.pre ≡ true
     is_release = ap is_empty release
@@ -168,37 +176,39 @@ module _ (v : PlainVersion) where
     numbers_from : (z : PlainVersion) → z.pre ≡ [] → is_ge (precedence v z) ≡ is_ge (first_numbers 3 v z)
     numbers_from z none = search rules
 
-    release_one : (form : Form) (x : ℕ) → ReleaseCell form (x ∷ []) []
-    release_one less x = sym (ap not (numbers_from (filled (x ∷ []) []) refl) ∙ not_ge _ ∙ one_below v x)
-    release_one at_most x = rw is_release (at_most_all (x ∷ []))
-    release_one greater x = sym (and-true _)
-    release_one at_least x = rw is_release (at_least_all (x ∷ []) _ (one_from v x))
-    release_one caret x = caret_one x
-    release_one tilde x = rw is_release (equal_all (x ∷ []) _ (one_from v x))
-    release_one bare x = rw is_release (equal_all (x ∷ []) _ (one_from v x))
-    release_one equal x = rw is_release (equal_all (x ∷ []) _ (one_from v x))
+    release_one : (operator : Operator) (x : ℕ) → ReleaseCell operator (x ∷ []) []
+    release_one Less x = sym (ap not (numbers_from (filled (x ∷ []) []) refl) ∙ not_ge _ ∙ one_below v x)
+    release_one LessOrEqual x = rw is_release (at_most_all (x ∷ []))
+    release_one Greater x = sym (and-true _)
+    release_one GreaterOrEqual x = rw is_release (at_least_all (x ∷ []) _ (one_from v x))
+    release_one Hyphen x = rw is_release (at_least_all (x ∷ []) _ (one_from v x))
+    release_one Caret x = caret_one x
+    release_one Tilde x = rw is_release (equal_all (x ∷ []) _ (one_from v x))
+    release_one Bare x = rw is_release (equal_all (x ∷ []) _ (one_from v x))
+    release_one Equal x = rw is_release (equal_all (x ∷ []) _ (one_from v x))
 
-    release_two : (form : Form) (x y : ℕ) → ReleaseCell form (x ∷ y ∷ []) []
-    release_two less x y = sym (ap not (numbers_from (filled (x ∷ y ∷ []) []) refl) ∙ not_ge _ ∙ two_below v x y)
-    release_two at_most x y = rw is_release (at_most_all (x ∷ y ∷ []))
-    release_two greater x y = sym (and-true _)
-    release_two at_least x y = rw is_release (at_least_all (x ∷ y ∷ []) _ (two_from v x y))
-    release_two caret x y = caret_two x y
-    release_two tilde x y = rw is_release (equal_all (x ∷ y ∷ []) _ (two_from v x y))
-    release_two bare x y = rw is_release (equal_all (x ∷ y ∷ []) _ (two_from v x y))
-    release_two equal x y = rw is_release (equal_all (x ∷ y ∷ []) _ (two_from v x y))
+    release_two : (operator : Operator) (x y : ℕ) → ReleaseCell operator (x ∷ y ∷ []) []
+    release_two Less x y = sym (ap not (numbers_from (filled (x ∷ y ∷ []) []) refl) ∙ not_ge _ ∙ two_below v x y)
+    release_two LessOrEqual x y = rw is_release (at_most_all (x ∷ y ∷ []))
+    release_two Greater x y = sym (and-true _)
+    release_two GreaterOrEqual x y = rw is_release (at_least_all (x ∷ y ∷ []) _ (two_from v x y))
+    release_two Hyphen x y = rw is_release (at_least_all (x ∷ y ∷ []) _ (two_from v x y))
+    release_two Caret x y = caret_two x y
+    release_two Tilde x y = rw is_release (equal_all (x ∷ y ∷ []) _ (two_from v x y))
+    release_two Bare x y = rw is_release (equal_all (x ∷ y ∷ []) _ (two_from v x y))
+    release_two Equal x y = rw is_release (equal_all (x ∷ y ∷ []) _ (two_from v x y))
 
-    pub cargo_release : (form : Form) {s : List ℕ} → Shape s → (p : List IdentifierValue) → ((length s == 3) ≡ false → p ≡ [])
-        → ReleaseCell form s p
-    cargo_release form Shape.none p none = is_release ∙ sym (and-true _ ∙ none_from v)
-    cargo_release form (Shape.one x) p none = rw (none refl) (release_one form x)
-    cargo_release form (Shape.two x y) p none = rw (none refl) (release_two form x y)
-    cargo_release form (Shape.three x y w) p none = three_cargo form x y w p ∙ three_as form x y w p
+    pub cargo_release : (operator : Operator) {s : List ℕ} → Shape s → (p : List IdentifierValue) → ((length s == 3) ≡ false → p ≡ [])
+        → ReleaseCell operator s p
+    cargo_release operator Shape.none p none = is_release ∙ sym (and-true _ ∙ none_from v)
+    cargo_release operator (Shape.one x) p none = rw (none refl) (release_one operator x)
+    cargo_release operator (Shape.two x y) p none = rw (none refl) (release_two operator x y)
+    cargo_release operator (Shape.three x y w) p none = three_cargo operator x y w p ∙ three_as operator x y w p
 
   -- ---- Cargo's dialect by default, for pre-releases
   module _ (pre_release : is_empty v.pre ≡ false) where
-    abbrev CountedCell : Form → List ℕ → List IdentifierValue → Type 0
-    CountedCell form s p = meets_by_count ByDialect form s (filled s p) v ≡ is_counted_within Cargo form s (filled s p) v
+    abbrev CountedCell : Operator → List ℕ → List IdentifierValue → Type 0
+    CountedCell operator s p = meets_by_count ByDialect operator s (filled s p) v ≡ is_counted_within Cargo operator s (filled s p) v
 
     none_of : (b f : Bool) → (b && is_empty v.pre) ≡ (f && not f)
     none_of b f = ap (λ c. b && c) pre_release ∙ and-false b ∙ sym (both_no f)
@@ -206,29 +216,31 @@ module _ (v : PlainVersion) where
     or_none : (a b : Bool) → (a || (b && is_empty v.pre)) ≡ a
     or_none a b = ap (λ c. a || (b && c)) pre_release ∙ ap (λ c. a || c) (and-false b) ∙ or-false a
 
-    counted_one : (form : Form) (x : ℕ) → CountedCell form (x ∷ []) []
-    counted_one less x = sym (not_ge _ ∙ one_below v x)
-    counted_one at_most x = or_none _ _ ∙ sym (not_ge _ ∙ one_below v x)
-    counted_one greater x = sym (and-true _)
-    counted_one at_least x = or_none _ _ ∙ sym (and-true _)
-    counted_one caret x = caret_one x
-    counted_one tilde x = none_of _ _
-    counted_one bare x = none_of _ _
-    counted_one equal x = none_of _ _
+    counted_one : (operator : Operator) (x : ℕ) → CountedCell operator (x ∷ []) []
+    counted_one Less x = sym (not_ge _ ∙ one_below v x)
+    counted_one LessOrEqual x = or_none _ _ ∙ sym (not_ge _ ∙ one_below v x)
+    counted_one Greater x = sym (and-true _)
+    counted_one GreaterOrEqual x = or_none _ _ ∙ sym (and-true _)
+    counted_one Hyphen x = or_none _ _ ∙ sym (and-true _)
+    counted_one Caret x = caret_one x
+    counted_one Tilde x = none_of _ _
+    counted_one Bare x = none_of _ _
+    counted_one Equal x = none_of _ _
 
-    counted_two : (form : Form) (x y : ℕ) → CountedCell form (x ∷ y ∷ []) []
-    counted_two less x y = sym (not_ge _ ∙ two_below v x y)
-    counted_two at_most x y = or_none _ _ ∙ sym (not_ge _ ∙ two_below v x y)
-    counted_two greater x y = sym (and-true _)
-    counted_two at_least x y = or_none _ _ ∙ sym (and-true _)
-    counted_two caret x y = caret_two x y
-    counted_two tilde x y = none_of _ _
-    counted_two bare x y = none_of _ _
-    counted_two equal x y = none_of _ _
+    counted_two : (operator : Operator) (x y : ℕ) → CountedCell operator (x ∷ y ∷ []) []
+    counted_two Less x y = sym (not_ge _ ∙ two_below v x y)
+    counted_two LessOrEqual x y = or_none _ _ ∙ sym (not_ge _ ∙ two_below v x y)
+    counted_two Greater x y = sym (and-true _)
+    counted_two GreaterOrEqual x y = or_none _ _ ∙ sym (and-true _)
+    counted_two Hyphen x y = or_none _ _ ∙ sym (and-true _)
+    counted_two Caret x y = caret_two x y
+    counted_two Tilde x y = none_of _ _
+    counted_two Bare x y = none_of _ _
+    counted_two Equal x y = none_of _ _
 
-    pub cargo_counted : (form : Form) {s : List ℕ} → Shape s → (p : List IdentifierValue) → ((length s == 3) ≡ false → p ≡ [])
-        → CountedCell form s p
-    cargo_counted form Shape.none p none = pre_release ∙ sym (both_no _)
-    cargo_counted form (Shape.one x) p none = rw (none refl) (counted_one form x)
-    cargo_counted form (Shape.two x y) p none = rw (none refl) (counted_two form x y)
-    cargo_counted form (Shape.three x y w) p none = three_cargo form x y w p ∙ three_as form x y w p
+    pub cargo_counted : (operator : Operator) {s : List ℕ} → Shape s → (p : List IdentifierValue) → ((length s == 3) ≡ false → p ≡ [])
+        → CountedCell operator s p
+    cargo_counted operator Shape.none p none = pre_release ∙ sym (both_no _)
+    cargo_counted operator (Shape.one x) p none = rw (none refl) (counted_one operator x)
+    cargo_counted operator (Shape.two x y) p none = rw (none refl) (counted_two operator x y)
+    cargo_counted operator (Shape.three x y w) p none = three_cargo operator x y w p ∙ three_as operator x y w p

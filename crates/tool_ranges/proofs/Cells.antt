@@ -1,18 +1,17 @@
 -- On which side of a zero-filled version a version is, expressed by agreement and comparison with
 -- the stated numbers.
-use Rattle.std.proofs.Common.{◌≡◌, ℕ, Bool, true, false, not, ◌&&◌, ◌||◌, ◌==◌, nat_eq, List, [], ◌∷◌}
+use Rattle.std.proofs.Common.{◌≡◌, ℕ, Bool, true, not, ◌&&◌, ◌||◌, ◌==◌, nat_eq, List, [], ◌∷◌}
 use Rattle.std.proofs.Common.{refl, ap, ◌∙◌}
 use Rattle.std.specs.Ordering.{nat_cmp, ordering_then, is_eq, is_lt, is_le, is_gt, is_ge}
 use Rattle.std.specs.declared.cmp.Ordering.{Ordering}
 use Rattle.std.specs.declared.cmp.Ordering.TheVariants.{Less, Equal, Greater}
-use Rattle.semver_texts.specs.Precedence.{precedence, pre_cmp}
+use Rattle.semver_texts.specs.Precedence.{precedence}
 use Rattle.semver_texts.specs.Versions.{numbers, IdentifierValue, PlainVersion}
 use Rattle.semver_texts.proofs.Lists.{by_test}
 use Rattle.semver_ranges.specs.CrateMeaning.{agrees, agrees_past_zeros}
 use Rattle.semver_ranges.specs.Partials.{filled, leading_place}
 use Rattle.semver_ranges.proofs.CaretPlaces.{same_agreement}
-use Rattle.semver_ranges.specs.ExactBounds.{lowest_pre_release}
-use Rattle.semver_ranges.proofs.Rows.{Step, Tail, same, past, floor, step, and_step as after}
+use Rattle.semver_ranges.proofs.Rows.{Step, step, and_step as after}
 use Rattle.version_sets.specs.Steps.Cuts.{first_numbers}
 use Rattle.tool_ranges.specs.CargoMeaning.{against}
 use Rattle.tool_ranges.proofs.NumberSteps.{not_less, is_less}
@@ -151,14 +150,3 @@ module _ (v : PlainVersion) where
 
   pub none_from : is_ge (first_numbers 3 v (filled [] [])) ≡ true
   none_from = not_less v.major _ minor_ge
-
-  -- a version is at or above the lowest pre-release of three numbers if and only if its numbers
-  -- aren't below these
-  lowest_ge : is_ge (pre_cmp v.pre lowest_pre_release) ≡ true
-  lowest_ge = above_floor (floor v.pre) where
-    above_floor : {o : Ordering} → Tail o false → is_ge o ≡ true
-    above_floor same = refl
-    above_floor past = refl
-
-  pub numbers_ge : (x y w : ℕ) → is_ge (precedence v (filled (x ∷ y ∷ w ∷ []) lowest_pre_release)) ≡ is_ge (against (x ∷ y ∷ w ∷ []) v)
-  numbers_ge x y w = same_ge (after (step v.major x) (after (step v.minor y) (step v.patch w))) _ lowest_ge

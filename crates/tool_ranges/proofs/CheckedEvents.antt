@@ -7,14 +7,12 @@ use Rattle.semver_texts.proofs.Lists.{by_test}
 use Rattle.semver_texts.specs.Texts.{Text}
 use Rattle.semver_texts.specs.declared.grammar.Grammar.{Grammar}
 use Rattle.semver_texts.specs.declared.grammar.Grammar.TheVariants as grammar
-use Rattle.semver_ranges.specs.declared.partial.LowerBounds.{LowerBounds}
 use Rattle.semver_ranges.specs.declared.range_set.RangeError.{RangeError}
 use Rattle.semver_ranges.specs.declared.range_set.RangeError.TheVariants.{NotARange, NumberTooLarge, OutOfMemory}
 use Rattle.semver_ranges.specs.declared.events.Event as read
 use Rattle.semver_ranges.specs.Partials.{states_nothing}
 use Rattle.semver_ranges.specs.Steps.CursorViews.{IsEventOf, IsFirst}
 use Rattle.semver_ranges.specs.RangeTree.{RangeTree, SetTree, Simple, SpellsRangeIn, empty, hyphen, simples}
-use Rattle.semver_ranges.specs.Steps.PartialViews.{begun_as}
 use Rattle.semver_ranges.specs.Terms.{left_side, right_side}
 use Rattle.semver_ranges.specs.Steps.RangeEvents.{Event, event_fits, in_front, next_range, one_simple, put, yielded}
 use Rattle.semver_ranges.specs.CargoGrammar.{as_read}
@@ -70,62 +68,62 @@ next_given g es e after (x, Some others, is, has, whole) = (x, others, is, has, 
 
 -- ---- the events of a text that was read
 
-first_yielded : (lower : LowerBounds) (r : RangeTree) (es : List Event)
-    → (s : Simple) × (others : List Event) × (in_front (yielded lower r) es ≡ one_simple s ∷ others)
-first_yielded lower empty es = (_, _, refl)
-first_yielded lower (simples first others) es = (_, _, refl)
-first_yielded lower (hyphen l r) es = by_test (states_nothing r)
-    (λ y. (left_side (begun_as lower l), es, rw y refl))
+first_yielded : (r : RangeTree) (es : List Event)
+    → (s : Simple) × (others : List Event) × (in_front (yielded r) es ≡ one_simple s ∷ others)
+first_yielded empty es = (_, _, refl)
+first_yielded (simples first others) es = (_, _, refl)
+first_yielded (hyphen l r) es = by_test (states_nothing r)
+    (λ y. (left_side l, es, rw y refl))
     (λ n. by_test (states_nothing l)
     (λ y. (right_side r, es, rw (n, y) refl))
-    (λ m. (left_side (begun_as lower l), one_simple (right_side r) ∷ es, rw (n, m) refl)))
+    (λ m. (left_side l, one_simple (right_side r) ∷ es, rw (n, m) refl)))
 
 -- the first event is a term
-first_of_ranges : (lower : LowerBounds) (g : Grammar) (tree : SetTree) (t : Text) → SpellsRangeIn g tree t
-    → (s : Simple) × (es : List Event) × (events_in (map (yielded lower) tree) ≡ one_simple s ∷ es)
-first_of_ranges lower g [] t spelled = absurd spelled
-first_of_ranges lower g (r ∷ []) t spelled = first_yielded lower r []
-first_of_ranges lower g (r ∷ next ∷ others) t spelled = first_yielded lower r (next_range ∷ events_in (map (yielded lower) (next ∷ others)))
+first_of_ranges : (g : Grammar) (tree : SetTree) (t : Text) → SpellsRangeIn g tree t
+    → (s : Simple) × (es : List Event) × (events_in (map (yielded) tree) ≡ one_simple s ∷ es)
+first_of_ranges g [] t spelled = absurd spelled
+first_of_ranges g (r ∷ []) t spelled = first_yielded r []
+first_of_ranges g (r ∷ next ∷ others) t spelled = first_yielded r (next_range ∷ events_in (map (yielded) (next ∷ others)))
 
-first_event : (lower : LowerBounds) (d : Dialect) (tree : SetTree) (t : Text) → SpellsAs d tree t
-    → (s : Simple) × (es : List Event) × (events_in (ranges_of lower d tree) ≡ one_simple s ∷ es)
-first_event lower Cargo (simples s others ∷ []) t spelled = (as_read s, in_front (map as_read others) [], refl)
-first_event lower Cargo _ t spelled = absurd spelled.comparators
-first_event lower Npm tree t spelled = first_of_ranges lower grammar.Npm tree t spelled.spelled
-first_event lower d tree t spelled = first_of_ranges lower grammar.Crate tree t spelled
+first_event : (d : Dialect) (tree : SetTree) (t : Text) → SpellsAs d tree t
+    → (s : Simple) × (es : List Event) × (events_in (ranges_of d tree) ≡ one_simple s ∷ es)
+first_event Cargo (simples s others ∷ []) t spelled = (as_read s, in_front (map as_read others) [], refl)
+first_event Cargo _ t spelled = absurd spelled.comparators
+first_event Npm tree t spelled = first_of_ranges grammar.Npm tree t spelled.spelled
+first_event d tree t spelled = first_of_ranges grammar.Crate tree t spelled
 
 -- what is known of a text from its events
-module _ (d : Dialect) (lower : LowerBounds) (t : Text) where
-  read_none : text_events lower d t ≡ None → read_as d t ≡ None
+module _ (d : Dialect) (t : Text) where
+  read_none : text_events d t ≡ None → read_as d t ≡ None
   read_none e = at (read_as d t) e where
-    at : (o : Option SetTree) → option_map (λ tree. events_in (ranges_of lower d tree)) o ≡ None → o ≡ None
+    at : (o : Option SetTree) → option_map (λ tree. events_in (ranges_of d tree)) o ≡ None → o ≡ None
     at None e = refl
     at (Some tree) e = cc
 
-  read_some : (es : List Event) → text_events lower d t ≡ Some es
-      → (tree : SetTree) × (read_as d t ≡ Some tree) × (es ≡ events_in (ranges_of lower d tree))
+  read_some : (es : List Event) → text_events d t ≡ Some es
+      → (tree : SetTree) × (read_as d t ≡ Some tree) × (es ≡ events_in (ranges_of d tree))
   read_some es e = at (read_as d t) refl e where
-    at : (o : Option SetTree) → read_as d t ≡ o → option_map (λ tree. events_in (ranges_of lower d tree)) o ≡ Some es
-        → (tree : SetTree) × (read_as d t ≡ Some tree) × (es ≡ events_in (ranges_of lower d tree))
+    at : (o : Option SetTree) → read_as d t ≡ o → option_map (λ tree. events_in (ranges_of d tree)) o ≡ Some es
+        → (tree : SetTree) × (read_as d t ≡ Some tree) × (es ≡ events_in (ranges_of d tree))
     at None is e = cc
-    at (Some tree) is e = (tree, is, (let same : events_in (ranges_of lower d tree) ≡ es = cc in sym same))
+    at (Some tree) is e = (tree, is, (let same : events_in (ranges_of d tree) ≡ es = cc in sym same))
 
-  begins_simple : (es : List Event) → text_events lower d t ≡ Some es → (s : Simple) × (others : List Event) × (es ≡ one_simple s ∷ others)
+  begins_simple : (es : List Event) → text_events d t ≡ Some es → (s : Simple) × (others : List Event) × (es ≡ one_simple s ∷ others)
   begins_simple es e =
       let read = read_some es e in
-      let first = first_event lower d read.0 t (sound_as d t read.0 read.1) in
+      let first = first_event d read.0 t (sound_as d t read.0 read.1) in
       (first.0, first.1, read.2 ∙ first.2)
 
   -- what is known after the first term and the survey of the others
-  module _ (s : Simple) (f : Bool) (left : Option (List Event)) (after : Events) (first : text_events lower d t ≡ put (one_simple s) left)
+  module _ (s : Simple) (f : Bool) (left : Option (List Event)) (after : Events) (first : text_events d t ≡ put (one_simple s) left)
       (fits : f ≡ term_fits d s) where
     all_events : (es : List Event) (b : Bool) → left ≡ Some es → (f && list_all (event_fits (term_fits d)) es) ≡ b
-        → (tree : SetTree) × (read_as d t ≡ Some tree) × (fits_as d tree ≡ b) × (one_simple s ∷ es ≡ events_in (ranges_of lower d tree))
+        → (tree : SetTree) × (read_as d t ≡ Some tree) × (fits_as d tree ≡ b) × (one_simple s ∷ es ≡ events_in (ranges_of d tree))
     all_events es b is same =
         let read = read_some (one_simple s ∷ es) (first ∙ ap (put (one_simple s)) is) in (
           read.0,
           read.1,
-          sym (ranges_fit lower d t read.0 read.1) ∙ ap (list_all (event_fits (term_fits d))) (sym read.2)
+          sym (ranges_fit d t read.0 read.1) ∙ ap (list_all (event_fits (term_fits d))) (sym read.2)
               ∙ ap (λ b. b && list_all (event_fits (term_fits d)) es) (sym fits) ∙ same,
           read.2,
         )
@@ -136,14 +134,14 @@ module _ (d : Dialect) (lower : LowerBounds) (t : Text) where
     refused OutOfMemory no_error = absurd no_error
 
     pub checked_as : (is_end : Bool) → IsSurveyed d f left (Ok is_end) after
-        → (es : List Event) × IsRead d t (λ tree. one_simple s ∷ es ≡ events_in (ranges_of lower d tree))
+        → (es : List Event) × IsRead d t (λ tree. one_simple s ∷ es ≡ events_in (ranges_of d tree))
         × (is_end ≡ true → es ≡ []) × HasLeft (grammar_of d) after (Some [])
     checked_as is_end (es, is, fit, end, has) = let read = all_events es true is fit in
         (es, (read.0, read.1, read.2, read.3), end, has)
 
-  pub no_separator : (left : Option (List Event)) → text_events lower d t ≡ put next_range left → read_as d t ≡ None
+  pub no_separator : (left : Option (List Event)) → text_events d t ≡ put next_range left → read_as d t ≡ None
   no_separator None e = read_none e
   no_separator (Some es) e = let first = begins_simple (next_range ∷ es) e in absurd (let wrong = first.2 in cc)
 
-  pub no_end : text_events lower d t ≡ Some [] → read_as d t ≡ None
+  pub no_end : text_events d t ≡ Some [] → read_as d t ≡ None
   no_end e = let first = begins_simple [] e in absurd (let wrong = first.2 in cc)

@@ -7,8 +7,12 @@ use Rattle.std.specs.List.{list_all}
 use Rattle.semver_texts.specs.Texts.{Text, is_part_byte}
 use Rattle.semver_texts.specs.declared.grammar.Grammar.TheVariants as grammar
 use Rattle.semver_texts.proofs.Lists.{by_test}
-use Rattle.semver_ranges.specs.RangeTree.{Form, Simple, is_blank, AreBlanks, bare, equal, less, at_most, greater, at_least, tilde, caret}
-use Rattle.semver_ranges.specs.CargoGrammar.{sign, SpellsComparator, SpellsComparators}
+use Rattle.semver_ranges.specs.declared.operator.Operator.{Operator}
+use Rattle.semver_ranges.specs.declared.operator.Operator.TheVariants.{Bare, Equal, Less, LessOrEqual, Greater, GreaterOrEqual, Tilde}
+use Rattle.semver_ranges.specs.declared.operator.Operator.TheVariants.{Caret, Hyphen}
+use Rattle.semver_ranges.specs.RangeTree.{Simple, is_blank, AreBlanks}
+use Rattle.semver_ranges.specs.CargoGrammar.{SpellsComparator, SpellsComparators}
+use Rattle.semver_ranges.specs.OperatorTable.{sign}
 use Rattle.semver_ranges.proofs.WordBytes.{partial_bytes}
 use Rattle.tool_ranges.specs.Steps.TextEvents.{commas}
 
@@ -30,15 +34,16 @@ blanks_no_commas (b ∷ t) e =
     let parts = and_parts (is_blank grammar.Cargo b) _ e in
     rw (eqb-true b 32 parts.0) (blanks_no_commas t parts.1)
 
-sign_no_commas : (f : Form) → commas (sign f) ≡ 0
-sign_no_commas bare = refl
-sign_no_commas equal = refl
-sign_no_commas less = refl
-sign_no_commas at_most = refl
-sign_no_commas greater = refl
-sign_no_commas at_least = refl
-sign_no_commas tilde = refl
-sign_no_commas caret = refl
+sign_no_commas : (f : Operator) → commas (sign f) ≡ 0
+sign_no_commas Bare = refl
+sign_no_commas Equal = refl
+sign_no_commas Less = refl
+sign_no_commas LessOrEqual = refl
+sign_no_commas Greater = refl
+sign_no_commas GreaterOrEqual = refl
+sign_no_commas Tilde = refl
+sign_no_commas Caret = refl
+sign_no_commas Hyphen = refl
 
 part_no_comma : (b : ℕ) → is_part_byte b ≡ true → not (b == 44) ≡ true
 part_no_comma b e = grind (arith, nat_tests)
@@ -48,12 +53,12 @@ comparator_commas s t h =
     let word = no_commas h.word (partial_bytes (λ b. not (b == 44)) part_no_comma refl refl refl s.partial h.word h.partial) in
     rw (
       h.text,
-      commas_append h.before (sign s.form ++ (h.gap ++ (h.word ++ h.after))),
-      commas_append (sign s.form) (h.gap ++ (h.word ++ h.after)),
+      commas_append h.before (sign s.operator ++ (h.gap ++ (h.word ++ h.after))),
+      commas_append (sign s.operator) (h.gap ++ (h.word ++ h.after)),
       commas_append h.gap (h.word ++ h.after),
       commas_append h.word h.after,
       blanks_no_commas h.before h.before_is,
-      sign_no_commas s.form,
+      sign_no_commas s.operator,
       blanks_no_commas h.gap h.gap_is,
       word,
       blanks_no_commas h.after h.after_is,
@@ -70,4 +75,4 @@ comparators_commas (s ∷ next ∷ others) t (front, back, h, more, text) =
 
 pub commas_within : (t : Text) → commas t ≤ length t
 commas_within [] = omega arith
-commas_within (b ∷ t) = let less = commas_within t in by_test (b == 44) (λ y. rw y (omega (arith, less))) (λ n. rw n (omega (arith, less)))
+commas_within (b ∷ t) = let Less = commas_within t in by_test (b == 44) (λ y. rw y (omega (arith, Less))) (λ n. rw n (omega (arith, Less)))

@@ -12,7 +12,6 @@ use Rattle.semver_texts.specs.declared.grammar.Grammar.TheVariants as grammar
 use Rattle.semver_ranges.specs.Partials.{states_nothing}
 use Rattle.semver_ranges.specs.RangeTree.{Simple, SetTree, simples, is_blank}
 use Rattle.semver_ranges.specs.CargoGrammar.{as_read, SpellsComparator, SpellsComparators, SpellsRequirement, stands_alone}
-use Rattle.semver_ranges.specs.declared.partial.LowerBounds.{LowerBounds}
 use Rattle.semver_ranges.specs.TextItems.{Item, empty_range, one_term, two_bars}
 use Rattle.semver_ranges.specs.Steps.FoundItems.{comparator, comparator_at, items_left, simple_of}
 use Rattle.semver_ranges.specs.Steps.Reading.{after_blanks, front}
@@ -184,28 +183,28 @@ requirement_complete t _ h = absurd h.comparators
 
 -- ---- events of ranges
 
-pub requirement_events : (lower : LowerBounds) (o : Option (List Simple))
-    → option_map (λ tree. events_in (ranges_of lower Cargo tree)) (option_map tree_of o) ≡ option_map (λ ss. in_front (map as_read ss) []) o
-requirement_events lower None = refl
-requirement_events lower (Some []) = refl
-requirement_events lower (Some (first ∷ others)) = refl
+pub requirement_events : (o : Option (List Simple))
+    → option_map (λ tree. events_in (ranges_of Cargo tree)) (option_map tree_of o) ≡ option_map (λ ss. in_front (map as_read ss) []) o
+requirement_events None = refl
+requirement_events (Some []) = refl
+requirement_events (Some (first ∷ others)) = refl
 
-pub same_ranges : (lower : LowerBounds) (tree : SetTree) → events_of lower tree ≡ events_in (map (yielded lower) tree)
-same_ranges lower [] = refl
-same_ranges lower (r ∷ []) = refl
-same_ranges lower (r ∷ next ∷ others) = ap (λ es. in_front (yielded lower r) (next_range ∷ es)) (same_ranges lower (next ∷ others))
+pub same_ranges : (tree : SetTree) → events_of tree ≡ events_in (map yielded tree)
+same_ranges [] = refl
+same_ranges (r ∷ []) = refl
+same_ranges (r ∷ next ∷ others) = ap (λ es. in_front (yielded r) (next_range ∷ es)) (same_ranges (next ∷ others))
 
-pub same_events : (lower : LowerBounds) (o : Option SetTree) → set_events lower o ≡ option_map (λ tree. events_in (map (yielded lower) tree)) o
-same_events lower None = refl
-same_events lower (Some tree) = ap Some (same_ranges lower tree)
+pub same_events : (o : Option SetTree) → set_events o ≡ option_map (λ tree. events_in (map yielded tree)) o
+same_events None = refl
+same_events (Some tree) = ap Some (same_ranges tree)
 
 -- the events of a text that may be a range
-module _ (lower : LowerBounds) (t : Text) where
-  ranges_as : (g : Grammar) → is_cargo g ≡ false → events g lower t ≡ option_map (λ tree. events_in (map (yielded lower) tree)) (read g t)
-  ranges_as g other = rw other (sym (begin_left g lower t (after_blanks g t) refl)) ∙ same_events lower (read g t)
+module _ (t : Text) where
+  ranges_as : (g : Grammar) → is_cargo g ≡ false → events g t ≡ option_map (λ tree. events_in (map yielded tree)) (read g t)
+  ranges_as g other = rw other (sym (begin_left g t (after_blanks g t) refl)) ∙ same_events (read g t)
 
-  pub events_as : (d : Dialect) → may_be_a_range d t ≡ true → events (grammar_of d) lower t ≡ text_events lower d t
-  events_as Cargo may = rw may (sym (requirement_events lower (comparators_left true (after_blanks grammar.Cargo t))))
+  pub events_as : (d : Dialect) → may_be_a_range d t ≡ true → events (grammar_of d) t ≡ text_events d t
+  events_as Cargo may = rw may (sym (requirement_events (comparators_left true (after_blanks grammar.Cargo t))))
   events_as Npm may = rw may (ranges_as grammar.Npm refl)
   events_as CrateCargo may = ranges_as grammar.Crate refl
   events_as CrateNpm may = ranges_as grammar.Crate refl

@@ -11,10 +11,13 @@ use Rattle.semver_texts.specs.Texts.{is_empty}
 use Rattle.semver_texts.specs.Versions.{numbers, IdentifierValue, PlainVersion}
 use Rattle.semver_ranges.specs.declared.grammar.Simple as read
 use Rattle.semver_ranges.specs.declared.range.Compat.TheVariants as mode
-use Rattle.semver_ranges.specs.RangeTree.{Form, Simple, bare, equal, less, at_most, greater, at_least, tilde, caret}
+use Rattle.semver_ranges.specs.declared.operator.Operator.{Operator}
+use Rattle.semver_ranges.specs.declared.operator.Operator.TheVariants.{Bare, Equal, Less, LessOrEqual, Greater, GreaterOrEqual, Tilde}
+use Rattle.semver_ranges.specs.declared.operator.Operator.TheVariants.{Caret, Hyphen}
+use Rattle.semver_ranges.specs.RangeTree.{Simple}
 use Rattle.semver_ranges.specs.Partials.{filled, fits_u64, pre_release, stated, zero_filled}
 use Rattle.semver_ranges.specs.RewritingTable.{bound_fits, cell, cell_raised, raised_bound, simple_fits, up}
-use Rattle.semver_ranges.specs.Steps.CursorViews.{IsSimpleOf, form_of}
+use Rattle.semver_ranges.specs.Steps.CursorViews.{IsSimpleOf}
 use Rattle.semver_ranges.specs.Steps.PartialViews.{stated_of, version_of}
 use Rattle.semver_ranges.specs.Terms.{of_simple}
 use Rattle.semver_ranges.proofs.Rows.{Shape}
@@ -48,59 +51,62 @@ module _ (small : ℕ → Bool) (most : ℕ) (is_small : (n : ℕ) → small n �
       rw ((and_parts (small x) _ all).0, (and_parts (small y) _ more).0) (sym (and-true _ ∙ next w))
 
   -- whether the numbers that are raised for the sides are small
-  abbrev Rises : Dialect → Form → List ℕ → List IdentifierValue → Option PlainVersion → Type 0
-  Rises d form s p bound = (may_rise most (sides d form s (not (is_empty p))).0 (numbers (filled s p))
-      && may_rise most (sides d form s (not (is_empty p))).1 (numbers (filled s p))) ≡ small_bound bound
+  abbrev Rises : Dialect → Operator → List ℕ → List IdentifierValue → Option PlainVersion → Type 0
+  Rises d operator s p bound = (may_rise most (sides d operator s (not (is_empty p))).0 (numbers (filled s p))
+      && may_rise most (sides d operator s (not (is_empty p))).1 (numbers (filled s p))) ≡ small_bound bound
 
   -- the crate's dialects
-  own_one : (form : Form) (x : ℕ) → list_all small (x ∷ []) ≡ true
-      → Rises CrateCargo form (x ∷ []) [] (cell_raised (cell mode.Cargo form (x ∷ [])) (x ∷ []))
-      × Rises CrateNpm form (x ∷ []) [] (cell_raised (cell mode.Npm form (x ∷ [])) (x ∷ []))
-  own_one less x all = (refl, refl)
-  own_one at_most x all = (may (Spot.first_of_one x) [] all, may (Spot.first_of_one x) [] all)
-  own_one greater x all = (refl, refl)
-  own_one at_least x all = (refl, refl)
-  own_one tilde x all = (may (Spot.first_of_one x) [] all, may (Spot.first_of_one x) [] all)
-  own_one caret x all = (may (Spot.first_of_one x) [] all, may (Spot.first_of_one x) [] all)
-  own_one bare x all = (may (Spot.first_of_one x) [] all, may (Spot.first_of_one x) [] all)
-  own_one equal x all = (may (Spot.first_of_one x) [] all, may (Spot.first_of_one x) [] all)
+  own_one : (operator : Operator) (x : ℕ) → list_all small (x ∷ []) ≡ true
+      → Rises CrateCargo operator (x ∷ []) [] (cell_raised (cell mode.Cargo operator (x ∷ [])) (x ∷ []))
+      × Rises CrateNpm operator (x ∷ []) [] (cell_raised (cell mode.Npm operator (x ∷ [])) (x ∷ []))
+  own_one Less x all = (refl, refl)
+  own_one LessOrEqual x all = (may (Spot.first_of_one x) [] all, may (Spot.first_of_one x) [] all)
+  own_one Greater x all = (refl, refl)
+  own_one GreaterOrEqual x all = (refl, refl)
+  own_one Hyphen x all = (refl, refl)
+  own_one Tilde x all = (may (Spot.first_of_one x) [] all, may (Spot.first_of_one x) [] all)
+  own_one Caret x all = (may (Spot.first_of_one x) [] all, may (Spot.first_of_one x) [] all)
+  own_one Bare x all = (may (Spot.first_of_one x) [] all, may (Spot.first_of_one x) [] all)
+  own_one Equal x all = (may (Spot.first_of_one x) [] all, may (Spot.first_of_one x) [] all)
 
-  own_two : (form : Form) (x y : ℕ) → list_all small (x ∷ y ∷ []) ≡ true
-      → Rises CrateCargo form (x ∷ y ∷ []) [] (cell_raised (cell mode.Cargo form (x ∷ y ∷ [])) (x ∷ y ∷ []))
-      × Rises CrateNpm form (x ∷ y ∷ []) [] (cell_raised (cell mode.Npm form (x ∷ y ∷ [])) (x ∷ y ∷ []))
-  own_two less x y all = (refl, refl)
-  own_two at_most x y all = (may (Spot.second_of_two x y) [] all, may (Spot.second_of_two x y) [] all)
-  own_two greater x y all = (refl, refl)
-  own_two at_least x y all = (refl, refl)
-  own_two tilde x y all = (may (Spot.second_of_two x y) [] all, may (Spot.second_of_two x y) [] all)
-  own_two caret x y all = (may (leading_of_two x y) [] all, may (leading_of_two x y) [] all)
-  own_two bare x y all = (may (Spot.second_of_two x y) [] all, may (Spot.second_of_two x y) [] all)
-  own_two equal x y all = (may (Spot.second_of_two x y) [] all, may (Spot.second_of_two x y) [] all)
+  own_two : (operator : Operator) (x y : ℕ) → list_all small (x ∷ y ∷ []) ≡ true
+      → Rises CrateCargo operator (x ∷ y ∷ []) [] (cell_raised (cell mode.Cargo operator (x ∷ y ∷ [])) (x ∷ y ∷ []))
+      × Rises CrateNpm operator (x ∷ y ∷ []) [] (cell_raised (cell mode.Npm operator (x ∷ y ∷ [])) (x ∷ y ∷ []))
+  own_two Less x y all = (refl, refl)
+  own_two LessOrEqual x y all = (may (Spot.second_of_two x y) [] all, may (Spot.second_of_two x y) [] all)
+  own_two Greater x y all = (refl, refl)
+  own_two GreaterOrEqual x y all = (refl, refl)
+  own_two Hyphen x y all = (refl, refl)
+  own_two Tilde x y all = (may (Spot.second_of_two x y) [] all, may (Spot.second_of_two x y) [] all)
+  own_two Caret x y all = (may (leading_of_two x y) [] all, may (leading_of_two x y) [] all)
+  own_two Bare x y all = (may (Spot.second_of_two x y) [] all, may (Spot.second_of_two x y) [] all)
+  own_two Equal x y all = (may (Spot.second_of_two x y) [] all, may (Spot.second_of_two x y) [] all)
 
-  own_three : (form : Form) (x y w : ℕ) (p : List IdentifierValue) → list_all small (x ∷ y ∷ w ∷ []) ≡ true
-      → Rises CrateCargo form (x ∷ y ∷ w ∷ []) p (cell_raised (cell mode.Cargo form (x ∷ y ∷ w ∷ [])) (x ∷ y ∷ w ∷ []))
-      × Rises CrateNpm form (x ∷ y ∷ w ∷ []) p (cell_raised (cell mode.Npm form (x ∷ y ∷ w ∷ [])) (x ∷ y ∷ w ∷ []))
-  own_three less x y w p all = (refl, refl)
-  own_three at_most x y w p all = (refl, refl)
-  own_three greater x y w p all = (refl, refl)
-  own_three at_least x y w p all = (refl, refl)
-  own_three tilde x y w p all = (may (Spot.second_of_three x y w) p all, may (Spot.second_of_three x y w) p all)
-  own_three caret x y w p all = (may (leading_of_three x y w) p all, may (leading_of_three x y w) p all)
-  own_three bare x y w p all = (may (leading_of_three x y w) p all, refl)
-  own_three equal x y w p all = (refl, refl)
+  own_three : (operator : Operator) (x y w : ℕ) (p : List IdentifierValue) → list_all small (x ∷ y ∷ w ∷ []) ≡ true
+      → Rises CrateCargo operator (x ∷ y ∷ w ∷ []) p (cell_raised (cell mode.Cargo operator (x ∷ y ∷ w ∷ [])) (x ∷ y ∷ w ∷ []))
+      × Rises CrateNpm operator (x ∷ y ∷ w ∷ []) p (cell_raised (cell mode.Npm operator (x ∷ y ∷ w ∷ [])) (x ∷ y ∷ w ∷ []))
+  own_three Less x y w p all = (refl, refl)
+  own_three LessOrEqual x y w p all = (refl, refl)
+  own_three Greater x y w p all = (refl, refl)
+  own_three GreaterOrEqual x y w p all = (refl, refl)
+  own_three Hyphen x y w p all = (refl, refl)
+  own_three Tilde x y w p all = (may (Spot.second_of_three x y w) p all, may (Spot.second_of_three x y w) p all)
+  own_three Caret x y w p all = (may (leading_of_three x y w) p all, may (leading_of_three x y w) p all)
+  own_three Bare x y w p all = (may (leading_of_three x y w) p all, refl)
+  own_three Equal x y w p all = (refl, refl)
 
-  own_none : (form : Form) (p : List IdentifierValue)
-      → Rises CrateCargo form [] p (cell_raised (cell mode.Cargo form []) []) × Rises CrateNpm form [] p (cell_raised (cell mode.Npm form []) [])
-  own_none less p = (refl, refl)
-  own_none greater p = (refl, refl)
+  own_none : (operator : Operator) (p : List IdentifierValue)
+      → Rises CrateCargo operator [] p (cell_raised (cell mode.Cargo operator []) []) × Rises CrateNpm operator [] p (cell_raised (cell mode.Npm operator []) [])
+  own_none Less p = (refl, refl)
+  own_none Greater p = (refl, refl)
   own_none _ p = (refl, refl)
 
-  pub own_rises : (form : Form) {s : List ℕ} → Shape s → (p : List IdentifierValue) → ((length s == 3) ≡ false → p ≡ []) → list_all small s ≡ true
-      → Rises CrateCargo form s p (cell_raised (cell mode.Cargo form s) s) × Rises CrateNpm form s p (cell_raised (cell mode.Npm form s) s)
-  own_rises form Shape.none p none all = own_none form p
-  own_rises form (Shape.one x) p none all = own_one form x all
-  own_rises form (Shape.two x y) p none all = own_two form x y all
-  own_rises form (Shape.three x y w) p none all = own_three form x y w p all
+  pub own_rises : (operator : Operator) {s : List ℕ} → Shape s → (p : List IdentifierValue) → ((length s == 3) ≡ false → p ≡ []) → list_all small s ≡ true
+      → Rises CrateCargo operator s p (cell_raised (cell mode.Cargo operator s) s) × Rises CrateNpm operator s p (cell_raised (cell mode.Npm operator s) s)
+  own_rises operator Shape.none p none all = own_none operator p
+  own_rises operator (Shape.one x) p none all = own_one operator x all
+  own_rises operator (Shape.two x y) p none all = own_two operator x y all
+  own_rises operator (Shape.three x y w) p none all = own_three operator x y w p all
 
   -- the stated numbers and the raised ones fit
   pub both_fit : (s : List ℕ) (rises fits : Bool) → (list_all small s ≡ true → rises ≡ fits)
@@ -132,9 +138,9 @@ raised_fits spot p all may_be = sym (may fits_u64 (2 ^ 64 - 1) u64_is u64_next r
 pub own_fits : (s : Simple) → (term_fits CrateCargo s ≡ simple_fits mode.Cargo s) × (term_fits CrateNpm s ≡ simple_fits mode.Npm s)
 own_fits s =
     let rises : list_all fits_u64 (stated s.partial) ≡ true
-    → Rises fits_u64 (2 ^ 64 - 1) u64_is u64_next refl CrateCargo s.form (stated s.partial) (pre_release s.partial) (raised_bound mode.Cargo (of_simple s))
-    × Rises fits_u64 (2 ^ 64 - 1) u64_is u64_next refl CrateNpm s.form (stated s.partial) (pre_release s.partial) (raised_bound mode.Npm (of_simple s))
-    = own_rises fits_u64 (2 ^ 64 - 1) u64_is u64_next refl s.form (stated_shape s.partial) (pre_release s.partial) (none_stated s) in (
+    → Rises fits_u64 (2 ^ 64 - 1) u64_is u64_next refl CrateCargo s.operator (stated s.partial) (pre_release s.partial) (raised_bound mode.Cargo (of_simple s))
+    × Rises fits_u64 (2 ^ 64 - 1) u64_is u64_next refl CrateNpm s.operator (stated s.partial) (pre_release s.partial) (raised_bound mode.Npm (of_simple s))
+    = own_rises fits_u64 (2 ^ 64 - 1) u64_is u64_next refl s.operator (stated_shape s.partial) (pre_release s.partial) (none_stated s) in (
       both_fit fits_u64 (2 ^ 64 - 1) u64_is u64_next refl (stated s.partial) _ _
           (λ all. (rises all).0 ∙ same_u64 (raised_bound mode.Cargo (of_simple s))),
       both_fit fits_u64 (2 ^ 64 - 1) u64_is u64_next refl (stated s.partial) _ _
@@ -163,11 +169,11 @@ term_stated d s e = within_all d (stated s.partial) (and_parts _ _ e).0
 -- the same for a term that was read
 module _ (s : Simple) (simple : read.Simple) (is : IsSimpleOf s simple) where
   same_sides : (d : Dialect) → list_all fits_u64 (stated s.partial) ≡ true
-      → sides_fit d (form_of simple.form) (stated_of simple.partial) (version_of simple.partial)
-      ≡ sides_fit d s.form (stated s.partial) (zero_filled s.partial)
+      → sides_fit d simple.operator (stated_of simple.partial) (version_of simple.partial)
+      ≡ sides_fit d s.operator (stated s.partial) (zero_filled s.partial)
   same_sides d fit = let same = is.1.1 (sym is.1.0 ∙ fit) in λ i. sides_fit d (is.0 i) (same.0 i) (same.1 i)
 
-  pub read_fits : (d : Dialect) → (simple.partial.fits && sides_fit d (form_of simple.form) (stated_of simple.partial) (version_of simple.partial))
+  pub read_fits : (d : Dialect) → (simple.partial.fits && sides_fit d simple.operator (stated_of simple.partial) (version_of simple.partial))
       ≡ term_fits d s
   read_fits d = by_test (list_all fits_u64 (stated s.partial))
       (λ y. rw (sym is.1.0 ∙ y) (same_sides d y))
@@ -175,8 +181,8 @@ module _ (s : Simple) (simple : read.Simple) (is : IsSimpleOf s simple) where
 
   -- the same number is raised for its sides
   pub read_raised : (d : Dialect) → list_all (is_within_limit d) (stated s.partial) ≡ true
-      → raised_index (sides d (form_of simple.form) (stated_of simple.partial) (not (is_empty (version_of simple.partial).pre)))
-      ≡ raised_index (sides d s.form (stated s.partial) (not (is_empty (zero_filled s.partial).pre)))
+      → raised_index (sides d simple.operator (stated_of simple.partial) (not (is_empty (version_of simple.partial).pre)))
+      ≡ raised_index (sides d s.operator (stated s.partial) (not (is_empty (zero_filled s.partial).pre)))
   read_raised d all =
       let same = is.1.1 (sym is.1.0 ∙ within_all d (stated s.partial) all) in
       λ i. raised_index (sides d (is.0 i) (same.0 i) (not (is_empty (same.1 i).pre)))

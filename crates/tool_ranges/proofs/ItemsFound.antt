@@ -8,15 +8,16 @@ use Rattle.semver_texts.specs.Texts.{Text, begins_with}
 use Rattle.semver_texts.specs.declared.grammar.Grammar.{Grammar}
 use Rattle.semver_texts.specs.declared.grammar.Grammar.TheVariants as grammar
 use Rattle.semver_ranges.specs.CargoGrammar.{comparators_of, is_cargo}
-use Rattle.semver_ranges.specs.RangeTree.{AreBlanks, PartialTree, after_form, after_hyphen, bare, is_blank}
-use Rattle.semver_ranges.specs.RangeTree.{RangeTree, SetTree, Simple, empty, hyphen, simples}
-use Rattle.semver_ranges.specs.RangeTree.{SpellsSimple, SpellsSimples, SpellsRange, SpellsPadded, SpellsRangeIn, SpellsForm, SpellsWord}
+use Rattle.semver_ranges.specs.declared.operator.Operator.TheVariants.{Bare, Hyphen}
+use Rattle.semver_ranges.specs.RangeTree.{AreBlanks, PartialTree, after_operator, after_hyphen, is_blank, RangeTree, SetTree, Simple, empty}
+use Rattle.semver_ranges.specs.RangeTree.{hyphen, simples, SpellsSimple, SpellsSimples, SpellsRange, SpellsPadded, SpellsRangeIn}
+use Rattle.semver_ranges.specs.RangeTree.{SpellsOperator, SpellsWord}
 use Rattle.semver_ranges.specs.TextItems.{FoundTerm, Item, empty_range, one_term, two_bars}
 use Rattle.semver_ranges.specs.declared.cursor.Event.TheVariants.{Term}
 use Rattle.semver_ranges.specs.declared.term.RawTerm.{RawTerm}
 use Rattle.semver_ranges.specs.Steps.Items.{IsItemOf, IsTermOf}
 use Rattle.semver_ranges.specs.Steps.FoundItems.{item, items_left, upper_word, word_at}
-use Rattle.semver_ranges.specs.Steps.Reading.{after_blanks, ends_range, ends_word, operator}
+use Rattle.semver_ranges.specs.Steps.Reading.{after_blanks, ends_range, ends_word, operator_at}
 use Rattle.semver_ranges.proofs.ReadingComplete.{blanks_end, end_no_hyphen, end_stops, gap_ends, right_read}
 use Rattle.semver_ranges.proofs.ReadingComplete.{simple_no_end, simple_no_hyphen, simple_starts, simple_stops, simples_start}
 use Rattle.semver_ranges.proofs.ItemSteps.{left_next}
@@ -30,19 +31,19 @@ use Rattle.tool_ranges.proofs.Comparators.{comparators_complete}
 
 module _ (d : Grammar) where
   -- the word of a term, after its operator
-  term_word : (s : Simple) (sign word u : Text) → SpellsForm d s.form sign
-      → SpellsWord d (after_form s.form) s.partial word → ends_word d u ≡ true
-      → word_at d (after_form (operator d (sign ++ (word ++ u))).0) (operator d (sign ++ (word ++ u))).1
+  term_word : (s : Simple) (sign word u : Text) → SpellsOperator d s.operator sign
+      → SpellsWord d (after_operator s.operator) s.partial word → ends_word d u ≡ true
+      → word_at d (after_operator (operator_at d (sign ++ (word ++ u))).0) (operator_at d (sign ++ (word ++ u))).1
       ≡ Some (record { partial = s.partial; from = word ++ u; after = u })
-  term_word s sign word u form spelled ends = rw (
-    operator_read d s.form sign (word ++ u) form (starts-append is_word_byte word u (word_starts d (after_form s.form) s.partial word spelled)),
-    partial_read d (after_form s.form) s.partial word u spelled ends,
+  term_word s sign word u operator spelled ends = rw (
+    operator_read d s.operator sign (word ++ u) operator (starts-append is_word_byte word u (word_starts d (after_operator s.operator) s.partial word spelled)),
+    partial_read d (after_operator s.operator) s.partial word u spelled ends,
   ) refl
 
   hyphen_stops : (left right : PartialTree) (t u : Text) → SpellsRange d (hyphen left right) t → stops (is_blank d) (t ++ u) ≡ true
   hyphen_stops left right t u (l, gap, gap', r, spelled, g, g', spelled', whole) =
       rw whole (simp append_assoc (no_blank d (l ++ (gap ++ (45 ∷ (gap' ++ (r ++ u)))))
-      (starts-append is_word_byte l _ (word_starts d (after_form bare) left l spelled))))
+      (starts-append is_word_byte l _ (word_starts d (after_operator Bare) left l spelled))))
 
   module _ (ranges : is_cargo d ≡ false) where
     -- a term that is followed by blanks, and then by text without a blank or a hyphen at its
@@ -50,16 +51,16 @@ module _ (d : Grammar) where
     simple_found : (begins : Bool) (s : Simple) (t gap u : Text) (spelled : SpellsSimple d s t) → AreBlanks d gap
         → ends_word d (gap ++ u) ≡ true → stops (is_blank d) u ≡ true → begins_with 45 u ≡ false
         → items_left d begins (t ++ (gap ++ u)) ≡ simple_item d s t (gap ++ u) spelled ∷ items_left d false u
-    simple_found begins s t gap u (sign, word, form, spelled, whole) g ends stop dash =
+    simple_found begins s t gap u (sign, word, operator, spelled, whole) g ends stop dash =
         let rest = gap ++ u in
-        let here : SpellsSimple d s t = (sign, word, form, spelled, whole) in
+        let here : SpellsSimple d s t = (sign, word, operator, spelled, whole) in
         let text : t ++ rest ≡ sign ++ (word ++ rest) = rw whole (append_assoc sign word rest) in
         let found : item d begins (t ++ rest) ≡ Some (simple_item d s t rest here, u) = rw (
           ranges,
           simple_no_end (t ++ rest) (simple_starts d s t rest here),
           simple_read d s t gap u here g ends stop,
           text,
-          term_word s sign word rest form spelled ends,
+          term_word s sign word rest operator spelled ends,
           dash,
           and-false begins,
         ) refl in
@@ -87,7 +88,7 @@ module _ (d : Grammar) where
     hyphen_found left right t blanks u (l, gap, c ∷ gap', r, spelled, g, g', spelled', whole) b e =
         let rest = blanks ++ u in
         let after = 45 ∷ ((c ∷ gap') ++ (r ++ rest)) in
-        let s : Simple = record { form = bare; partial = left } in
+        let s : Simple = record { operator = Bare; partial = left } in
         let here : SpellsSimple d s l = ([], l, refl, spelled, refl) in
         let text : t ++ rest ≡ l ++ (gap ++ after) = rw whole (simp append_assoc) in
         let right_word : upper_word d after ≡ Some (record { partial = right; from = r ++ rest; after = rest }) = rw (
@@ -98,7 +99,7 @@ module _ (d : Grammar) where
         let found : item d true (l ++ (gap ++ after)) ≡ Some (
           one_term (record {
             from = l ++ (gap ++ after);
-            form = bare;
+            operator = Hyphen;
             version = record { partial = left; from = l ++ (gap ++ after); after = gap ++ after };
             upper = Some (record { partial = right; from = r ++ rest; after = rest });
           }),

@@ -6,7 +6,6 @@ use Rattle.std.specs.List.{list_all, list_any}
 use Rattle.semver_texts.specs.Texts.{Text}
 use Rattle.semver_texts.specs.Versions.{PlainVersion}
 use Rattle.semver_texts.proofs.Lists.{by_test}
-use Rattle.semver_ranges.specs.declared.partial.LowerBounds.{LowerBounds}
 use Rattle.semver_ranges.specs.declared.range_set.RangeError.TheVariants.{NumberTooLarge}
 use Rattle.semver_ranges.specs.RangeTree.{Simple, SetTree, simples}
 use Rattle.semver_ranges.specs.RewritingTable.{term_fits_by}
@@ -22,7 +21,7 @@ use Rattle.semver_ranges.specs.CargoGrammar.{comparators_of}
 use Rattle.tool_ranges.specs.Dialects.{SpellsAs, fits_as}
 use Rattle.tool_ranges.specs.NpmMeaning.{matches_everything}
 use Rattle.tool_ranges.specs.Steps.TextEvents.{events_in, ranges_of, read_as, text_events}
-use Rattle.tool_ranges.specs.Steps.Matching.{Says, after, begun, counts, ended, lower_of, range_every, range_met, taken, term_met}
+use Rattle.tool_ranges.specs.Steps.Matching.{Says, after, begun, counts, ended, range_every, range_met, taken, term_met}
 use Rattle.tool_ranges.specs.Sides.{term_fits}
 use Rattle.tool_ranges.specs.Steps.Reading.{IsRead, IsRefusedAs}
 use Rattle.tool_ranges.proofs.Comparators.{same_ranges}
@@ -36,21 +35,21 @@ comparators_fit : (ss : List Simple) → list_all (event_fits (term_fits Cargo))
 comparators_fit [] = refl
 comparators_fit (s ∷ ss) = ap (λ b. term_fits Cargo (as_read s) && b) (comparators_fit ss)
 
-pub ranges_fit : (lower : LowerBounds) (d : Dialect) (t : Text) (tree : SetTree) → read_as d t ≡ Some tree
-    → list_all (event_fits (term_fits d)) (events_in (ranges_of lower d tree)) ≡ fits_as d tree
-ranges_fit lower Cargo t (simples first others ∷ []) is = comparators_fit (first ∷ others) ∙ sym (and-true _)
-ranges_fit lower Cargo t tree is = absurd (sound_as Cargo t tree is).comparators
-ranges_fit lower d t tree is = ap (list_all (event_fits (term_fits d))) (sym (same_ranges lower tree)) ∙ set_fits (term_table d) lower tree
+pub ranges_fit : (d : Dialect) (t : Text) (tree : SetTree) → read_as d t ≡ Some tree
+    → list_all (event_fits (term_fits d)) (events_in (ranges_of d tree)) ≡ fits_as d tree
+ranges_fit Cargo t (simples first others ∷ []) is = comparators_fit (first ∷ others) ∙ sym (and-true _)
+ranges_fit Cargo t tree is = absurd (sound_as Cargo t tree is).comparators
+ranges_fit d t tree is = ap (list_all (event_fits (term_fits d))) (sym (same_ranges tree)) ∙ set_fits (term_table d) tree
 
 -- a text has at least one range
 abbrev pub HasSome : List (List Simple) → Type 0
 HasSome ranges = (first : List Simple) × (others : List (List Simple)) × (ranges ≡ first ∷ others)
 
-pub some_ranges : (lower : LowerBounds) (d : Dialect) (t : Text) (tree : SetTree) → SpellsAs d tree t → HasSome (ranges_of lower d tree)
-some_ranges lower Cargo t tree h = (map as_read (comparators_of tree), [], refl)
-some_ranges lower Npm t [] h = absurd h.spelled
-some_ranges lower d t [] h = absurd h
-some_ranges lower d t (r ∷ others) h = (yielded lower r, map (yielded lower) others, refl)
+pub some_ranges : (d : Dialect) (t : Text) (tree : SetTree) → SpellsAs d tree t → HasSome (ranges_of d tree)
+some_ranges Cargo t tree h = (map as_read (comparators_of tree), [], refl)
+some_ranges Npm t [] h = absurd h.spelled
+some_ranges d t [] h = absurd h
+some_ranges d t (r ∷ others) h = (yielded r, map (yielded) others, refl)
 
 module _ (d : Dialect) (all : Bool) (v : PlainVersion) where
   -- the progress at the end, from the progress before the events: `None` if the text is not a range,
@@ -127,10 +126,10 @@ module _ (d : Dialect) (all : Bool) (v : PlainVersion) where
   -- the progress after the events of a tree says whether the version satisfies a range of the tree,
   -- and whether some range matches everything
   pub says_so : (t : Text) (tree : SetTree) → SpellsAs d tree t → (progress : Progress)
-      → ended (counts all v) (after d all v (begun (counts all v)) (events_in (ranges_of (lower_of d all) d tree))) ≡ progress
+      → ended (counts all v) (after d all v (begun (counts all v)) (events_in (ranges_of d tree))) ≡ progress
       → Says d all v progress tree
   says_so t tree spelled progress same =
-      let some = some_ranges (lower_of d all) d t tree spelled in
+      let some = some_ranges d t tree spelled in
       let end = sym same ∙ ap (λ rs. ended (counts all v) (after d all v (begun (counts all v)) (events_in rs))) some.2
       ∙ ranges_after some.0 some.1 false false in (
         ap (λ (x : Progress). x.met) end ∙ ap (list_any (range_met d all v)) (sym some.2),
@@ -140,30 +139,30 @@ module _ (d : Dialect) (all : Bool) (v : PlainVersion) where
   -- ---- a whole text
   module _ (t : Text) where
     abbrev Told : Option (Option Progress) → Type 0
-    Told o = told true (begun (counts all v)) (text_events (lower_of d all) d t) ≡ o
+    Told o = told true (begun (counts all v)) (text_events d t) ≡ o
 
     pub large : Told (Some None) → IsRefusedAs d t NumberTooLarge
     large e = at (read_as d t) refl e where
       at : (o : Option SetTree) → read_as d t ≡ o
-          → told true (begun (counts all v)) (option_map (λ tree. events_in (ranges_of (lower_of d all) d tree)) o) ≡ Some None
+          → told true (begun (counts all v)) (option_map (λ tree. events_in (ranges_of d tree)) o) ≡ Some None
           → IsRefusedAs d t NumberTooLarge
       at None is e = cc
       at (Some tree) is e = by_test (fits_as d tree)
-          (λ y. let fit = ranges_fit (lower_of d all) d t tree is ∙ y in
+          (λ y. let fit = ranges_fit d t tree is ∙ y in
           let no : Some (Some _) ≡ Some None = rw fit at e in cc)
           (λ n. (tree, is, n))
 
     pub says : (progress : Progress) → Told (Some (Some progress)) → IsRead d t (Says d all v progress)
     says progress e = at (read_as d t) refl e where
       at : (o : Option SetTree) → read_as d t ≡ o
-          → told true (begun (counts all v)) (option_map (λ tree. events_in (ranges_of (lower_of d all) d tree)) o) ≡ Some (Some progress)
+          → told true (begun (counts all v)) (option_map (λ tree. events_in (ranges_of d tree)) o) ≡ Some (Some progress)
           → IsRead d t (Says d all v progress)
       at None is e = cc
       at (Some tree) is e = by_test (fits_as d tree)
-          (λ y. let fit = ranges_fit (lower_of d all) d t tree is ∙ y in
-          let known : Some (Some (ended (counts all v) (after d all v (begun (counts all v)) (events_in (ranges_of (lower_of d all) d tree)))))
+          (λ y. let fit = ranges_fit d t tree is ∙ y in
+          let known : Some (Some (ended (counts all v) (after d all v (begun (counts all v)) (events_in (ranges_of d tree)))))
           ≡ Some (Some progress) = rw fit at e in
-          let same : ended (counts all v) (after d all v (begun (counts all v)) (events_in (ranges_of (lower_of d all) d tree))) ≡ progress = cc in
+          let same : ended (counts all v) (after d all v (begun (counts all v)) (events_in (ranges_of d tree))) ≡ progress = cc in
           (tree, is, y, says_so t tree (sound_as d t tree is) progress same))
-          (λ n. let fit = ranges_fit (lower_of d all) d t tree is ∙ n in
+          (λ n. let fit = ranges_fit d t tree is ∙ n in
           let no : Some None ≡ Some (Some progress) = rw fit at e in cc)

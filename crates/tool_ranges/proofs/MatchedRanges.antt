@@ -1,29 +1,21 @@
 -- Testing a version with the terms of each range, as they are read, has the result that the
 -- definitions give for the tree.
-use Rattle.std.proofs.Common.{◌≡◌, ℕ, Bool, true, false, ◌&&◌, ◌||◌, ◌==◌, if◌then◌else◌, List, [], ◌∷◌, length, map, refl, sym, ap, ◌∙◌}
+use Rattle.std.proofs.Common.{◌≡◌, Bool, true, false, ◌&&◌, ◌||◌, if◌then◌else◌, List, [], ◌∷◌, map, refl, sym, ap, ◌∙◌}
 use Rattle.std.proofs.Math.Bool.{and-true, or-false}
 use Rattle.std.specs.List.{list_all, list_any}
-use Rattle.std.specs.Ordering.{is_ge}
 use Rattle.std.proofs.lemmas.List.Folds.{list_all-map}
-use Rattle.semver_texts.specs.Precedence.{precedence}
-use Rattle.semver_texts.specs.Texts.{Text, is_empty}
-use Rattle.semver_texts.specs.Versions.{IdentifierValue, PlainVersion, without_build}
+use Rattle.semver_texts.specs.Texts.{is_empty}
+use Rattle.semver_texts.specs.Versions.{PlainVersion, without_build}
 use Rattle.semver_texts.proofs.Lists.{by_test}
-use Rattle.semver_ranges.specs.declared.partial.LowerBounds.TheVariants.{Lowest, Stated}
 use Rattle.semver_ranges.specs.declared.range.Compat.{Compat}
 use Rattle.semver_ranges.specs.declared.range.Compat.TheVariants as mode
-use Rattle.semver_ranges.specs.RangeTree.{PartialTree, RangeTree, Simple, SetTree, empty, hyphen, simples, one, two, three}
-use Rattle.semver_ranges.specs.RangeTree.{at_least, is_wildcard}
-use Rattle.semver_ranges.specs.ExactBounds.{lowest_pre_release}
-use Rattle.semver_ranges.specs.Partials.{filled, stated, states_nothing}
+use Rattle.semver_ranges.specs.RangeTree.{PartialTree, RangeTree, Simple, SetTree, empty, hyphen, simples}
+use Rattle.semver_ranges.specs.Partials.{stated, states_nothing}
 use Rattle.semver_ranges.specs.CrateMeaning.{meets_term}
 use Rattle.semver_ranges.specs.StatedPreReleases.{counts_in, states_pre_release_at}
-use Rattle.semver_ranges.specs.Steps.PartialViews.{begun_as}
 use Rattle.semver_ranges.specs.Terms.{Term, of_nothing, of_simple, left_side, right_side, terms}
 use Rattle.semver_ranges.specs.Steps.RangeEvents.{wildcard, yielded}
-use Rattle.semver_ranges.proofs.Rows.{Shape}
-use Rattle.semver_ranges.proofs.SetMeanings.{stated_shape}
-use Rattle.semver_ranges.proofs.Tables.{begun_stated, nothing_is}
+use Rattle.semver_ranges.proofs.Tables.{nothing_is}
 use Rattle.semver_ranges.proofs.Tests.{list_any-mapped}
 use Rattle.version_sets.specs.PreReleaseRules.{numbers_fit}
 use Rattle.version_sets.specs.declared.rules.PreReleases.{PreReleases}
@@ -32,14 +24,12 @@ use Rattle.tool_ranges.specs.declared.dialect.Dialect.{Dialect}
 use Rattle.tool_ranges.specs.declared.dialect.Dialect.TheVariants.{Cargo, Npm, CrateCargo, CrateNpm}
 use Rattle.tool_ranges.specs.declared.matching.Progress.{Progress}
 use Rattle.semver_ranges.specs.CargoGrammar.{as_read}
-use Rattle.tool_ranges.specs.CargoMeaning.{against}
 use Rattle.semver_ranges.specs.CargoGrammar.{comparators_of}
 use Rattle.tool_ranges.specs.CargoMeaning as cargo
 use Rattle.tool_ranges.specs.Steps.TextEvents.{ranges_of}
 use Rattle.tool_ranges.specs.Meanings.{meant_by}
 use Rattle.tool_ranges.specs.NpmMeaning as npm
 use Rattle.tool_ranges.specs.Steps.Matching.{Says, range_every, range_met, rule_of, is_met, takes_all, term_met}
-use Rattle.tool_ranges.proofs.Cells.{numbers_ge}
 
 and_twice : (b : Bool) → b ≡ (b && (b && true))
 and_twice true = refl
@@ -49,25 +39,11 @@ or_twice : (b : Bool) → (b || false) ≡ (b || (b || false))
 or_twice true = refl
 or_twice false = refl
 
--- what holds for partial versions with three components holds for those that state three numbers
-pub for_three : (P : PartialTree → Type 0)
-    → ((a b c : Text) (pre build : List Text) → (length (stated (three a b c pre build)) == 3) ≡ true → P (three a b c pre build))
-    → (p : PartialTree) → (length (stated p) == 3) ≡ true → P p
-for_three P h (one a) y = by_test (is_wildcard a)
-    (λ w. let short : false ≡ true = rw w at y in cc)
-    (λ n. let short : false ≡ true = rw n at y in cc)
-for_three P h (two a b) y = by_test (is_wildcard a)
-    (λ w. let short : false ≡ true = rw w at y in cc)
-    (λ n. by_test (is_wildcard b)
-    (λ w. let short : false ≡ true = rw (n, w) at y in cc)
-    (λ m. let short : false ≡ true = rw (n, m) at y in cc))
-for_three P h (three a b c pre build) y = h a b c pre build y
-
 -- a test of terms that has the same result for an empty range as for a wildcard, and for both sides
 -- of a hyphen range if neither states a number
 module _ (f : Term → Bool) (nothing : f of_nothing ≡ f (of_simple wildcard))
     (none : (l r : PartialTree) → stated l ≡ [] → stated r ≡ [] → f (of_simple (right_side r)) ≡ f (of_simple (left_side l))) where
-  pub all_terms : (x : RangeTree) → list_all (λ s. f (of_simple s)) (yielded Stated x) ≡ list_all f (terms x)
+  pub all_terms : (x : RangeTree) → list_all (λ s. f (of_simple s)) (yielded x) ≡ list_all f (terms x)
   all_terms empty = rw nothing refl
   all_terms (simples first others) = sym (list_all-map f of_simple (first ∷ others))
   all_terms (hyphen l r) = by_test (states_nothing r)
@@ -78,7 +54,7 @@ module _ (f : Term → Bool) (nothing : f of_nothing ≡ f (of_simple wildcard))
       (λ n. rw (y, n) refl))
       (λ n. by_test (states_nothing l) (λ z. rw (n, z) refl) (λ m. rw (n, m) refl))
 
-  any_terms : (x : RangeTree) → list_any (λ s. f (of_simple s)) (yielded Stated x) ≡ list_any f (terms x)
+  any_terms : (x : RangeTree) → list_any (λ s. f (of_simple s)) (yielded x) ≡ list_any f (terms x)
   any_terms empty = rw nothing refl
   any_terms (simples first others) = sym (list_any-mapped f (λ s. f (of_simple s)) of_simple (λ s. refl) (first ∷ others))
   any_terms (hyphen l r) = by_test (states_nothing r)
@@ -91,16 +67,16 @@ module _ (f : Term → Bool) (nothing : f of_nothing ≡ f (of_simple wildcard))
 module _ (v : PlainVersion) where
   -- whether a version counts in a range, found from the terms as they are read
   counts_so : (r : RangeTree)
-      → (is_empty v.pre || list_any (λ s. states_pre_release_at (of_simple s) v) (yielded Stated r)) ≡ counts_in r v
+      → (is_empty v.pre || list_any (λ s. states_pre_release_at (of_simple s) v) (yielded r)) ≡ counts_in r v
   counts_so r = ap (λ b. is_empty v.pre || b) (any_terms (λ t. states_pre_release_at t v) refl (λ l r a b. rw (a, b) refl) r)
 
   -- ---- npm, by default
   none_met : (p : PartialTree) → states_nothing p ≡ true
       → (npm.meets_one ByDialect (left_side p) v ≡ true) × (npm.meets_one ByDialect (right_side p) v ≡ true)
-      × (npm.meets_left Included p v ≡ true) × (npm.meets_one Included (right_side p) v ≡ true)
+      × (npm.meets_one Included (left_side p) v ≡ true) × (npm.meets_one Included (right_side p) v ≡ true)
   none_met p y = let e = nothing_is (stated p) y in rw e (refl, refl, refl, refl)
 
-  pub default_simples : (r : RangeTree) → list_all (λ s. npm.meets_one ByDialect s v) (yielded Stated r) ≡ npm.meets_range ByDialect r v
+  pub default_simples : (r : RangeTree) → list_all (λ s. npm.meets_one ByDialect s v) (yielded r) ≡ npm.meets_range ByDialect r v
   default_simples empty = refl
   default_simples (simples first others) = refl
   default_simples (hyphen l r) = by_test (states_nothing r)
@@ -109,67 +85,31 @@ module _ (v : PlainVersion) where
       (λ y. rw (n, y, (none_met l y).0) (and-true _))
       (λ m. rw (n, m) (ap (λ b. npm.meets_one ByDialect (left_side l) v && b) (and-true _))))
 
-  default_range : (r : RangeTree) → range_met Npm false v (yielded Stated r) ≡ (npm.meets_range ByDialect r v && counts_in r v)
+  default_range : (r : RangeTree) → range_met Npm false v (yielded r) ≡ (npm.meets_range ByDialect r v && counts_in r v)
   default_range r = λ i. default_simples r i && counts_so r i
 
-  every_range : (r : RangeTree) → range_every (yielded Stated r) ≡ npm.is_every_release r
+  every_range : (r : RangeTree) → range_every (yielded r) ≡ npm.is_every_release r
   every_range r = all_terms npm.matches_everything refl (λ l r' a b. rw (a, b) refl) r
 
   pub npm_default : (tree : SetTree)
-      → (if list_any range_every (map (yielded Stated) tree) then is_empty v.pre
-      else list_any (range_met Npm false v) (map (yielded Stated) tree)) ≡ npm.meets_by_default tree v
-  npm_default tree = λ i. if list_any-mapped range_every npm.is_every_release (yielded Stated) every_range tree i then is_empty v.pre
-      else list_any-mapped (range_met Npm false v) (λ r. npm.meets_range ByDialect r v && counts_in r v) (yielded Stated) default_range tree i
+      → (if list_any range_every (map yielded tree) then is_empty v.pre
+      else list_any (range_met Npm false v) (map yielded tree)) ≡ npm.meets_by_default tree v
+  npm_default tree = λ i. if list_any-mapped range_every npm.is_every_release yielded every_range tree i then is_empty v.pre
+      else list_any-mapped (range_met Npm false v) (λ r. npm.meets_range ByDialect r v && counts_in r v) yielded default_range tree i
 
   -- ---- npm, with every pre-release within the bounds
-  from_lowest : {s : List ℕ} → Shape s → (length s == 3) ≡ true
-      → is_ge (precedence v (filled s lowest_pre_release)) ≡ is_ge (against s v)
-  from_lowest Shape.none e = cc
-  from_lowest (Shape.one x) e = cc
-  from_lowest (Shape.two x y) e = cc
-  from_lowest (Shape.three x y w) e = numbers_ge v x y w
-
-  left_included : (p : PartialTree) → npm.meets_one Included (left_side (begun_as Lowest p)) v ≡ npm.meets_left Included p v
-  left_included p = by_test (length (stated p) == 3) (λ y. whole p y) (λ n. rw (begun_stated Lowest p, n) (few (stated_shape p) n)) where
-    few : {s : List ℕ} → Shape s → (length s == 3) ≡ false
-        → npm.meets_by_count Included at_least s (filled s []) v ≡ npm.is_from_numbers s (filled s []) v
-    few Shape.none n = refl
-    few (Shape.one x) n = refl
-    few (Shape.two x y) n = refl
-    few (Shape.three x y w) n = cc
-
-    three_from : {s : List ℕ} → Shape s → (length s == 3) ≡ true → (p : List IdentifierValue)
-        → npm.meets_by_count Included at_least s (filled s p) v ≡ is_ge (precedence v (filled s p))
-    three_from Shape.none e p = cc
-    three_from (Shape.one x) e p = cc
-    three_from (Shape.two x y) e p = cc
-    three_from (Shape.three x y w) e p = refl
-
-    three_of : (a b c : Text) (pre build : List Text) → (length (stated (three a b c pre build)) == 3) ≡ true
-        → npm.meets_one Included (left_side (begun_as Lowest (three a b c pre build))) v ≡ npm.meets_left Included (three a b c pre build) v
-    three_of a b c [] build y =
-        let from = from_lowest (stated_shape (three a b c [] build)) y in
-        let meets = three_from (stated_shape (three a b c [] build)) y lowest_pre_release in
-        rw y (meets ∙ from)
-    three_of a b c (part ∷ parts) build y =
-        let meets = three_from (stated_shape (three a b c (part ∷ parts) build)) y in rw y (meets _)
-
-    whole : (p : PartialTree) → (length (stated p) == 3) ≡ true
-        → npm.meets_one Included (left_side (begun_as Lowest p)) v ≡ npm.meets_left Included p v
-    whole = for_three (λ p. npm.meets_one Included (left_side (begun_as Lowest p)) v ≡ npm.meets_left Included p v) three_of
-
-  pub included_range : (r : RangeTree) → range_met Npm true v (yielded Lowest r) ≡ npm.meets_range Included r v
+  pub included_range : (r : RangeTree) → range_met Npm true v (yielded r) ≡ npm.meets_range Included r v
   included_range empty = refl
   included_range (simples first others) = and-true _
-  included_range (hyphen left right) = by_test (states_nothing right)
-      (λ y. rw y (and-true _ ∙ (λ i. left_included left i && sym (none_met right y).3 i)))
-      (λ n. by_test (states_nothing left)
-      (λ y. rw (n, y) (and-true _ ∙ and-true _ ∙ (λ i. sym (none_met left y).2 i && npm.meets_one Included (right_side right) v)))
-      (λ m. rw (n, m) (and-true _ ∙ (λ i. left_included left i && and-true (npm.meets_one Included (right_side right) v) i))))
+  included_range (hyphen l r) = by_test (states_nothing r)
+      (λ y. rw (y, (none_met r y).3) (and-true _))
+      (λ n. by_test (states_nothing l)
+      (λ y. rw (n, y, (none_met l y).2) (and-true _ ∙ and-true _))
+      (λ m. rw (n, m) (and-true _ ∙ ap (λ b. npm.meets_one Included (left_side l) v && b) (and-true _))))
 
   npm_included : (tree : SetTree)
-      → list_any (range_met Npm true v) (map (yielded Lowest) tree) ≡ list_any (λ r. npm.meets_range Included r v) tree
-  npm_included tree = list_any-mapped (range_met Npm true v) (λ r. npm.meets_range Included r v) (yielded Lowest) included_range tree
+      → list_any (range_met Npm true v) (map yielded tree) ≡ list_any (λ r. npm.meets_range Included r v) tree
+  npm_included tree = list_any-mapped (range_met Npm true v) (λ r. npm.meets_range Included r v) yielded included_range tree
 
   -- ---- Cargo
   module _ (all : Bool) where
@@ -181,39 +121,39 @@ module _ (v : PlainVersion) where
     some_stated ss = list_any-mapped (λ s. states_pre_release_at (of_simple s) v) (λ s. states_pre_release_at (of_simple s) v) as_read
         (λ s. refl) ss
 
-  pub cargo_default : (tree : SetTree) → list_any (range_met Cargo false v) (ranges_of Stated Cargo tree) ≡ cargo.meets_by_default tree v
+  pub cargo_default : (tree : SetTree) → list_any (range_met Cargo false v) (ranges_of Cargo tree) ≡ cargo.meets_by_default tree v
   cargo_default tree = or-false _
       ∙ (λ i. each_met false (comparators_of tree) i && (is_empty v.pre || some_stated false (comparators_of tree) i))
 
   cargo_included : (tree : SetTree)
-      → list_any (range_met Cargo true v) (ranges_of Stated Cargo tree) ≡ cargo.meets_requirement Included tree v
+      → list_any (range_met Cargo true v) (ranges_of Cargo tree) ≡ cargo.meets_requirement Included tree v
   cargo_included tree = or-false _ ∙ and-true _ ∙ each_met true (comparators_of tree)
 
   -- ---- the crate
   module _ (d : Dialect) (compat : Compat)
       (of : (all : Bool) (s : Simple) → term_met d all v s ≡ meets_term compat (of_simple s) v) where
-    own_terms : (all : Bool) (r : RangeTree) → list_all (term_met d all v) (yielded Stated r) ≡ list_all (λ t. meets_term compat t v) (terms r)
-    own_terms all r = each (yielded Stated r) ∙ all_terms (λ t. meets_term compat t v) refl (λ l r' a b. rw (a, b) refl) r where
+    own_terms : (all : Bool) (r : RangeTree) → list_all (term_met d all v) (yielded r) ≡ list_all (λ t. meets_term compat t v) (terms r)
+    own_terms all r = each (yielded r) ∙ all_terms (λ t. meets_term compat t v) refl (λ l r' a b. rw (a, b) refl) r where
       each : (ss : List Simple) → list_all (term_met d all v) ss ≡ list_all (λ s. meets_term compat (of_simple s) v) ss
       each [] = refl
       each (s ∷ ss) = λ i. of all s i && each ss i
 
-    own_default : (tree : SetTree) → list_any (range_met d false v) (map (yielded Stated) tree)
+    own_default : (tree : SetTree) → list_any (range_met d false v) (map yielded tree)
         ≡ list_any (λ r. list_all (λ t. meets_term compat t v) (terms r) && counts_in r v) tree
     own_default tree = list_any-mapped (range_met d false v) (λ r. list_all (λ t. meets_term compat t v) (terms r) && counts_in r v)
-        (yielded Stated) (λ r i. own_terms false r i && counts_so r i) tree
+        yielded (λ r i. own_terms false r i && counts_so r i) tree
 
-    own_included : (tree : SetTree) → list_any (range_met d true v) (map (yielded Stated) tree)
+    own_included : (tree : SetTree) → list_any (range_met d true v) (map yielded tree)
         ≡ list_any (λ r. list_all (λ t. meets_term compat t v) (terms r)) tree
     own_included tree = list_any-mapped (range_met d true v) (λ r. list_all (λ t. meets_term compat t v) (terms r))
-        (yielded Stated) (λ r. and-true _ ∙ own_terms true r) tree
+        yielded (λ r. and-true _ ∙ own_terms true r) tree
 
-    own_release : (tree : SetTree) → (is_empty v.pre && list_any (range_met d false v) (map (yielded Stated) tree))
+    own_release : (tree : SetTree) → (is_empty v.pre && list_any (range_met d false v) (map yielded tree))
         ≡ (is_empty v.pre && list_any (λ r. list_all (λ t. meets_term compat t v) (terms r)) tree)
     own_release tree = by_test (is_empty v.pre)
         (λ y. ap (λ b. is_empty v.pre && b) (list_any-mapped (range_met d false v) (λ r. list_all (λ t. meets_term compat t v) (terms r))
-        (yielded Stated) (λ r. ap (λ b. list_all (term_met d false v) (yielded Stated r)
-        && (b || list_any (λ s. states_pre_release_at (of_simple s) v) (yielded Stated r))) y ∙ and-true _ ∙ own_terms false r) tree))
+        yielded (λ r. ap (λ b. list_all (term_met d false v) (yielded r)
+        && (b || list_any (λ s. states_pre_release_at (of_simple s) v) (yielded r))) y ∙ and-true _ ∙ own_terms false r) tree))
         (λ n. rw n refl)
 
 -- ---- all dialects

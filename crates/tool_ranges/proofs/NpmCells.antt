@@ -8,7 +8,9 @@ use Rattle.semver_texts.specs.Precedence.{precedence, pre_cmp}
 use Rattle.semver_texts.specs.Texts.{is_empty}
 use Rattle.semver_texts.specs.Versions.{numbers, IdentifierValue, PlainVersion}
 use Rattle.semver_texts.proofs.Lists.{by_test}
-use Rattle.semver_ranges.specs.RangeTree.{Form, bare, equal, less, at_most, greater, at_least, tilde, caret}
+use Rattle.semver_ranges.specs.declared.operator.Operator.{Operator}
+use Rattle.semver_ranges.specs.declared.operator.Operator.TheVariants.{Bare, Equal, Less, LessOrEqual, Greater, GreaterOrEqual, Tilde}
+use Rattle.semver_ranges.specs.declared.operator.Operator.TheVariants.{Caret, Hyphen}
 use Rattle.semver_ranges.specs.CrateMeaning.{agrees, agrees_past_zeros}
 use Rattle.semver_ranges.specs.Partials.{filled, leading_place}
 use Rattle.semver_ranges.proofs.Rows.{Shape, step}
@@ -25,12 +27,12 @@ use Rattle.tool_ranges.proofs.Cells.{not_ge, not_gt, both_eq, one_from, two_from
 
 module _ (v : PlainVersion) where
   -- ---- with every pre-release within the bounds
-  abbrev AllCell : Form → List ℕ → List IdentifierValue → Type 0
-  AllCell form s p = meets_by_count Included form s (filled s p) v ≡ is_within Npm form s (filled s p) v
+  abbrev AllCell : Operator → List ℕ → List IdentifierValue → Type 0
+  AllCell operator s p = meets_by_count Included operator s (filled s p) v ≡ is_within Npm operator s (filled s p) v
 
-  all_none : (form : Form) → AllCell form [] []
-  all_none less = ap not (sym (none_from v))
-  all_none greater = ap not (sym (none_from v))
+  all_none : (operator : Operator) → AllCell operator [] []
+  all_none Less = ap not (sym (none_from v))
+  all_none Greater = ap not (sym (none_from v))
   all_none _ = sym (and-true _ ∙ none_from v)
 
   -- versions that agree with one or two stated numbers
@@ -44,29 +46,31 @@ module _ (v : PlainVersion) where
   two_block x y = ap (λ b. b && agrees 2 (x ∷ y ∷ []) v) (sym (two_from v x y))
       ∙ agrees_within v (Spot.second_of_two x y) [] _ (numbers_first v (Spot.second_of_two x y) [])
 
-  all_one : (form : Form) (x : ℕ) → AllCell form (x ∷ []) []
-  all_one less x = sym (not_ge _ ∙ one_below v x)
-  all_one at_most x = sym (not_gt _)
-  all_one greater x = sym (and-true _)
-  all_one at_least x = sym (and-true _ ∙ one_from v x)
-  all_one caret x = ap (λ b. b && agrees_past_zeros (x ∷ []) (numbers v)) (sym (one_from v x))
+  all_one : (operator : Operator) (x : ℕ) → AllCell operator (x ∷ []) []
+  all_one Less x = sym (not_ge _ ∙ one_below v x)
+  all_one LessOrEqual x = sym (not_gt _)
+  all_one Greater x = sym (and-true _)
+  all_one GreaterOrEqual x = sym (and-true _ ∙ one_from v x)
+  all_one Hyphen x = sym (and-true _ ∙ one_from v x)
+  all_one Caret x = ap (λ b. b && agrees_past_zeros (x ∷ []) (numbers v)) (sym (one_from v x))
       ∙ past_zeros_within v (Spot.first_of_one x) [] _ (numbers_first v (Spot.first_of_one x) [])
-  all_one tilde x = agrees_within v (Spot.first_of_one x) [] _ (from_first v (Spot.first_of_one x) [])
-  all_one bare x = one_block x
-  all_one equal x = one_block x
+  all_one Tilde x = agrees_within v (Spot.first_of_one x) [] _ (from_first v (Spot.first_of_one x) [])
+  all_one Bare x = one_block x
+  all_one Equal x = one_block x
 
-  all_two : (form : Form) (x y : ℕ) → AllCell form (x ∷ y ∷ []) []
-  all_two less x y = sym (not_ge _ ∙ two_below v x y)
-  all_two at_most x y = sym (not_gt _)
-  all_two greater x y = sym (and-true _)
-  all_two at_least x y = sym (and-true _ ∙ two_from v x y)
-  all_two caret x y = ap (λ b. b && agrees_past_zeros (x ∷ y ∷ []) (numbers v)) (sym (two_from v x y))
+  all_two : (operator : Operator) (x y : ℕ) → AllCell operator (x ∷ y ∷ []) []
+  all_two Less x y = sym (not_ge _ ∙ two_below v x y)
+  all_two LessOrEqual x y = sym (not_gt _)
+  all_two Greater x y = sym (and-true _)
+  all_two GreaterOrEqual x y = sym (and-true _ ∙ two_from v x y)
+  all_two Hyphen x y = sym (and-true _ ∙ two_from v x y)
+  all_two Caret x y = ap (λ b. b && agrees_past_zeros (x ∷ y ∷ []) (numbers v)) (sym (two_from v x y))
       ∙ past_zeros_within v (leading_of_two x y) [] _ (numbers_first v (leading_of_two x y) [])
-  all_two tilde x y = agrees_within v (Spot.second_of_two x y) [] _ (from_first v (Spot.second_of_two x y) [])
-  all_two bare x y = two_block x y
-  all_two equal x y = two_block x y
+  all_two Tilde x y = agrees_within v (Spot.second_of_two x y) [] _ (from_first v (Spot.second_of_two x y) [])
+  all_two Bare x y = two_block x y
+  all_two Equal x y = two_block x y
 
-  all_caret : (x y w : ℕ) (p : List IdentifierValue) → AllCell caret (x ∷ y ∷ w ∷ []) p
+  all_caret : (x y w : ℕ) (p : List IdentifierValue) → AllCell Caret (x ∷ y ∷ w ∷ []) p
   all_caret x y w [] = by_test (x == 0)
       (λ z. let cell = past_zeros_within v (leading_of_three x y w) [] (is_ge (first_numbers 3 v (filled (x ∷ y ∷ w ∷ []) [])))
       (numbers_first v (leading_of_three x y w) []) in rw z (rw z at cell))
@@ -75,21 +79,23 @@ module _ (v : PlainVersion) where
       (λ z. let cell = past_zeros_within v (leading_of_three x y w) (i ∷ p) _ (from_first v (leading_of_three x y w) (i ∷ p)) in rw z (rw z at cell))
       (λ n. let cell = past_zeros_within v (leading_of_three x y w) (i ∷ p) _ (from_first v (leading_of_three x y w) (i ∷ p)) in rw n (rw n at cell))
 
-  all_three : (form : Form) (x y w : ℕ) (p : List IdentifierValue) → AllCell form (x ∷ y ∷ w ∷ []) p
-  all_three less x y w p = sym (not_ge _)
-  all_three at_most x y w p = sym (not_gt _)
-  all_three greater x y w p = sym (and-true _)
-  all_three at_least x y w p = sym (and-true _)
-  all_three caret x y w p = all_caret x y w p
-  all_three tilde x y w p = agrees_within v (Spot.second_of_three x y w) p _ (from_first v (Spot.second_of_three x y w) p)
-  all_three bare x y w p = sym (both_eq _)
-  all_three equal x y w p = sym (both_eq _)
+  all_three : (operator : Operator) (x y w : ℕ) (p : List IdentifierValue) → AllCell operator (x ∷ y ∷ w ∷ []) p
+  all_three Less x y w p = sym (not_ge _)
+  all_three LessOrEqual x y w p = sym (not_gt _)
+  all_three Greater x y w p = sym (and-true _)
+  all_three GreaterOrEqual x y w p = sym (and-true _)
+  all_three Hyphen x y w [] = sym (and-true _)
+  all_three Hyphen x y w (i ∷ p) = sym (and-true _)
+  all_three Caret x y w p = all_caret x y w p
+  all_three Tilde x y w p = agrees_within v (Spot.second_of_three x y w) p _ (from_first v (Spot.second_of_three x y w) p)
+  all_three Bare x y w p = sym (both_eq _)
+  all_three Equal x y w p = sym (both_eq _)
 
-  pub npm_all : (form : Form) {s : List ℕ} → Shape s → (p : List IdentifierValue) → ((length s == 3) ≡ false → p ≡ []) → AllCell form s p
-  npm_all form Shape.none p none = rw (none refl) (all_none form)
-  npm_all form (Shape.one x) p none = rw (none refl) (all_one form x)
-  npm_all form (Shape.two x y) p none = rw (none refl) (all_two form x y)
-  npm_all form (Shape.three x y w) p none = all_three form x y w p
+  pub npm_all : (operator : Operator) {s : List ℕ} → Shape s → (p : List IdentifierValue) → ((length s == 3) ≡ false → p ≡ []) → AllCell operator s p
+  npm_all operator Shape.none p none = rw (none refl) (all_none operator)
+  npm_all operator (Shape.one x) p none = rw (none refl) (all_one operator x)
+  npm_all operator (Shape.two x y) p none = rw (none refl) (all_two operator x y)
+  npm_all operator (Shape.three x y w) p none = all_three operator x y w p
 
   -- ---- by default: no lower bound if the zero-filled version is 0.0.0
   zero_first : (z : PlainVersion) → is_zero z ≡ true → is_ge (first_numbers 3 v z) ≡ true
@@ -102,15 +108,15 @@ module _ (v : PlainVersion) where
       (λ n. from_first v spot p (rw n at h))
 
   -- ---- by default, for pre-releases
-  abbrev CountedCell : Form → List ℕ → List IdentifierValue → Type 0
-  CountedCell form s p = meets_by_count ByDialect form s (filled s p) v ≡ is_counted_within Npm form s (filled s p) v
+  abbrev CountedCell : Operator → List ℕ → List IdentifierValue → Type 0
+  CountedCell operator s p = meets_by_count ByDialect operator s (filled s p) v ≡ is_counted_within Npm operator s (filled s p) v
 
   from_is : (z : PlainVersion) → ((is_zero z && true) || is_ge (precedence v z)) ≡ is_from ByDialect z v
   from_is z = ap (λ b. b || is_ge (precedence v z)) (and-true (is_zero z))
 
-  counted_none : (form : Form) → CountedCell form [] []
-  counted_none less = ap not (sym (none_from v))
-  counted_none greater = ap not (sym (none_from v))
+  counted_none : (operator : Operator) → CountedCell operator [] []
+  counted_none Less = ap not (sym (none_from v))
+  counted_none Greater = ap not (sym (none_from v))
   counted_none _ = refl
 
   counted_block : {s : List ℕ} {k : ℕ} → Spot s k → (p : List IdentifierValue) → (is_from ByDialect (filled s p) v && agrees k s v)
@@ -128,32 +134,34 @@ module _ (v : PlainVersion) where
   counted_from : (z : PlainVersion) → is_from ByDialect z v ≡ (((is_zero z && true) || is_ge (precedence v z)) && true)
   counted_from z = sym (and-true _ ∙ from_is z)
 
-  counted_one : (form : Form) (x : ℕ) → CountedCell form (x ∷ []) []
-  counted_one less x = sym (not_ge _ ∙ one_below v x)
-  counted_one at_most x = sym (not_gt _)
-  counted_one greater x = sym (and-true _)
-  counted_one at_least x = counted_from (filled (x ∷ []) [])
-  counted_one caret x = counted_caret (Spot.first_of_one x) []
-  counted_one tilde x = counted_block (Spot.first_of_one x) []
-  counted_one bare x = counted_block (Spot.first_of_one x) []
-  counted_one equal x = counted_block (Spot.first_of_one x) []
+  counted_one : (operator : Operator) (x : ℕ) → CountedCell operator (x ∷ []) []
+  counted_one Less x = sym (not_ge _ ∙ one_below v x)
+  counted_one LessOrEqual x = sym (not_gt _)
+  counted_one Greater x = sym (and-true _)
+  counted_one GreaterOrEqual x = counted_from (filled (x ∷ []) [])
+  counted_one Hyphen x = counted_from (filled (x ∷ []) [])
+  counted_one Caret x = counted_caret (Spot.first_of_one x) []
+  counted_one Tilde x = counted_block (Spot.first_of_one x) []
+  counted_one Bare x = counted_block (Spot.first_of_one x) []
+  counted_one Equal x = counted_block (Spot.first_of_one x) []
 
-  counted_two : (form : Form) (x y : ℕ) → CountedCell form (x ∷ y ∷ []) []
-  counted_two less x y = sym (not_ge _ ∙ two_below v x y)
-  counted_two at_most x y = sym (not_gt _)
-  counted_two greater x y = sym (and-true _)
-  counted_two at_least x y = counted_from (filled (x ∷ y ∷ []) [])
-  counted_two caret x y = counted_caret (leading_of_two x y) []
-  counted_two tilde x y = counted_block (Spot.second_of_two x y) []
-  counted_two bare x y = counted_block (Spot.second_of_two x y) []
-  counted_two equal x y = counted_block (Spot.second_of_two x y) []
+  counted_two : (operator : Operator) (x y : ℕ) → CountedCell operator (x ∷ y ∷ []) []
+  counted_two Less x y = sym (not_ge _ ∙ two_below v x y)
+  counted_two LessOrEqual x y = sym (not_gt _)
+  counted_two Greater x y = sym (and-true _)
+  counted_two GreaterOrEqual x y = counted_from (filled (x ∷ y ∷ []) [])
+  counted_two Hyphen x y = counted_from (filled (x ∷ y ∷ []) [])
+  counted_two Caret x y = counted_caret (leading_of_two x y) []
+  counted_two Tilde x y = counted_block (Spot.second_of_two x y) []
+  counted_two Bare x y = counted_block (Spot.second_of_two x y) []
+  counted_two Equal x y = counted_block (Spot.second_of_two x y) []
 
   either_side : (b : Bool) (z : PlainVersion) → is_past_release (Some (if b then below else at)) false z v
       ≡ ((is_zero z && true) || is_ge (precedence v z))
   either_side true z = refl
   either_side false z = refl
 
-  counted_caret_three : (x y w : ℕ) (p : List IdentifierValue) → CountedCell caret (x ∷ y ∷ w ∷ []) p
+  counted_caret_three : (x y w : ℕ) (p : List IdentifierValue) → CountedCell Caret (x ∷ y ∷ w ∷ []) p
   counted_caret_three x y w p = let z = filled (x ∷ y ∷ w ∷ []) p in
       counted_caret (leading_of_three x y w) p
       ∙ ap (λ b. b && not (is_gt (first_numbers (leading_place (x ∷ y ∷ w ∷ [])) v z))) (sym (either_side (not (not (is_empty p)) && (x == 0)) z))
@@ -163,27 +171,29 @@ module _ (v : PlainVersion) where
       ≡ (((is_zero z && false) || is_ge (precedence v z)) && not (is_gt (precedence v z)))
   counted_equal z = sym (ap (λ b. (b || is_ge (precedence v z)) && not (is_gt (precedence v z))) (and-false (is_zero z)) ∙ both_eq _)
 
-  counted_three : (form : Form) (x y w : ℕ) (p : List IdentifierValue) → CountedCell form (x ∷ y ∷ w ∷ []) p
-  counted_three less x y w p = sym (not_ge _)
-  counted_three at_most x y w p = sym (not_gt _)
-  counted_three greater x y w p = sym (and-true _)
-  counted_three at_least x y w p = counted_from (filled (x ∷ y ∷ w ∷ []) p)
-  counted_three caret x y w p = counted_caret_three x y w p
-  counted_three tilde x y w p = counted_block (Spot.second_of_three x y w) p
-  counted_three bare x y w p = counted_equal (filled (x ∷ y ∷ w ∷ []) p)
-  counted_three equal x y w p = counted_equal (filled (x ∷ y ∷ w ∷ []) p)
+  counted_three : (operator : Operator) (x y w : ℕ) (p : List IdentifierValue) → CountedCell operator (x ∷ y ∷ w ∷ []) p
+  counted_three Less x y w p = sym (not_ge _)
+  counted_three LessOrEqual x y w p = sym (not_gt _)
+  counted_three Greater x y w p = sym (and-true _)
+  counted_three GreaterOrEqual x y w p = counted_from (filled (x ∷ y ∷ w ∷ []) p)
+  counted_three Hyphen x y w [] = counted_from (filled (x ∷ y ∷ w ∷ []) [])
+  counted_three Hyphen x y w (i ∷ p) = counted_from (filled (x ∷ y ∷ w ∷ []) (i ∷ p))
+  counted_three Caret x y w p = counted_caret_three x y w p
+  counted_three Tilde x y w p = counted_block (Spot.second_of_three x y w) p
+  counted_three Bare x y w p = counted_equal (filled (x ∷ y ∷ w ∷ []) p)
+  counted_three Equal x y w p = counted_equal (filled (x ∷ y ∷ w ∷ []) p)
 
-  pub npm_counted : (form : Form) {s : List ℕ} → Shape s → (p : List IdentifierValue) → ((length s == 3) ≡ false → p ≡ [])
-      → CountedCell form s p
-  npm_counted form Shape.none p none = rw (none refl) (counted_none form)
-  npm_counted form (Shape.one x) p none = rw (none refl) (counted_one form x)
-  npm_counted form (Shape.two x y) p none = rw (none refl) (counted_two form x y)
-  npm_counted form (Shape.three x y w) p none = counted_three form x y w p
+  pub npm_counted : (operator : Operator) {s : List ℕ} → Shape s → (p : List IdentifierValue) → ((length s == 3) ≡ false → p ≡ [])
+      → CountedCell operator s p
+  npm_counted operator Shape.none p none = rw (none refl) (counted_none operator)
+  npm_counted operator (Shape.one x) p none = rw (none refl) (counted_one operator x)
+  npm_counted operator (Shape.two x y) p none = rw (none refl) (counted_two operator x y)
+  npm_counted operator (Shape.three x y w) p none = counted_three operator x y w p
 
   -- ---- by default, for releases
   module _ (release : v.pre ≡ []) where
-    abbrev ReleaseCell : Form → List ℕ → List IdentifierValue → Type 0
-    ReleaseCell form s p = meets_by_count ByDialect form s (filled s p) v ≡ is_within Npm form s (filled s p) v
+    abbrev ReleaseCell : Operator → List ℕ → List IdentifierValue → Type 0
+    ReleaseCell operator s p = meets_by_count ByDialect operator s (filled s p) v ≡ is_within Npm operator s (filled s p) v
 
     past_zero : (z : PlainVersion) → is_zero z ≡ true → is_ge (precedence v z) ≡ true
     past_zero z y = search rules
@@ -225,45 +235,49 @@ module _ (v : PlainVersion) where
     past_minor : is_ge (ordering_then (nat_cmp v.minor 0) (ordering_then (nat_cmp v.patch 0) (pre_cmp v.pre []))) ≡ true
     past_minor = not_less v.minor _ past_patch
 
-    release_one : (form : Form) (x : ℕ) → ReleaseCell form (x ∷ []) []
-    release_one less x = sym (not_ge _ ∙ one_below v x)
-    release_one at_most x = sym (not_gt _)
-    release_one greater x = is_above v.major x _ past_minor ∙ sym (and-true _)
-    release_one at_least x = from_numbers (x ∷ []) ∙ sym (and-true _)
-    release_one caret x = release_caret (Spot.first_of_one x)
-    release_one tilde x = exact_block (Spot.first_of_one x) []
-    release_one bare x = release_block (Spot.first_of_one x)
-    release_one equal x = release_block (Spot.first_of_one x)
+    release_one : (operator : Operator) (x : ℕ) → ReleaseCell operator (x ∷ []) []
+    release_one Less x = sym (not_ge _ ∙ one_below v x)
+    release_one LessOrEqual x = sym (not_gt _)
+    release_one Greater x = is_above v.major x _ past_minor ∙ sym (and-true _)
+    release_one GreaterOrEqual x = from_numbers (x ∷ []) ∙ sym (and-true _)
+    release_one Hyphen x = from_numbers (x ∷ []) ∙ sym (and-true _)
+    release_one Caret x = release_caret (Spot.first_of_one x)
+    release_one Tilde x = exact_block (Spot.first_of_one x) []
+    release_one Bare x = release_block (Spot.first_of_one x)
+    release_one Equal x = release_block (Spot.first_of_one x)
 
-    release_two : (form : Form) (x y : ℕ) → ReleaseCell form (x ∷ y ∷ []) []
-    release_two less x y = sym (not_ge _ ∙ two_below v x y)
-    release_two at_most x y = sym (not_gt _)
-    release_two greater x y = is_above_after (step v.major x) _ _ (is_above v.minor y _ past_patch) ∙ sym (and-true _)
-    release_two at_least x y = from_numbers (x ∷ y ∷ []) ∙ sym (and-true _)
-    release_two caret x y = release_caret (leading_of_two x y)
-    release_two tilde x y = exact_block (Spot.second_of_two x y) []
-    release_two bare x y = release_block (Spot.second_of_two x y)
-    release_two equal x y = release_block (Spot.second_of_two x y)
+    release_two : (operator : Operator) (x y : ℕ) → ReleaseCell operator (x ∷ y ∷ []) []
+    release_two Less x y = sym (not_ge _ ∙ two_below v x y)
+    release_two LessOrEqual x y = sym (not_gt _)
+    release_two Greater x y = is_above_after (step v.major x) _ _ (is_above v.minor y _ past_patch) ∙ sym (and-true _)
+    release_two GreaterOrEqual x y = from_numbers (x ∷ y ∷ []) ∙ sym (and-true _)
+    release_two Hyphen x y = from_numbers (x ∷ y ∷ []) ∙ sym (and-true _)
+    release_two Caret x y = release_caret (leading_of_two x y)
+    release_two Tilde x y = exact_block (Spot.second_of_two x y) []
+    release_two Bare x y = release_block (Spot.second_of_two x y)
+    release_two Equal x y = release_block (Spot.second_of_two x y)
 
-    release_caret_three : (x y w : ℕ) (p : List IdentifierValue) → ReleaseCell caret (x ∷ y ∷ w ∷ []) p
+    release_caret_three : (x y w : ℕ) (p : List IdentifierValue) → ReleaseCell Caret (x ∷ y ∷ w ∷ []) p
     release_caret_three x y w [] = by_test (x == 0)
         (λ z. let cell = release_caret (leading_of_three x y w) in rw z (rw z at cell))
         (λ n. let cell = exact_caret (leading_of_three x y w) [] in rw n (rw n at cell))
     release_caret_three x y w (i ∷ p) = exact_caret (leading_of_three x y w) (i ∷ p)
 
-    release_three : (form : Form) (x y w : ℕ) (p : List IdentifierValue) → ReleaseCell form (x ∷ y ∷ w ∷ []) p
-    release_three less x y w p = sym (not_ge _)
-    release_three at_most x y w p = sym (not_gt _)
-    release_three greater x y w p = sym (and-true _)
-    release_three at_least x y w p = release_from _ ∙ sym (and-true _)
-    release_three caret x y w p = release_caret_three x y w p
-    release_three tilde x y w p = exact_block (Spot.second_of_three x y w) p
-    release_three bare x y w p = sym (both_eq _)
-    release_three equal x y w p = sym (both_eq _)
+    release_three : (operator : Operator) (x y w : ℕ) (p : List IdentifierValue) → ReleaseCell operator (x ∷ y ∷ w ∷ []) p
+    release_three Less x y w p = sym (not_ge _)
+    release_three LessOrEqual x y w p = sym (not_gt _)
+    release_three Greater x y w p = sym (and-true _)
+    release_three GreaterOrEqual x y w p = release_from _ ∙ sym (and-true _)
+    release_three Hyphen x y w [] = from_numbers (x ∷ y ∷ w ∷ []) ∙ sym (and-true _)
+    release_three Hyphen x y w (i ∷ p) = release_from _ ∙ sym (and-true _)
+    release_three Caret x y w p = release_caret_three x y w p
+    release_three Tilde x y w p = exact_block (Spot.second_of_three x y w) p
+    release_three Bare x y w p = sym (both_eq _)
+    release_three Equal x y w p = sym (both_eq _)
 
-    pub npm_release : (form : Form) {s : List ℕ} → Shape s → (p : List IdentifierValue) → ((length s == 3) ≡ false → p ≡ [])
-        → ReleaseCell form s p
-    npm_release form Shape.none p none = rw (none refl) (all_none form)
-    npm_release form (Shape.one x) p none = rw (none refl) (release_one form x)
-    npm_release form (Shape.two x y) p none = rw (none refl) (release_two form x y)
-    npm_release form (Shape.three x y w) p none = release_three form x y w p
+    pub npm_release : (operator : Operator) {s : List ℕ} → Shape s → (p : List IdentifierValue) → ((length s == 3) ≡ false → p ≡ [])
+        → ReleaseCell operator s p
+    npm_release operator Shape.none p none = rw (none refl) (all_none operator)
+    npm_release operator (Shape.one x) p none = rw (none refl) (release_one operator x)
+    npm_release operator (Shape.two x y) p none = rw (none refl) (release_two operator x y)
+    npm_release operator (Shape.three x y w) p none = release_three operator x y w p

@@ -1,6 +1,5 @@
 -- A version satisfies the comparators of a text in Cargo's or npm's dialect if and only if it
--- satisfies the text: a release with lower bounds as they are stated, and any version with the
--- lowest ones.
+-- satisfies the text: a release, and with `Included` any version.
 use Rattle.std.proofs.Common.{◌≡◌, ℕ, Bool, true, false, ◌&&◌, ◌||◌, if◌then◌else◌, List, [], ◌∷◌, map, refl, sym, ap, ◌∙◌}
 use Rattle.std.proofs.Math.Bool.{and-true}
 use Rattle.std.proofs.lemmas.Bool.{or_left}
@@ -12,13 +11,13 @@ use Rattle.semver_texts.specs.Precedence.{pre_cmp}
 use Rattle.semver_texts.specs.Texts.{is_empty}
 use Rattle.semver_texts.specs.Versions.{IdentifierValue, PlainVersion}
 use Rattle.semver_texts.proofs.Lists.{by_test}
-use Rattle.semver_ranges.specs.declared.partial.LowerBounds.{LowerBounds}
-use Rattle.semver_ranges.specs.declared.partial.LowerBounds.TheVariants.{Stated, Lowest}
 use Rattle.semver_ranges.specs.declared.range.Compat.{Compat}
 use Rattle.semver_ranges.specs.declared.range.Compat.TheVariants as mode
 use Rattle.semver_ranges.specs.SatisfiedComparators.{meets_comparator, meets_range, meets_set}
 use Rattle.semver_ranges.specs.Partials.{filled, stated, zero_filled}
-use Rattle.semver_ranges.specs.RangeTree.{Form, less, greater, at_least, Simple, SetTree}
+use Rattle.semver_ranges.specs.declared.operator.Operator.{Operator}
+use Rattle.semver_ranges.specs.declared.operator.Operator.TheVariants.{Less, Greater, GreaterOrEqual, Hyphen}
+use Rattle.semver_ranges.specs.RangeTree.{Simple, SetTree}
 use Rattle.semver_ranges.specs.RewritingTable.{PlainSet}
 use Rattle.semver_ranges.specs.StatedPreReleases.{states_pre_release_at}
 use Rattle.semver_ranges.specs.Terms.{of_simple}
@@ -27,6 +26,7 @@ use Rattle.semver_ranges.specs.Steps.RangeEvents.{yielded}
 use Rattle.semver_ranges.proofs.Rows.{Shape}
 use Rattle.semver_ranges.proofs.SetMeanings.{stated_shape}
 use Rattle.semver_ranges.proofs.Tests.{list_all-weaker, list_any-weaker, list_any-same}
+use Rattle.version_sets.specs.declared.rules.PreReleases.{PreReleases}
 use Rattle.version_sets.specs.declared.rules.PreReleases.TheVariants.{ByDialect, Included}
 use Rattle.tool_ranges.specs.AnySize.{comparator_any, range_any, set_any}
 use Rattle.tool_ranges.specs.CargoMeaning as cargo
@@ -45,18 +45,18 @@ use Rattle.tool_ranges.proofs.SideComparators.{both_sided, lowest_ge, term_meets
 
 -- ---- terms and ranges
 
-module _ (lower : LowerBounds) (d : Dialect) (all : Bool) (v : PlainVersion)
-    (each : (s : Simple) → list_all (meets_comparator v) (map comparator_any (printed_term lower d s)) ≡ term_met d all v s) where
+module _ (rule : PreReleases) (d : Dialect) (all : Bool) (v : PlainVersion)
+    (each : (s : Simple) → list_all (meets_comparator v) (map comparator_any (printed_term rule d s)) ≡ term_met d all v s) where
   terms_meet : (ss : List Simple)
-      → list_all (meets_comparator v) (map comparator_any (flat_map (printed_term lower d) ss)) ≡ list_all (term_met d all v) ss
+      → list_all (meets_comparator v) (map comparator_any (flat_map (printed_term rule d) ss)) ≡ list_all (term_met d all v) ss
   terms_meet [] = refl
   terms_meet (s ∷ ss) =
-      ap (list_all (meets_comparator v)) (map-append comparator_any (printed_term lower d s) (flat_map (printed_term lower d) ss))
-      ∙ list_all-append (meets_comparator v) (map comparator_any (printed_term lower d s)) _
+      ap (list_all (meets_comparator v)) (map-append comparator_any (printed_term rule d s) (flat_map (printed_term rule d) ss))
+      ∙ list_all-append (meets_comparator v) (map comparator_any (printed_term rule d s)) _
       ∙ (λ i. each s i && terms_meet ss i)
 
   ranges_meet : (mode : Compat) (rs : List (List Simple))
-      → list_any (meets_range v) (map range_any (map (range_of_simples (printed_term lower d) mode) rs))
+      → list_any (meets_range v) (map range_any (map (range_of_simples (printed_term rule d) mode) rs))
       ≡ list_any (λ ss. list_all (term_met d all v) ss) rs
   ranges_meet mode [] = refl
   ranges_meet mode (ss ∷ rs) = λ i. terms_meet ss i || ranges_meet mode rs i
@@ -64,21 +64,21 @@ module _ (lower : LowerBounds) (d : Dialect) (all : Bool) (v : PlainVersion)
 -- ---- npm, with every pre-release within the bounds
 
 module _ (v : PlainVersion) where
-  included_term : (s : Simple) → list_all (meets_comparator v) (map comparator_any (printed_term Lowest Npm s)) ≡ term_met Npm true v s
+  included_term : (s : Simple) → list_all (meets_comparator v) (map comparator_any (printed_term Included Npm s)) ≡ term_met Npm true v s
   included_term s =
-      term_meets Lowest v (lowest_ge v) Npm s (both_sided s.form (stated_shape s.partial) (pre_any s.partial) (none_any s)).1
+      term_meets Included v (lowest_ge v) Npm s (both_sided s.operator (stated_shape s.partial) (pre_any s.partial) (none_any s)).1
       ∙ all_means s v Npm
 
   included_ranges : (tree : SetTree)
-      → list_any (λ ss. list_all (term_met Npm true v) ss) (map (yielded Lowest) tree) ≡ list_any (λ r. npm.meets_range Included r v) tree
+      → list_any (λ ss. list_all (term_met Npm true v) ss) (map yielded tree) ≡ list_any (λ r. npm.meets_range Included r v) tree
   included_ranges [] = refl
   included_ranges (r ∷ tree) = λ i. (sym (and-true _) ∙ included_range v r) i || included_ranges tree i
 
   pub included_meets : (tree : SetTree) (set : PlainSet)
-      → set ≡ record { ranges = printed_ranges Lowest Npm mode.Npm tree; compat = mode.Npm }
+      → set ≡ record { ranges = printed_ranges Included Npm mode.Npm tree; compat = mode.Npm }
       → meets_set v (set_any set) ≡ npm.meets_npm Included tree v
   included_meets tree set is = ap (λ s. meets_set v (set_any s)) is
-      ∙ ranges_meet Lowest Npm true v included_term mode.Npm (map (yielded Lowest) tree) ∙ included_ranges tree
+      ∙ ranges_meet Included Npm true v included_term mode.Npm (map yielded tree) ∙ included_ranges tree
 
 -- ---- releases
 
@@ -89,14 +89,14 @@ module _ (v : PlainVersion) (release : v.pre ≡ []) where
   release_ge : is_ge (pre_cmp v.pre []) ≡ true
   release_ge = ap (λ q. is_ge (pre_cmp q [])) release
 
-  cargo_term : (s : Simple) → list_all (meets_comparator v) (map comparator_any (printed_term Stated Cargo s)) ≡ term_met Cargo false v s
+  cargo_term : (s : Simple) → list_all (meets_comparator v) (map comparator_any (printed_term ByDialect Cargo s)) ≡ term_met Cargo false v s
   cargo_term s =
-      term_meets Stated v release_ge Cargo s (both_sided s.form (stated_shape s.partial) (pre_any s.partial) (none_any s)).0
+      term_meets ByDialect v release_ge Cargo s (both_sided s.operator (stated_shape s.partial) (pre_any s.partial) (none_any s)).0
       ∙ release_means s v Cargo release
 
-  npm_term : (s : Simple) → list_all (meets_comparator v) (map comparator_any (printed_term Stated Npm s)) ≡ term_met Npm false v s
+  npm_term : (s : Simple) → list_all (meets_comparator v) (map comparator_any (printed_term ByDialect Npm s)) ≡ term_met Npm false v s
   npm_term s =
-      term_meets Stated v release_ge Npm s (both_sided s.form (stated_shape s.partial) (pre_any s.partial) (none_any s)).1
+      term_meets ByDialect v release_ge Npm s (both_sided s.operator (stated_shape s.partial) (pre_any s.partial) (none_any s)).1
       ∙ release_means s v Npm release
 
   -- a release counts in each range
@@ -108,28 +108,32 @@ module _ (v : PlainVersion) (release : v.pre ≡ []) where
   ranges_counted d rs = list_any-same (λ ss. list_all (term_met d false v) ss) (range_met d false v) (counted d) rs
 
   pub cargo_meets : (tree : SetTree) (set : PlainSet)
-      → set ≡ record { ranges = printed_ranges Stated Cargo mode.Cargo tree; compat = mode.Cargo }
+      → set ≡ record { ranges = printed_ranges ByDialect Cargo mode.Cargo tree; compat = mode.Cargo }
       → meets_set v set ≡ cargo.meets_requirement ByDialect tree v
   cargo_meets tree set is = sym (release_set v set is_release) ∙ ap (λ s. meets_set v (set_any s)) is
-      ∙ ranges_meet Stated Cargo false v cargo_term mode.Cargo (ranges_of Stated Cargo tree)
-      ∙ ranges_counted Cargo (ranges_of Stated Cargo tree) ∙ cargo_default v tree
+      ∙ ranges_meet ByDialect Cargo false v cargo_term mode.Cargo (ranges_of Cargo tree)
+      ∙ ranges_counted Cargo (ranges_of Cargo tree) ∙ cargo_default v tree
 
   -- a release satisfies a term that matches everything
-  met : (form : Form) {s : List ℕ} → Shape s → (p : List IdentifierValue) → asks_nothing_by form (is_empty s) (is_zero (filled s p)) ≡ true
-      → meets_by_count ByDialect form s (filled s p) v ≡ true
-  met less s p e = cc
-  met greater s p e = cc
-  met at_least Shape.none p e = refl
-  met at_least (Shape.one x) p e = or_left _ _ e
-  met at_least (Shape.two x y) p e = or_left _ _ e
-  met at_least (Shape.three x y w) p e = or_left _ _ e
+  met : (operator : Operator) {s : List ℕ} → Shape s → (p : List IdentifierValue) → asks_nothing_by operator (is_empty s) (is_zero (filled s p)) ≡ true
+      → meets_by_count ByDialect operator s (filled s p) v ≡ true
+  met Less s p e = cc
+  met Greater s p e = cc
+  met GreaterOrEqual Shape.none p e = refl
+  met GreaterOrEqual (Shape.one x) p e = or_left _ _ e
+  met GreaterOrEqual (Shape.two x y) p e = or_left _ _ e
+  met GreaterOrEqual (Shape.three x y w) p e = or_left _ _ e
+  met Hyphen Shape.none p e = refl
+  met Hyphen (Shape.one x) p e = or_left _ _ e
+  met Hyphen (Shape.two x y) p e = or_left _ _ e
+  met Hyphen (Shape.three x y w) p e = or_left _ _ e
   met _ Shape.none p e = refl
   met _ (Shape.one x) p e = cc
   met _ (Shape.two x y) p e = cc
   met _ (Shape.three x y w) p e = cc
 
   term_of_all : (s : Simple) → matches_everything (of_simple s) ≡ true → term_met Npm false v s ≡ true
-  term_of_all s e = met s.form (stated_shape s.partial) (pre_any s.partial) (asks_any s.form (stated s.partial) (zero_filled s.partial) ∙ e)
+  term_of_all s e = met s.operator (stated_shape s.partial) (pre_any s.partial) (asks_any s.operator (stated s.partial) (zero_filled s.partial) ∙ e)
 
   range_of_all : (ss : List Simple) → range_every ss ≡ true → range_met Npm false v ss ≡ true
   range_of_all ss e = sym (counted Npm ss)
@@ -142,8 +146,8 @@ module _ (v : PlainVersion) (release : v.pre ≡ []) where
       (λ n. rw n refl)
 
   pub npm_meets : (tree : SetTree) (set : PlainSet)
-      → set ≡ record { ranges = printed_ranges Stated Npm mode.Npm tree; compat = mode.Npm }
+      → set ≡ record { ranges = printed_ranges ByDialect Npm mode.Npm tree; compat = mode.Npm }
       → meets_set v set ≡ npm.meets_npm ByDialect tree v
   npm_meets tree set is = sym (release_set v set is_release) ∙ ap (λ s. meets_set v (set_any s)) is
-      ∙ ranges_meet Stated Npm false v npm_term mode.Npm (map (yielded Stated) tree)
-      ∙ ranges_counted Npm (map (yielded Stated) tree) ∙ every_range (map (yielded Stated) tree) ∙ npm_default v tree
+      ∙ ranges_meet ByDialect Npm false v npm_term mode.Npm (map yielded tree)
+      ∙ ranges_counted Npm (map yielded tree) ∙ every_range (map yielded tree) ∙ npm_default v tree

@@ -3,8 +3,6 @@
 use Rattle.std.proofs.Common.{◌≡◌, List, [], ◌∷◌, ◌++◌, map, refl, sym, ap, ◌∙◌, append_assoc}
 use Rattle.std.proofs.lemmas.List.{map-append}
 use Rattle.semver_texts.specs.Texts.{Text}
-use Rattle.semver_ranges.specs.declared.partial.LowerBounds.{LowerBounds}
-use Rattle.semver_ranges.specs.declared.partial.LowerBounds.TheVariants.{Stated}
 use Rattle.semver_ranges.specs.declared.range.Comparator.{Comparator}
 use Rattle.semver_ranges.specs.declared.range.Compat.{Compat}
 use Rattle.semver_ranges.specs.declared.range.Compat.TheVariants as mode
@@ -16,6 +14,8 @@ use Rattle.semver_ranges.specs.Steps.DesugaredViews.{range_of_simples, ranges_by
 use Rattle.semver_ranges.specs.Steps.RangeEvents.{Event, next_range, yielded}
 use Rattle.semver_ranges.proofs.EventLists.{range_made}
 use Rattle.semver_ranges.proofs.EventSums.{front_made}
+use Rattle.version_sets.specs.declared.rules.PreReleases.{PreReleases}
+use Rattle.version_sets.specs.declared.rules.PreReleases.TheVariants.{ByDialect}
 use Rattle.tool_ranges.specs.declared.dialect.Dialect.{Dialect}
 use Rattle.tool_ranges.specs.declared.dialect.Dialect.TheVariants.{Npm}
 use Rattle.tool_ranges.specs.Dialects.{SpellsAs, rewritten_as}
@@ -29,8 +29,8 @@ use Rattle.tool_ranges.proofs.PrintableSets.{term_table}
 module _ (written : Simple → List PlainComparator) (mode : Compat) where
   listed : (first : List Simple) (others : List (List Simple))
       → ranges_by written mode [] (events_in (first ∷ others)) ≡ map (range_of_simples written mode) (first ∷ others)
-  listed first [] = front_made written mode Stated first [] []
-  listed first (next ∷ others) = front_made written mode Stated first [] (next_range ∷ events_in (next ∷ others))
+  listed first [] = front_made written mode first [] []
+  listed first (next ∷ others) = front_made written mode first [] (next_range ∷ events_in (next ∷ others))
       ∙ ap (λ l. range_of_simples written mode first ∷ l) (listed next others)
 
   -- the end of a range, and the end of a text
@@ -51,19 +51,19 @@ module _ (written : Simple → List PlainComparator) (mode : Compat) where
         → map range_of new ≡ map range_of old ++ ranges_by written mode (map comparator_of set) left
     text_ended left none = with_range ∙ ap (λ es. map range_of old ++ ranges_by written mode (map comparator_of set) es) (sym none)
 
-pub printed_events : (low : LowerBounds) (d : Dialect) (mode : Compat) (t : Text) (tree : SetTree) → SpellsAs d tree t
-    → printed_ranges low d mode tree ≡ ranges_by (printed_term low d) mode [] (events_in (ranges_of low d tree))
-printed_events low d mode t tree h =
-    let some = some_ranges low d t tree h in
-    ap (map (range_of_simples (printed_term low d) mode)) some.2
-    ∙ sym (listed (printed_term low d) mode some.0 some.1)
-    ∙ ap (λ rs. ranges_by (printed_term low d) mode [] (events_in rs)) (sym some.2)
+pub printed_events : (rule : PreReleases) (d : Dialect) (mode : Compat) (t : Text) (tree : SetTree) → SpellsAs d tree t
+    → printed_ranges rule d mode tree ≡ ranges_by (printed_term rule d) mode [] (events_in (ranges_of d tree))
+printed_events rule d mode t tree h =
+    let some = some_ranges d t tree h in
+    ap (map (range_of_simples (printed_term rule d) mode)) some.2
+    ∙ sym (listed (printed_term rule d) mode some.0 some.1)
+    ∙ ap (λ rs. ranges_by (printed_term rule d) mode [] (events_in rs)) (sym some.2)
 
 -- ---- npm
-npm_range : (r : RangeTree) → range_of_simples (printed_term Stated Npm) mode.Npm (yielded Stated r)
-    ≡ record { comparators = range_by (printed_term Stated Npm) r; compat = mode.Npm }
+npm_range : (r : RangeTree) → range_of_simples (printed_term ByDialect Npm) mode.Npm (yielded r)
+    ≡ record { comparators = range_by (printed_term ByDialect Npm) r; compat = mode.Npm }
 npm_range r = range_made (term_table Npm) mode.Npm r
 
-pub npm_ranges : (tree : SetTree) → printed_ranges Stated Npm mode.Npm tree ≡ (rewritten_as Npm tree).ranges
+pub npm_ranges : (tree : SetTree) → printed_ranges ByDialect Npm mode.Npm tree ≡ (rewritten_as Npm tree).ranges
 npm_ranges [] = refl
 npm_ranges (r ∷ others) = λ i. npm_range r i ∷ npm_ranges others i

@@ -8,16 +8,16 @@ use Rattle.std.specs.Prelude.{is_some}
 use Rattle.semver_texts.specs.Texts.{is_empty}
 use Rattle.semver_texts.specs.Versions.{numbers, PlainVersion}
 use Rattle.semver_ranges.specs.declared.grammar.Simple as read
-use Rattle.semver_ranges.specs.declared.partial.LowerBounds.{LowerBounds}
 use Rattle.semver_ranges.specs.declared.range.Comparator.{Comparator}
 use Rattle.semver_ranges.specs.declared.range.Op.TheVariants.{Eq}
 use Rattle.semver_ranges.specs.RangeTree.{Simple}
 use Rattle.semver_ranges.specs.RangeViews.{comparator_of}
 use Rattle.semver_ranges.specs.RewritingTable.{PlainComparator, comparator}
 use Rattle.semver_ranges.specs.Partials.{stated, zero_filled}
-use Rattle.semver_ranges.specs.Steps.CursorViews.{IsSimpleOf, form_of}
+use Rattle.semver_ranges.specs.Steps.CursorViews.{IsSimpleOf}
 use Rattle.semver_ranges.specs.Steps.PartialViews.{stated_of, version_of}
 use Rattle.version_sets.specs.Sides.{SideValue}
+use Rattle.version_sets.specs.declared.rules.PreReleases.{PreReleases}
 use Rattle.tool_ranges.specs.declared.dialect.Dialect.{Dialect}
 use Rattle.tool_ranges.specs.declared.dialect.Dialect.TheVariants.{Cargo, Npm, CrateCargo, CrateNpm}
 use Rattle.tool_ranges.specs.Sides.{term_fits}
@@ -36,15 +36,15 @@ within_limit CrateNpm o v e = e
 
 module _ (d : Dialect) (s : Simple) (simple : read.Simple) (is : IsSimpleOf s simple) (fit : term_fits d s ≡ true) where
   abbrev pub of_read : Option SideValue × Option SideValue
-  of_read = sides d (form_of simple.form) (stated_of simple.partial) (not (is_empty (version_of simple.partial).pre))
+  of_read = sides d simple.operator (stated_of simple.partial) (not (is_empty (version_of simple.partial).pre))
 
   same : (stated_of simple.partial ≡ stated s.partial) × (version_of simple.partial ≡ zero_filled s.partial)
   same = is.1.1 (sym is.1.0 ∙ term_stated d s fit)
 
-  pub printed_so : (low : LowerBounds) (lower upper : Option SideValue) → lower ≡ of_read.0 → upper ≡ of_read.1
-      → printed low lower upper (version_of simple.partial) ≡ printed_term low d s
-  printed_so low lower upper e f = (λ i. printed low (e i) (f i) (version_of simple.partial))
-      ∙ (λ i. printed low (sides d (is.0 i) (same.0 i) (not (is_empty (same.1 i).pre))).0
+  pub printed_so : (rule : PreReleases) (lower upper : Option SideValue) → lower ≡ of_read.0 → upper ≡ of_read.1
+      → printed rule lower upper (version_of simple.partial) ≡ printed_term rule d s
+  printed_so rule lower upper e f = (λ i. printed rule (e i) (f i) (version_of simple.partial))
+      ∙ (λ i. printed rule (sides d (is.0 i) (same.0 i) (not (is_empty (same.1 i).pre))).0
       (sides d (is.0 i) (same.0 i) (not (is_empty (same.1 i).pre))).1 (same.1 i))
 
   both_rise : (may_rise (limit d) of_read.0 (numbers (version_of simple.partial))
@@ -66,10 +66,10 @@ pub pushed : (old new : List Comparator) (c : Comparator) (x : PlainComparator) 
 pushed old new c x e f = ap (map comparator_of) e ∙ map-append comparator_of old (c ∷ []) ∙ ap (λ y. map comparator_of old ++ y ∷ []) f
 
 -- the comparators of two sides: a single `=`, or those of the lower and those of the upper side
-pub both_sides : (low : LowerBounds) (lower upper : Option SideValue) (z : PlainVersion) → (is_some lower && ends_past upper) ≡ true
-    → (comparator Eq z ∷ []) ≡ printed low lower upper z
-both_sides low lower upper z e = rw e refl
+pub both_sides : (rule : PreReleases) (lower upper : Option SideValue) (z : PlainVersion) → (is_some lower && ends_past upper) ≡ true
+    → (comparator Eq z ∷ []) ≡ printed rule lower upper z
+both_sides rule lower upper z e = rw e refl
 
-pub apart_sides : (low : LowerBounds) (lower upper : Option SideValue) (z : PlainVersion) → (is_some lower && ends_past upper) ≡ false
-    → (at_side (lower_comparator low) lower z ++ at_side upper_comparator upper z) ≡ printed low lower upper z
-apart_sides low lower upper z e = rw e refl
+pub apart_sides : (rule : PreReleases) (lower upper : Option SideValue) (z : PlainVersion) → (is_some lower && ends_past upper) ≡ false
+    → (at_side (lower_comparator rule) lower z ++ at_side upper_comparator upper z) ≡ printed rule lower upper z
+apart_sides rule lower upper z e = rw e refl

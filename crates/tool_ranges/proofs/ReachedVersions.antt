@@ -28,7 +28,7 @@ use Rattle.tool_ranges.specs.NpmMeaning.{matches_everything}
 use Rattle.tool_ranges.specs.Sides.{term_fits}
 use Rattle.tool_ranges.specs.Steps.Checked.{HasEvents}
 use Rattle.tool_ranges.specs.Steps.TextEvents.{events_in, ranges_of}
-use Rattle.tool_ranges.specs.Steps.Matching.{after, begun, counts, ended, is_met, lower_of, taken, takes_all, takes_releases, term_met}
+use Rattle.tool_ranges.specs.Steps.Matching.{after, begun, counts, ended, is_met, taken, takes_all, takes_releases, term_met}
 use Rattle.tool_ranges.specs.Steps.Reaching.{may_count, states_some}
 use Rattle.tool_ranges.proofs.BuiltSets.{every_is_met, met_is_met, met_of}
 use Rattle.tool_ranges.proofs.MatchedEvents.{says_so}
@@ -270,7 +270,7 @@ may_be_met ByDialect v p = refl
 module _ (d : Dialect) (rule : PreReleases) (x : PlainVersion) (t : Text) (tree other : SetTree) (spelled : SpellsAs d tree t)
     (also : SpellsAs d other t) (progress : PlainVersion → Progress)
     (same : (v : PlainVersion) → Fits v
-    → after d (takes_all rule) v (begun (counts (takes_all rule) v)) (events_in (ranges_of (lower_of d (takes_all rule)) d tree)) ≡ progress v) where
+    → after d (takes_all rule) v (begun (counts (takes_all rule) v)) (events_in (ranges_of d tree)) ≡ progress v) where
   abbrev last : PlainVersion → Progress
   last v = ended (counts (takes_all rule) v) (progress v)
 

@@ -15,18 +15,21 @@ use Rattle.semver_texts.specs.Texts.{is_empty}
 use Rattle.semver_texts.specs.Versions.{numbers, IdentifierValue, PlainVersion}
 use Rattle.semver_texts.specs.declared.grammar.Digits.TheVariants.{AnySize}
 use Rattle.semver_texts.proofs.Lists.{by_test}
-use Rattle.semver_ranges.specs.declared.partial.LowerBounds.{LowerBounds}
-use Rattle.semver_ranges.specs.declared.partial.LowerBounds.TheVariants.{Stated, Lowest}
 use Rattle.semver_ranges.specs.ExactBounds.{exact_bound, lowest_pre_release}
 use Rattle.semver_ranges.specs.SatisfiedComparators.{meets_comparator}
 use Rattle.semver_ranges.specs.Partials.{filled, stated, zero_filled}
-use Rattle.semver_ranges.specs.RangeTree.{Form, bare, equal, less, at_most, greater, at_least, tilde, caret, Simple}
+use Rattle.semver_ranges.specs.declared.operator.Operator.{Operator}
+use Rattle.semver_ranges.specs.declared.operator.Operator.TheVariants.{Bare, Equal, Less, LessOrEqual, Greater, GreaterOrEqual, Tilde}
+use Rattle.semver_ranges.specs.declared.operator.Operator.TheVariants.{Caret, Hyphen}
+use Rattle.semver_ranges.specs.RangeTree.{Simple}
 use Rattle.semver_ranges.specs.RewritingTable.{up, with_pre_release}
 use Rattle.semver_ranges.proofs.Rows.{Shape, Tail, same, past as tail_past, floor, step, and_step as after}
 use Rattle.version_sets.proofs.DigitLaws.{by_empty}
 use Rattle.version_sets.specs.Sides.{SideValue, below, at, past, above}
 use Rattle.version_sets.specs.Steps.Cuts.{first_numbers, is_above_lower, is_above_upper, is_between}
 use Rattle.tool_ranges.specs.AnySize.{comparator_any}
+use Rattle.version_sets.specs.declared.rules.PreReleases.{PreReleases}
+use Rattle.version_sets.specs.declared.rules.PreReleases.TheVariants.{ByDialect, Included, Excluded}
 use Rattle.tool_ranges.specs.declared.dialect.Dialect.{Dialect}
 use Rattle.tool_ranges.specs.declared.dialect.Dialect.TheVariants.{Cargo, Npm}
 use Rattle.tool_ranges.specs.Sides.{ends_past, sides}
@@ -47,63 +50,67 @@ Raises s p _ = Unit {0}
 
 -- this holds for both sides, and if a term has a lower side and ends directly above its zero-filled
 -- version, it begins at this version
-abbrev pub Sided : Dialect → Form → List ℕ → List IdentifierValue → Type 0
-Sided d form s p = Raises s p (sides d form s (not (is_empty p))).0 × Raises s p (sides d form s (not (is_empty p))).1
-    × ((is_some (sides d form s (not (is_empty p))).0 && ends_past (sides d form s (not (is_empty p))).1) ≡ true
-    → (sides d form s (not (is_empty p))).0 ≡ Some at)
+abbrev pub Sided : Dialect → Operator → List ℕ → List IdentifierValue → Type 0
+Sided d operator s p = Raises s p (sides d operator s (not (is_empty p))).0 × Raises s p (sides d operator s (not (is_empty p))).1
+    × ((is_some (sides d operator s (not (is_empty p))).0 && ends_past (sides d operator s (not (is_empty p))).1) ≡ true
+    → (sides d operator s (not (is_empty p))).0 ≡ Some at)
 
-abbrev Both : Form → List ℕ → List IdentifierValue → Type 0
-Both form s p = Sided Cargo form s p × Sided Npm form s p
+abbrev Both : Operator → List ℕ → List IdentifierValue → Type 0
+Both operator s p = Sided Cargo operator s p × Sided Npm operator s p
 
-npm_none : (form : Form) → Sided Npm form [] []
-npm_none less = (tt, refl, λ e. cc)
-npm_none greater = (tt, refl, λ e. cc)
+npm_none : (operator : Operator) → Sided Npm operator [] []
+npm_none Less = (tt, refl, λ e. cc)
+npm_none Greater = (tt, refl, λ e. cc)
 npm_none _ = (refl, tt, λ e. cc)
 
-one_sided : (form : Form) (x : ℕ) → Both form (x ∷ []) []
-one_sided less x = ((tt, tt, λ e. cc), (tt, refl, λ e. cc))
-one_sided at_most x = ((tt, Spot.first_of_one x, λ e. cc), (tt, Spot.first_of_one x, λ e. cc))
-one_sided greater x = ((Spot.first_of_one x, tt, λ e. cc), (Spot.first_of_one x, tt, λ e. cc))
-one_sided at_least x = ((refl, tt, λ e. cc), (refl, tt, λ e. cc))
-one_sided tilde x = ((refl, Spot.first_of_one x, λ e. cc), (tt, Spot.first_of_one x, λ e. cc))
-one_sided caret x = ((refl, Spot.first_of_one x, λ e. cc), (refl, Spot.first_of_one x, λ e. cc))
-one_sided bare x = ((refl, Spot.first_of_one x, λ e. cc), (refl, Spot.first_of_one x, λ e. cc))
-one_sided equal x = ((refl, Spot.first_of_one x, λ e. cc), (refl, Spot.first_of_one x, λ e. cc))
+one_sided : (operator : Operator) (x : ℕ) → Both operator (x ∷ []) []
+one_sided Less x = ((tt, tt, λ e. cc), (tt, refl, λ e. cc))
+one_sided LessOrEqual x = ((tt, Spot.first_of_one x, λ e. cc), (tt, Spot.first_of_one x, λ e. cc))
+one_sided Greater x = ((Spot.first_of_one x, tt, λ e. cc), (Spot.first_of_one x, tt, λ e. cc))
+one_sided GreaterOrEqual x = ((refl, tt, λ e. cc), (refl, tt, λ e. cc))
+one_sided Hyphen x = ((refl, tt, λ e. cc), (refl, tt, λ e. cc))
+one_sided Tilde x = ((refl, Spot.first_of_one x, λ e. cc), (tt, Spot.first_of_one x, λ e. cc))
+one_sided Caret x = ((refl, Spot.first_of_one x, λ e. cc), (refl, Spot.first_of_one x, λ e. cc))
+one_sided Bare x = ((refl, Spot.first_of_one x, λ e. cc), (refl, Spot.first_of_one x, λ e. cc))
+one_sided Equal x = ((refl, Spot.first_of_one x, λ e. cc), (refl, Spot.first_of_one x, λ e. cc))
 
-two_sided : (form : Form) (x y : ℕ) → Both form (x ∷ y ∷ []) []
-two_sided less x y = ((tt, tt, λ e. cc), (tt, refl, λ e. cc))
-two_sided at_most x y = ((tt, Spot.second_of_two x y, λ e. cc), (tt, Spot.second_of_two x y, λ e. cc))
-two_sided greater x y = ((Spot.second_of_two x y, tt, λ e. cc), (Spot.second_of_two x y, tt, λ e. cc))
-two_sided at_least x y = ((refl, tt, λ e. cc), (refl, tt, λ e. cc))
-two_sided tilde x y = ((refl, Spot.second_of_two x y, λ e. cc), (tt, Spot.second_of_two x y, λ e. cc))
-two_sided caret x y = ((refl, leading_of_two x y, λ e. cc), (refl, leading_of_two x y, λ e. cc))
-two_sided bare x y = ((refl, Spot.second_of_two x y, λ e. cc), (refl, Spot.second_of_two x y, λ e. cc))
-two_sided equal x y = ((refl, Spot.second_of_two x y, λ e. cc), (refl, Spot.second_of_two x y, λ e. cc))
+two_sided : (operator : Operator) (x y : ℕ) → Both operator (x ∷ y ∷ []) []
+two_sided Less x y = ((tt, tt, λ e. cc), (tt, refl, λ e. cc))
+two_sided LessOrEqual x y = ((tt, Spot.second_of_two x y, λ e. cc), (tt, Spot.second_of_two x y, λ e. cc))
+two_sided Greater x y = ((Spot.second_of_two x y, tt, λ e. cc), (Spot.second_of_two x y, tt, λ e. cc))
+two_sided GreaterOrEqual x y = ((refl, tt, λ e. cc), (refl, tt, λ e. cc))
+two_sided Hyphen x y = ((refl, tt, λ e. cc), (refl, tt, λ e. cc))
+two_sided Tilde x y = ((refl, Spot.second_of_two x y, λ e. cc), (tt, Spot.second_of_two x y, λ e. cc))
+two_sided Caret x y = ((refl, leading_of_two x y, λ e. cc), (refl, leading_of_two x y, λ e. cc))
+two_sided Bare x y = ((refl, Spot.second_of_two x y, λ e. cc), (refl, Spot.second_of_two x y, λ e. cc))
+two_sided Equal x y = ((refl, Spot.second_of_two x y, λ e. cc), (refl, Spot.second_of_two x y, λ e. cc))
 
 none_is : (p : List IdentifierValue) → not (not (is_empty p)) ≡ true → p ≡ []
 none_is [] e = refl
 none_is (i ∷ p) e = cc
 
-npm_caret : (x y w : ℕ) (p : List IdentifierValue) → Sided Npm caret (x ∷ y ∷ w ∷ []) p
+npm_caret : (x y w : ℕ) (p : List IdentifierValue) → Sided Npm Caret (x ∷ y ∷ w ∷ []) p
 npm_caret x y w p = by_test (not (not (is_empty p)) && (x == 0))
     (λ b. rw b (none_is p (and_parts _ _ b).0, leading_of_three x y w, λ e. cc))
     (λ n. rw n (tt, leading_of_three x y w, λ e. cc))
 
-three_sided : (form : Form) (x y w : ℕ) (p : List IdentifierValue) → Both form (x ∷ y ∷ w ∷ []) p
-three_sided less x y w p = ((tt, tt, λ e. cc), (tt, tt, λ e. cc))
-three_sided at_most x y w p = ((tt, tt, λ e. cc), (tt, tt, λ e. cc))
-three_sided greater x y w p = ((tt, tt, λ e. cc), (tt, tt, λ e. cc))
-three_sided at_least x y w p = ((tt, tt, λ e. cc), (tt, tt, λ e. cc))
-three_sided tilde x y w p = ((tt, Spot.second_of_three x y w, λ e. cc), (tt, Spot.second_of_three x y w, λ e. cc))
-three_sided caret x y w p = ((tt, leading_of_three x y w, λ e. cc), npm_caret x y w p)
-three_sided bare x y w p = ((tt, leading_of_three x y w, λ e. cc), (tt, tt, λ e. refl))
-three_sided equal x y w p = ((tt, tt, λ e. refl), (tt, tt, λ e. refl))
+three_sided : (operator : Operator) (x y w : ℕ) (p : List IdentifierValue) → Both operator (x ∷ y ∷ w ∷ []) p
+three_sided Less x y w p = ((tt, tt, λ e. cc), (tt, tt, λ e. cc))
+three_sided LessOrEqual x y w p = ((tt, tt, λ e. cc), (tt, tt, λ e. cc))
+three_sided Greater x y w p = ((tt, tt, λ e. cc), (tt, tt, λ e. cc))
+three_sided GreaterOrEqual x y w p = ((tt, tt, λ e. cc), (tt, tt, λ e. cc))
+three_sided Hyphen x y w [] = ((tt, tt, λ e. cc), (refl, tt, λ e. cc))
+three_sided Hyphen x y w (i ∷ p) = ((tt, tt, λ e. cc), (tt, tt, λ e. cc))
+three_sided Tilde x y w p = ((tt, Spot.second_of_three x y w, λ e. cc), (tt, Spot.second_of_three x y w, λ e. cc))
+three_sided Caret x y w p = ((tt, leading_of_three x y w, λ e. cc), npm_caret x y w p)
+three_sided Bare x y w p = ((tt, leading_of_three x y w, λ e. cc), (tt, tt, λ e. refl))
+three_sided Equal x y w p = ((tt, tt, λ e. refl), (tt, tt, λ e. refl))
 
-pub both_sided : (form : Form) {s : List ℕ} → Shape s → (p : List IdentifierValue) → ((length s == 3) ≡ false → p ≡ []) → Both form s p
-both_sided form Shape.none p none = rw (none refl) ((refl, tt, λ e. cc), npm_none form)
-both_sided form (Shape.one x) p none = rw (none refl) (one_sided form x)
-both_sided form (Shape.two x y) p none = rw (none refl) (two_sided form x y)
-both_sided form (Shape.three x y w) p none = three_sided form x y w p
+pub both_sided : (operator : Operator) {s : List ℕ} → Shape s → (p : List IdentifierValue) → ((length s == 3) ≡ false → p ≡ []) → Both operator s p
+both_sided operator Shape.none p none = rw (none refl) ((refl, tt, λ e. cc), npm_none operator)
+both_sided operator (Shape.one x) p none = rw (none refl) (one_sided operator x)
+both_sided operator (Shape.two x y) p none = rw (none refl) (two_sided operator x y)
+both_sided operator (Shape.three x y w) p none = three_sided operator x y w p
 
 -- raising a number of the zero-filled version is raising the stated number
 pub raised_same : {s : List ℕ} {k : ℕ} → Spot s k → (p : List IdentifierValue) → up k (numbers (filled s p)) ≡ up k s
@@ -115,15 +122,17 @@ raised_same (Spot.second_of_three x y w) p = refl
 raised_same (Spot.third_of_three x y w) p = refl
 
 -- ---- comparators with identifiers of any size
-any_lower : (lower : LowerBounds) (side : Option SideValue) (z : PlainVersion)
-    → map comparator_any (at_side (lower_comparator lower) side z) ≡ at_side (lower_comparator lower) side (plain_by AnySize z)
-any_lower lower None z = refl
-any_lower Stated (Some below) z = refl
-any_lower Lowest (Some below) z = refl
-any_lower lower (Some at) z = refl
-any_lower lower (Some past) z = refl
-any_lower Stated (Some (above k)) z = refl
-any_lower Lowest (Some (above k)) z = refl
+any_lower : (rule : PreReleases) (side : Option SideValue) (z : PlainVersion)
+    → map comparator_any (at_side (lower_comparator rule) side z) ≡ at_side (lower_comparator rule) side (plain_by AnySize z)
+any_lower rule None z = refl
+any_lower ByDialect (Some below) z = refl
+any_lower Included (Some below) z = refl
+any_lower Excluded (Some below) z = refl
+any_lower rule (Some at) z = refl
+any_lower rule (Some past) z = refl
+any_lower ByDialect (Some (above k)) z = refl
+any_lower Included (Some (above k)) z = refl
+any_lower Excluded (Some (above k)) z = refl
 
 any_upper : (side : Option SideValue) (z : PlainVersion)
     → map comparator_any (at_side upper_comparator side z) ≡ at_side upper_comparator side (plain_by AnySize z)
@@ -133,12 +142,12 @@ any_upper (Some at) z = refl
 any_upper (Some past) z = refl
 any_upper (Some (above k)) z = refl
 
-any_printed : (lower : LowerBounds) (first last : Option SideValue) (z : PlainVersion)
-    → map comparator_any (printed lower first last z) ≡ printed lower first last (plain_by AnySize z)
-any_printed lower first last z = by_test (is_some first && ends_past last)
+any_printed : (rule : PreReleases) (first last : Option SideValue) (z : PlainVersion)
+    → map comparator_any (printed rule first last z) ≡ printed rule first last (plain_by AnySize z)
+any_printed rule first last z = by_test (is_some first && ends_past last)
     (λ y. rw y refl)
-    (λ n. rw n (map-append comparator_any (at_side (lower_comparator lower) first z) (at_side upper_comparator last z)
-    ∙ (λ i. any_lower lower first z i ++ any_upper last z i)))
+    (λ n. rw n (map-append comparator_any (at_side (lower_comparator rule) first z) (at_side upper_comparator last z)
+    ∙ (λ i. any_lower rule first z i ++ any_upper last z i)))
 
 -- ---- the versions that satisfy them
 
@@ -168,49 +177,51 @@ above_floor same = refl
 above_floor tail_past = refl
 
 -- the pre-release of a lower bound that isn't at the zero-filled version
-abbrev pub bound_pre : LowerBounds → List IdentifierValue
-bound_pre Stated = []
-bound_pre Lowest = lowest_pre_release
+abbrev pub bound_pre : PreReleases → List IdentifierValue
+bound_pre Included = lowest_pre_release
+bound_pre rule = []
 
 -- no version is below the lowest pre-release of its numbers
 pub lowest_ge : (v : PlainVersion) → is_ge (pre_cmp v.pre lowest_pre_release) ≡ true
 lowest_ge v = above_floor (floor v.pre)
 
-module _ (lower : LowerBounds) (v : PlainVersion) (ge : is_ge (pre_cmp v.pre (bound_pre lower)) ≡ true) where
+module _ (rule : PreReleases) (v : PlainVersion) (ge : is_ge (pre_cmp v.pre (bound_pre rule)) ≡ true) where
   module _ (s : List ℕ) (p : List IdentifierValue) where
-    from_below : (lower : LowerBounds) → is_ge (pre_cmp v.pre (bound_pre lower)) ≡ true → p ≡ []
-        → meets_comparator v (lower_comparator lower below (filled s p)) ≡ is_ge (first_numbers 3 v (filled s p))
-    from_below Stated ge none = rw none (from_numbers v [] ge (filled s []))
-    from_below Lowest ge none = from_numbers v lowest_pre_release ge (filled s p)
+    from_below : (rule : PreReleases) → is_ge (pre_cmp v.pre (bound_pre rule)) ≡ true → p ≡ []
+        → meets_comparator v (lower_comparator rule below (filled s p)) ≡ is_ge (first_numbers 3 v (filled s p))
+    from_below Included ge none = from_numbers v lowest_pre_release ge (filled s p)
+    from_below ByDialect ge none = rw none (from_numbers v [] ge (filled s []))
+    from_below Excluded ge none = rw none (from_numbers v [] ge (filled s []))
 
-    from_above : {k : ℕ} (lower : LowerBounds) → is_ge (pre_cmp v.pre (bound_pre lower)) ≡ true → Spot s k
-        → meets_comparator v (lower_comparator lower (above k) (filled s p)) ≡ is_gt (first_numbers k v (filled s p))
-    from_above Stated ge spot = ap (λ b. is_ge (precedence v b)) (raised_same spot p) ∙ past_raised v [] ge spot p
-    from_above Lowest ge spot =
+    from_above : {k : ℕ} (rule : PreReleases) → is_ge (pre_cmp v.pre (bound_pre rule)) ≡ true → Spot s k
+        → meets_comparator v (lower_comparator rule (above k) (filled s p)) ≡ is_gt (first_numbers k v (filled s p))
+    from_above ByDialect ge spot = ap (λ b. is_ge (precedence v b)) (raised_same spot p) ∙ past_raised v [] ge spot p
+    from_above Excluded ge spot = ap (λ b. is_ge (precedence v b)) (raised_same spot p) ∙ past_raised v [] ge spot p
+    from_above Included ge spot =
         ap (λ b. is_ge (precedence v (exact_bound b))) (raised_same spot p) ∙ past_raised v lowest_pre_release ge spot p
 
     lower_meets : (side : SideValue) → Raises s p (Some side)
-        → meets_comparator v (lower_comparator lower side (filled s p)) ≡ is_above_lower (Some side) (filled s p) v
-    lower_meets below none = from_below lower ge none
+        → meets_comparator v (lower_comparator rule side (filled s p)) ≡ is_above_lower (Some side) (filled s p) v
+    lower_meets below none = from_below rule ge none
     lower_meets at r = refl
     lower_meets past r = refl
-    lower_meets (above k) spot = from_above lower ge spot
+    lower_meets (above k) spot = from_above rule ge spot
 
     upper_meets : (side : SideValue) → Raises s p (Some side)
         → meets_comparator v (upper_comparator side (filled s p)) ≡ not (is_above_upper (Some side) (filled s p) v)
     upper_meets below r = sym (not_ge _) ∙ ap not (from_numbers v lowest_pre_release (lowest_ge v) (filled s p))
     upper_meets at r = sym (not_ge _)
     upper_meets past r = sym (not_gt _)
-    upper_meets (above k) spot = sym (not_ge _) ∙ ap not (from_above Lowest (lowest_ge v) spot)
+    upper_meets (above k) spot = sym (not_ge _) ∙ ap not (from_above Included (lowest_ge v) spot)
 
     both_meet : (first last : SideValue) → Raises s p (Some first) → Raises s p (Some last)
-        → (meets_comparator v (lower_comparator lower first (filled s p)) && (meets_comparator v (upper_comparator last (filled s p)) && true))
+        → (meets_comparator v (lower_comparator rule first (filled s p)) && (meets_comparator v (upper_comparator last (filled s p)) && true))
         ≡ is_between (Some first, Some last) (filled s p) v
     both_meet first last r q = λ i. lower_meets first r i && (and-true _ ∙ upper_meets last q) i
 
     printed_meets : (first last : Option SideValue) → Raises s p first → Raises s p last
         → ((is_some first && ends_past last) ≡ true → first ≡ Some at)
-        → list_all (meets_comparator v) (printed lower first last (filled s p)) ≡ is_between (first, last) (filled s p) v
+        → list_all (meets_comparator v) (printed rule first last (filled s p)) ≡ is_between (first, last) (filled s p) v
     printed_meets None None r q h = refl
     printed_meets None (Some side) r q h = and-true _ ∙ upper_meets side q
     printed_meets (Some side) None r q h = ap (λ b. b && true) (lower_meets side r)
@@ -221,13 +232,13 @@ module _ (lower : LowerBounds) (v : PlainVersion) (ge : is_ge (pre_cmp v.pre (bo
     printed_meets (Some side) (Some (above k)) r q h = both_meet side (above k) r q
 
   -- a version satisfies the comparators of a term if and only if it is within its bounds
-  pub term_meets : (d : Dialect) (s : Simple) → Sided d s.form (stated s.partial) (pre_any s.partial)
-      → list_all (meets_comparator v) (map comparator_any (printed_term lower d s))
-      ≡ is_within d s.form (stated s.partial) (plain_by AnySize (zero_filled s.partial)) v
+  pub term_meets : (d : Dialect) (s : Simple) → Sided d s.operator (stated s.partial) (pre_any s.partial)
+      → list_all (meets_comparator v) (map comparator_any (printed_term rule d s))
+      ≡ is_within d s.operator (stated s.partial) (plain_by AnySize (zero_filled s.partial)) v
   term_meets d s both =
       let z = zero_filled s.partial in
       let ns = stated s.partial in
-      ap (list_all (meets_comparator v)) (any_printed lower (sides d s.form ns (not (is_empty z.pre))).0 (sides d s.form ns (not (is_empty z.pre))).1 z)
-      ∙ (λ i. list_all (meets_comparator v) (printed lower (sides d s.form ns (not (sym (by_empty AnySize z.pre) i))).0
-      (sides d s.form ns (not (sym (by_empty AnySize z.pre) i))).1 (filled ns (pre_any s.partial))))
+      ap (list_all (meets_comparator v)) (any_printed rule (sides d s.operator ns (not (is_empty z.pre))).0 (sides d s.operator ns (not (is_empty z.pre))).1 z)
+      ∙ (λ i. list_all (meets_comparator v) (printed rule (sides d s.operator ns (not (sym (by_empty AnySize z.pre) i))).0
+      (sides d s.operator ns (not (sym (by_empty AnySize z.pre) i))).1 (filled ns (pre_any s.partial))))
       ∙ printed_meets ns (pre_any s.partial) _ _ both.0 both.1 both.2

@@ -23,7 +23,7 @@ module _ (d : Dialect) (s : Simple) (none : None ≡ first_above (limit d) (stat
   all_within = by_test (list_all (λ n. nat_le n (limit d)) (stated s.partial)) (λ y. y) (λ n. absurd (let e = rw n at none in cc))
 
   pub raised_large : term_fits d s ≡ false → (k : ℕ)
-      → k ≡ raised_index (sides d s.form (stated s.partial) (not (is_empty (zero_filled s.partial).pre))) → Some k ≡ too_large d s
+      → k ≡ raised_index (sides d s.operator (stated s.partial) (not (is_empty (zero_filled s.partial).pre))) → Some k ≡ too_large d s
   raised_large unfit k is = rw (unfit, ← none, is) refl
 
 -- the first or the second number that was read is the first above a limit

@@ -14,11 +14,14 @@ use Rattle.semver_ranges.specs.declared.range.Compat.TheVariants.{Cargo}
 use Rattle.semver_texts.specs.Precedence.{precedence}
 use Rattle.semver_texts.specs.Texts.{is_empty}
 use Rattle.semver_texts.specs.Versions.{numbers, PlainVersion}
-use Rattle.semver_ranges.specs.RangeTree.{Form, less, at_most, greater, at_least}
-use Rattle.semver_ranges.specs.RangeTree.{caret, Simple, SetTree}
+use Rattle.semver_ranges.specs.declared.operator.Operator.{Operator}
+use Rattle.semver_ranges.specs.declared.operator.Operator.TheVariants.{Less, LessOrEqual, Greater}
+use Rattle.semver_ranges.specs.declared.operator.Operator.TheVariants.{GreaterOrEqual, Caret}
+use Rattle.semver_ranges.specs.declared.operator.Operator.TheVariants.{Hyphen}
+use Rattle.semver_ranges.specs.RangeTree.{Simple, SetTree}
 use Rattle.semver_ranges.specs.Partials.{stated}
 use Rattle.semver_ranges.specs.Terms.{of_simple}
-use Rattle.semver_ranges.specs.CrateMeaning.{agrees_past_zeros, meets_form}
+use Rattle.semver_ranges.specs.CrateMeaning.{agrees_past_zeros, meets_operator}
 use Rattle.semver_ranges.specs.StatedPreReleases.{states_pre_release_at}
 use Rattle.version_sets.specs.declared.rules.PreReleases.{PreReleases}
 use Rattle.version_sets.specs.declared.rules.PreReleases.TheVariants.{ByDialect, Included, Excluded}
@@ -45,27 +48,29 @@ abbrev pub is_below_some : PreReleases → List ℕ → PlainVersion → PlainVe
 is_below_some Included s z v = is_lt (precedence v z)
 is_below_some _ s z v = is_lt (against s v)
 
--- whether a version satisfies a comparator with one or two stated numbers
-abbrev pub meets_some_stated : PreReleases → Form → List ℕ → PlainVersion → PlainVersion → Bool
-meets_some_stated rule less s z v = is_below_some rule s z v
-meets_some_stated rule greater s z v = is_gt (against s v)
-meets_some_stated rule at_most s z v = is_lt (against s v) || is_one_of rule s v
-meets_some_stated rule at_least s z v = is_gt (against s v) || is_one_of rule s v
-meets_some_stated rule caret s z v = is_ge (against s v) && agrees_past_zeros s (numbers v)
+-- whether a version satisfies a comparator with one or two stated numbers. No comparator has
+-- `before_hyphen`, since Cargo has no hyphen ranges
+abbrev pub meets_some_stated : PreReleases → Operator → List ℕ → PlainVersion → PlainVersion → Bool
+meets_some_stated rule Less s z v = is_below_some rule s z v
+meets_some_stated rule Greater s z v = is_gt (against s v)
+meets_some_stated rule LessOrEqual s z v = is_lt (against s v) || is_one_of rule s v
+meets_some_stated rule GreaterOrEqual s z v = is_gt (against s v) || is_one_of rule s v
+meets_some_stated rule Hyphen s z v = is_gt (against s v) || is_one_of rule s v
+meets_some_stated rule Caret s z v = is_ge (against s v) && agrees_past_zeros s (numbers v)
 meets_some_stated rule _ s z v = is_one_of rule s v
 
 -- whether a version satisfies a comparator, by how many numbers are stated. If none is, each
 -- release does, and with `Included` each version. If three are, it is as in the crate's Cargo mode
-abbrev pub meets_by_count : PreReleases → Form → List ℕ → PlainVersion → PlainVersion → Bool
-meets_by_count rule form [] z v = is_one rule v
-meets_by_count rule form (a ∷ []) z v = meets_some_stated rule form (a ∷ []) z v
-meets_by_count rule form (a ∷ b ∷ []) z v = meets_some_stated rule form (a ∷ b ∷ []) z v
-meets_by_count rule form (a ∷ b ∷ c ∷ rest) z v = meets_form Cargo form (a ∷ b ∷ c ∷ rest) z v
+abbrev pub meets_by_count : PreReleases → Operator → List ℕ → PlainVersion → PlainVersion → Bool
+meets_by_count rule operator [] z v = is_one rule v
+meets_by_count rule operator (a ∷ []) z v = meets_some_stated rule operator (a ∷ []) z v
+meets_by_count rule operator (a ∷ b ∷ []) z v = meets_some_stated rule operator (a ∷ b ∷ []) z v
+meets_by_count rule operator (a ∷ b ∷ c ∷ rest) z v = meets_operator Cargo operator (a ∷ b ∷ c ∷ rest) z v
 
 -- whether a version satisfies a comparator
 abbrev pub meets_one : PreReleases → Simple → PlainVersion → Bool
 meets_one rule s v =
-    meets_by_count rule (as_read s).form (stated s.partial) (zero_filled_any s.partial) v
+    meets_by_count rule (as_read s).operator (stated s.partial) (zero_filled_any s.partial) v
 
 -- whether a version counts by default: each release does, and a pre-release does if some comparator
 -- states its three numbers and a pre-release

@@ -1,7 +1,6 @@
 -- The dialects of range texts: which trees spell a text, which texts are invalid, and the
 -- comparators that a text is rewritten to.
 use Rattle.std.specs.Prelude.{◌≡◌, Bool, false, IsTrue, Result}
-use Rattle.semver_ranges.specs.declared.partial.LowerBounds.TheVariants.{Stated}
 use Rattle.semver_ranges.specs.declared.range_set.RangeError.{RangeError}
 use Rattle.semver_texts.specs.Texts.{Text}
 use Rattle.semver_texts.specs.Versions.{PlainVersion}
@@ -67,7 +66,7 @@ abbrev pub rewritten_as : Dialect → SetTree → PlainSet
 rewritten_as CrateCargo tree = rewritten_exactly compat.Cargo tree
 rewritten_as CrateNpm tree = rewritten_exactly compat.Npm tree
 rewritten_as dialect tree =
-    set_by (λ s. printed_term Stated dialect (read_in dialect s)) (mode_of dialect) tree
+    set_by (λ s. printed_term ByDialect dialect (read_in dialect s)) (mode_of dialect) tree
 
 -- the set is the one that each tree of the text is rewritten to
 abbrev pub IsRewrittenAs : Dialect → Text → PlainSet → Type 0

@@ -3,7 +3,8 @@ use Rattle.std.specs.Prelude.{ℕ, not, if◌then◌else◌, List, nat_le}
 use Rattle.std.specs.Prelude.{Option, Some, None, unwrap_or}
 use Rattle.std.specs.List.{list_all, prefix_len}
 use Rattle.semver_texts.specs.Texts.{is_empty}
-use Rattle.semver_ranges.specs.RangeTree.{Form, Simple}
+use Rattle.semver_ranges.specs.declared.operator.Operator.{Operator}
+use Rattle.semver_ranges.specs.RangeTree.{Simple}
 use Rattle.semver_ranges.specs.Partials.{stated, zero_filled}
 use Rattle.tool_ranges.specs.declared.dialect.Dialect.{Dialect}
 use Rattle.tool_ranges.specs.declared.dialect.Dialect.TheVariants.{Cargo}
@@ -12,12 +13,12 @@ use Rattle.tool_ranges.specs.DialectTable.{limit}
 use Rattle.tool_ranges.specs.Sides.{raised_index, sides, term_fits}
 
 -- the operator that the dialect reads, and a term with it
-abbrev pub operator_in : Dialect → Simple → Form
-operator_in Cargo s = (as_read s).form
-operator_in dialect s = s.form
+abbrev pub operator_in : Dialect → Simple → Operator
+operator_in Cargo s = (as_read s).operator
+operator_in dialect s = s.operator
 
 abbrev pub read_in : Dialect → Simple → Simple
-read_in dialect s = record { form = operator_in dialect s; partial = s.partial }
+read_in dialect s = record { operator = operator_in dialect s; partial = s.partial }
 
 -- ---- the number that is too large
 
@@ -32,5 +33,5 @@ first_above most ns = if list_all (λ n. nat_le n most) ns then None
 abbrev pub too_large : Dialect → Simple → Option ℕ
 too_large dialect s = if term_fits dialect s then None
     else Some (unwrap_or (first_above (limit dialect) (stated s.partial))
-    (raised_index (sides dialect s.form (stated s.partial)
+    (raised_index (sides dialect s.operator (stated s.partial)
     (not (is_empty (zero_filled s.partial).pre)))))

@@ -9,9 +9,11 @@ use Rattle.std.specs.Ordering.{is_eq, is_lt, is_gt, is_le, is_ge}
 use Rattle.semver_texts.specs.Texts.{is_empty}
 use Rattle.semver_texts.specs.Precedence.{precedence}
 use Rattle.semver_texts.specs.Versions.{numbers, PlainVersion}
-use Rattle.semver_ranges.specs.RangeTree.{Form, less, at_most, greater, at_least, tilde, caret}
-use Rattle.semver_ranges.specs.RangeTree.{PartialTree, Simple, SetTree, RangeTree, empty, hyphen}
-use Rattle.semver_ranges.specs.RangeTree.{simples}
+use Rattle.semver_ranges.specs.declared.operator.Operator.{Operator}
+use Rattle.semver_ranges.specs.declared.operator.Operator.TheVariants.{Less, LessOrEqual, Greater}
+use Rattle.semver_ranges.specs.declared.operator.Operator.TheVariants.{GreaterOrEqual, Tilde, Caret}
+use Rattle.semver_ranges.specs.declared.operator.Operator.TheVariants.{Hyphen}
+use Rattle.semver_ranges.specs.RangeTree.{Simple, SetTree, RangeTree, empty, hyphen, simples}
 use Rattle.semver_ranges.specs.Partials.{stated, states_nothing, zero_filled}
 use Rattle.semver_ranges.specs.Terms.{Term, of_simple, of_nothing, left_side, right_side, terms}
 use Rattle.semver_ranges.specs.CrateMeaning.{agrees, agrees_past_zeros}
@@ -39,24 +41,25 @@ is_from_numbers s z v = if is_empty z.pre then is_ge (against s v) else is_ge (p
 
 -- whether a version is not below the lower bound of a term with one or two stated numbers. With
 -- `Included`, the bound includes the pre-releases of these numbers, except for `~`
-abbrev pub begins_some : PreReleases → Form → List ℕ → PlainVersion → PlainVersion → Bool
-begins_some Included tilde s z v = is_ge (precedence v z)
-begins_some Included form s z v = is_ge (against s v)
-begins_some rule form s z v = is_from rule z v
+abbrev pub begins_some : PreReleases → Operator → List ℕ → PlainVersion → PlainVersion → Bool
+begins_some Included Tilde s z v = is_ge (precedence v z)
+begins_some Included operator s z v = is_ge (against s v)
+begins_some rule operator s z v = is_from rule z v
 
 -- whether a version is not below the lower bound of a term with three stated numbers. With
--- `Included`, the bound of `^` with the first number 0 and no pre-release includes the pre-releases
--- of these numbers
-abbrev pub begins_three : PreReleases → Form → List ℕ → PlainVersion → PlainVersion → Bool
-begins_three Included caret s z v =
+-- `Included`, two bounds include the pre-releases of these numbers, unless a pre-release is stated:
+-- that of `^` with the first number 0, and that of the left side of a hyphen range
+abbrev pub begins_three : PreReleases → Operator → List ℕ → PlainVersion → PlainVersion → Bool
+begins_three Included Caret s z v =
     if z.major == 0 then is_from_numbers s z v else is_ge (precedence v z)
-begins_three rule form s z v = is_from rule z v
+begins_three Included Hyphen s z v = is_from_numbers s z v
+begins_three rule operator s z v = is_from rule z v
 
 -- whether a version satisfies a term that states nothing: none does for `<` and `>`, and every
 -- version does for the others
-abbrev pub meets_nothing_stated : Form → Bool
-meets_nothing_stated less = false
-meets_nothing_stated greater = false
+abbrev pub meets_nothing_stated : Operator → Bool
+meets_nothing_stated Less = false
+meets_nothing_stated Greater = false
 meets_nothing_stated _ = true
 
 -- whether a version is above one or two stated numbers: with `Included` its first numbers are
@@ -67,65 +70,62 @@ is_above_some _ s v = is_ge (precedence v (up (length s) s))
 
 -- whether a version satisfies a term with one or two stated numbers. For `<` and `<=`, only as many
 -- of its numbers are compared
-abbrev pub meets_some_stated : PreReleases → Form → List ℕ → PlainVersion → PlainVersion → Bool
-meets_some_stated rule less s z v = is_lt (against s v)
-meets_some_stated rule at_most s z v = is_le (against s v)
-meets_some_stated rule greater s z v = is_above_some rule s v
-meets_some_stated rule at_least s z v = begins_some rule at_least s z v
-meets_some_stated rule caret s z v =
-    begins_some rule caret s z v && agrees_past_zeros s (numbers v)
-meets_some_stated rule form s z v = begins_some rule form s z v && agrees (length s) s v
+abbrev pub meets_some_stated : PreReleases → Operator → List ℕ → PlainVersion → PlainVersion → Bool
+meets_some_stated rule Less s z v = is_lt (against s v)
+meets_some_stated rule LessOrEqual s z v = is_le (against s v)
+meets_some_stated rule Greater s z v = is_above_some rule s v
+meets_some_stated rule GreaterOrEqual s z v = begins_some rule GreaterOrEqual s z v
+meets_some_stated rule Hyphen s z v = begins_some rule Hyphen s z v
+meets_some_stated rule Caret s z v =
+    begins_some rule Caret s z v && agrees_past_zeros s (numbers v)
+meets_some_stated rule operator s z v = begins_some rule operator s z v && agrees (length s) s v
 
 -- whether a version satisfies a term with three stated numbers
-abbrev pub meets_three_stated : PreReleases → Form → List ℕ → PlainVersion → PlainVersion → Bool
-meets_three_stated rule less s z v = is_lt (precedence v z)
-meets_three_stated rule at_most s z v = is_le (precedence v z)
-meets_three_stated rule greater s z v = is_gt (precedence v z)
-meets_three_stated rule at_least s z v = begins_three rule at_least s z v
-meets_three_stated rule tilde s z v = begins_three rule tilde s z v && agrees 2 s v
-meets_three_stated rule caret s z v =
-    begins_three rule caret s z v && agrees_past_zeros s (numbers v)
+abbrev pub meets_three_stated : PreReleases → Operator → List ℕ → PlainVersion → PlainVersion → Bool
+meets_three_stated rule Less s z v = is_lt (precedence v z)
+meets_three_stated rule LessOrEqual s z v = is_le (precedence v z)
+meets_three_stated rule Greater s z v = is_gt (precedence v z)
+meets_three_stated rule GreaterOrEqual s z v = begins_three rule GreaterOrEqual s z v
+meets_three_stated rule Hyphen s z v = begins_three rule Hyphen s z v
+meets_three_stated rule Tilde s z v = begins_three rule Tilde s z v && agrees 2 s v
+meets_three_stated rule Caret s z v =
+    begins_three rule Caret s z v && agrees_past_zeros s (numbers v)
 meets_three_stated rule _ s z v = is_eq (precedence v z)
 
-abbrev pub meets_by_count : PreReleases → Form → List ℕ → PlainVersion → PlainVersion → Bool
-meets_by_count rule form [] z v = meets_nothing_stated form
-meets_by_count rule form (a ∷ []) z v = meets_some_stated rule form (a ∷ []) z v
-meets_by_count rule form (a ∷ b ∷ []) z v = meets_some_stated rule form (a ∷ b ∷ []) z v
-meets_by_count rule form (a ∷ b ∷ c ∷ rest) z v =
-    meets_three_stated rule form (a ∷ b ∷ c ∷ rest) z v
+abbrev pub meets_by_count : PreReleases → Operator → List ℕ → PlainVersion → PlainVersion → Bool
+meets_by_count rule operator [] z v = meets_nothing_stated operator
+meets_by_count rule operator (a ∷ []) z v = meets_some_stated rule operator (a ∷ []) z v
+meets_by_count rule operator (a ∷ b ∷ []) z v = meets_some_stated rule operator (a ∷ b ∷ []) z v
+meets_by_count rule operator (a ∷ b ∷ c ∷ rest) z v =
+    meets_three_stated rule operator (a ∷ b ∷ c ∷ rest) z v
 
 -- whether a version satisfies a term
 abbrev pub meets_one : PreReleases → Simple → PlainVersion → Bool
 meets_one rule s v =
-    meets_by_count rule s.form (stated s.partial) (zero_filled_any s.partial) v
-
--- whether a version satisfies the left side of a hyphen range. With `Included`, a side without a
--- pre-release includes the pre-releases of its numbers
-abbrev pub meets_left : PreReleases → PartialTree → PlainVersion → Bool
-meets_left Included p v = is_from_numbers (stated p) (zero_filled_any p) v
-meets_left rule p v = meets_one rule (left_side p) v
+    meets_by_count rule s.operator (stated s.partial) (zero_filled_any s.partial) v
 
 -- whether a version satisfies a range: each of its terms, or both sides of a hyphen range. Every
 -- version satisfies an empty range
 abbrev pub meets_range : PreReleases → RangeTree → PlainVersion → Bool
 meets_range rule empty v = true
 meets_range rule (hyphen left right) v =
-    meets_left rule left v && meets_one rule (right_side right) v
+    meets_one rule (left_side left) v && meets_one rule (right_side right) v
 meets_range rule (simples first others) v = list_all (λ s. meets_one rule s v) (first ∷ others)
 
 -- whether a term matches everything for npm's default rule, by whether it states nothing, and
--- whether its zero-filled version is 0.0.0: `<` and `>` never do, `>=` does if that version is
--- 0.0.0, and the others do if nothing is stated
-abbrev pub asks_nothing_by : Form → Bool → Bool → Bool
-asks_nothing_by less none zero = false
-asks_nothing_by greater none zero = false
-asks_nothing_by at_least none zero = zero
+-- whether its zero-filled version is 0.0.0: `<` and `>` never do, `>=` and the left side of a hyphen
+-- range do if that version is 0.0.0, and the others do if nothing is stated
+abbrev pub asks_nothing_by : Operator → Bool → Bool → Bool
+asks_nothing_by Less none zero = false
+asks_nothing_by Greater none zero = false
+asks_nothing_by GreaterOrEqual none zero = zero
+asks_nothing_by Hyphen none zero = zero
 asks_nothing_by _ none zero = none
 
 -- whether a term matches everything for npm's default rule; an empty range does
 abbrev pub matches_everything : Term → Bool
 matches_everything (of_simple s) =
-    asks_nothing_by s.form (states_nothing s.partial) (is_zero (zero_filled s.partial))
+    asks_nothing_by s.operator (states_nothing s.partial) (is_zero (zero_filled s.partial))
 matches_everything of_nothing = true
 
 -- whether each term of a range matches everything

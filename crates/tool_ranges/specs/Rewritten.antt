@@ -1,40 +1,31 @@
 -- The plain comparators that a range text in npm's dialect is rewritten to with node-semver's
 -- `includePrerelease`.
-use Rattle.std.specs.Prelude.{if◌then◌else◌, List, [], ◌∷◌, ◌++◌, map}
+use Rattle.std.specs.Prelude.{if◌then◌else◌, ◌&&◌, List, [], ◌∷◌, map}
 use Rattle.std.specs.List.{flat_map}
-use Rattle.semver_texts.specs.Texts.{is_empty}
-use Rattle.semver_ranges.specs.declared.partial.LowerBounds.TheVariants.{Lowest}
 use Rattle.semver_ranges.specs.declared.range.Compat.TheVariants.{Npm}
 use Rattle.semver_ranges.specs.declared.range.Op.TheVariants.{Gte}
 use Rattle.semver_ranges.specs.ExactBounds.{exact_bound}
-use Rattle.semver_ranges.specs.Partials.{states_nothing, zero_filled, zero_version}
-use Rattle.semver_ranges.specs.RangeTree.{Simple, PartialTree, RangeTree, empty, hyphen, simples}
-use Rattle.semver_ranges.specs.RangeTree.{SetTree}
+use Rattle.semver_ranges.specs.Partials.{states_nothing, zero_version}
+use Rattle.semver_ranges.specs.RangeTree.{Simple, RangeTree, empty, hyphen, simples, SetTree}
 use Rattle.semver_ranges.specs.RewritingTable.{PlainComparator, PlainSet, comparator}
-use Rattle.semver_ranges.specs.Terms.{right_side}
+use Rattle.semver_ranges.specs.Terms as terms
+use Rattle.version_sets.specs.declared.rules.PreReleases.TheVariants.{Included}
 use Rattle.tool_ranges.specs.declared.dialect.Dialect.TheVariants as dialect
 use Rattle.tool_ranges.specs.TermComparators.{printed_term}
 
 -- the comparators of a term. A lower bound that includes the pre-releases of its numbers is the
 -- lowest of these, such as `>=1.2.0-0`, so it is right for pre-releases, too
 abbrev pub included_simple : Simple → List PlainComparator
-included_simple s = printed_term Lowest dialect.Npm s
+included_simple s = printed_term Included dialect.Npm s
 
--- the comparator of the left side of a hyphen range, which includes the pre-releases of its numbers
--- unless it states a pre-release
-abbrev pub included_left : PartialTree → List PlainComparator
-included_left p =
-    if is_empty (zero_filled p).pre then comparator Gte (exact_bound (zero_filled p)) ∷ []
-    else comparator Gte (zero_filled p) ∷ []
-
--- the comparators of a range: `>=0.0.0-0` if it is empty or both sides state nothing; if only one
--- side states nothing, those of the other side
+-- the comparators of a range: of its terms, or of the sides of a hyphen range. It is `>=0.0.0-0` if
+-- the range is empty, or if both sides state nothing
 abbrev pub included_range : RangeTree → List PlainComparator
 included_range empty = comparator Gte (exact_bound zero_version) ∷ []
 included_range (hyphen left right) =
-    if states_nothing right then included_left left
-    else (if states_nothing left then included_simple (right_side right)
-    else included_left left ++ included_simple (right_side right))
+    if states_nothing left && states_nothing right
+    then comparator Gte (exact_bound zero_version) ∷ []
+    else flat_map included_simple (terms.sides left right)
 included_range (simples first others) = flat_map included_simple (first ∷ others)
 
 -- the set that a text is rewritten to: its ranges in order, in npm mode

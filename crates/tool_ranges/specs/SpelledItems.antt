@@ -4,11 +4,14 @@ use Rattle.std.specs.Prelude.{Some, None, List, [], ◌∷◌, ◌++◌, codes}
 use Rattle.semver_texts.specs.Texts.{Text}
 use Rattle.semver_texts.specs.declared.grammar.Grammar.{Grammar}
 use Rattle.semver_texts.specs.declared.grammar.Grammar.TheVariants as grammar
-use Rattle.semver_ranges.specs.RangeTree.{Form, bare, Simple, RangeTree, empty, hyphen, simples}
-use Rattle.semver_ranges.specs.RangeTree.{SetTree, SpellsSimple, SpellsSimples, SpellsRange}
-use Rattle.semver_ranges.specs.RangeTree.{SpellsPadded, SpellsRangeIn}
-use Rattle.semver_ranges.specs.CargoGrammar.{comparators_of, sign, SpellsComparator}
+use Rattle.semver_ranges.specs.declared.operator.Operator.{Operator}
+use Rattle.semver_ranges.specs.declared.operator.Operator.TheVariants.{Bare, Hyphen}
+use Rattle.semver_ranges.specs.RangeTree.{Simple, RangeTree, empty, hyphen, simples, SetTree}
+use Rattle.semver_ranges.specs.RangeTree.{SpellsSimple, SpellsSimples, SpellsRange, SpellsPadded}
+use Rattle.semver_ranges.specs.RangeTree.{SpellsRangeIn}
+use Rattle.semver_ranges.specs.CargoGrammar.{comparators_of, SpellsComparator}
 use Rattle.semver_ranges.specs.CargoGrammar.{SpellsComparators}
+use Rattle.semver_ranges.specs.OperatorTable.{sign}
 use Rattle.semver_ranges.specs.TextItems.{FoundTerm, Item, one_term, empty_range, two_bars}
 use Rattle.tool_ranges.specs.declared.dialect.Dialect.{Dialect}
 use Rattle.tool_ranges.specs.declared.dialect.Dialect.TheVariants.{Cargo, Npm}
@@ -19,10 +22,10 @@ use Rattle.tool_ranges.specs.Dialects.{SpellsAs}
 module _ (d : Grammar) where
   -- an operator, if there is one, and a word
   abbrev pub simple_item : (s : Simple) (t after : Text) → SpellsSimple d s t → Item
-  simple_item s t after (front, word, form, spelled, whole) =
+  simple_item s t after (front, word, operator, spelled, whole) =
       one_term (record {
         from = t ++ after;
-        form = s.form;
+        operator = s.operator;
         version = record { partial = s.partial; from = word ++ after; after = after };
         upper = None;
       })
@@ -41,7 +44,7 @@ module _ (d : Grammar) where
       let rest = gap ++ (codes "-" ++ (gap' ++ (back ++ after))) in
       one_term (record {
         from = t ++ after;
-        form = bare;
+        operator = Hyphen;
         version = record { partial = left; from = front ++ rest; after = rest };
         upper = Some (record { partial = right; from = back ++ after; after = after });
       })
@@ -62,15 +65,15 @@ module _ (d : Grammar) where
 -- ---- comparators of Cargo
 
 -- the text from an operator on, or from the word on if there is no operator
-abbrev pub from_operator : Form → Text → Text → Text
-from_operator bare gap word = word
-from_operator form gap word = sign form ++ (gap ++ word)
+abbrev pub from_operator : Operator → Text → Text → Text
+from_operator Bare gap word = word
+from_operator operator gap word = sign operator ++ (gap ++ word)
 
 abbrev pub comparator_term : (s : Simple) (t after : Text) → SpellsComparator s t → FoundTerm
 comparator_term s t after spelled =
     record {
-      from = from_operator s.form spelled.gap (spelled.word ++ (spelled.after ++ after));
-      form = s.form;
+      from = from_operator s.operator spelled.gap (spelled.word ++ (spelled.after ++ after));
+      operator = s.operator;
       version = record {
         partial = s.partial;
         from = spelled.word ++ (spelled.after ++ after);

@@ -4,7 +4,6 @@ ghost use Rattle.std.specs.Prelude.{◌≡◌, ◌≢◌, ◌↔◌, ◌&&◌, �
 ghost use Rattle.std.specs.List.{list_all};
 ghost use Rattle.semver_texts.specs.Digits.{digits_in, plain_by};
 ghost use Rattle.semver_texts.specs.Texts.{Text};
-ghost use Rattle.semver_texts.specs.Versions.{PlainVersion};
 ghost use Rattle.semver_versions.specs.VersionRefs.{kept_version_of, version_of};
 ghost use Rattle.semver_ranges.specs.RangeTree.{SetTree};
 ghost use Rattle.semver_ranges.specs.Steps.RangeEvents.{Event as SomeEvent, event_fits};
@@ -15,12 +14,12 @@ ghost use Rattle.tool_ranges.specs.AtOrAbove.{HasAtOrAbove};
 ghost use Rattle.tool_ranges.specs.Dialects.{RefusesAs, SpellsAs, grammar_of};
 ghost use Rattle.tool_ranges.specs.Sides.{term_fits};
 ghost use Rattle.tool_ranges.specs.Steps.Checked.{HasEvents, IsCheckedAs};
-ghost use Rattle.tool_ranges.specs.Steps.Matching.{counts, lower_of, states_at, takes_all};
+ghost use Rattle.tool_ranges.specs.Steps.Matching.{counts, states_at, takes_all};
 ghost use Rattle.tool_ranges.specs.Steps.Reaching.{may_count, states_some};
 
 use crate::checked::Checked;
 use crate::dialect::Dialect;
-use crate::matching::{lower, matches_everything, takes_all};
+use crate::matching::{matches_everything, takes_all};
 use crate::meaning::Rules;
 use crate::sets::{is_by_default_of_npm, stated_numbers, with_term};
 use semver_ranges::RangeError;
@@ -54,7 +53,7 @@ pub fn has_at_or_above(
         (plain_by (digits_in (grammar_of meaning.dialect)) (kept_version_of version.now).plain)) }
 {
     let (dialect, rule) = (meaning.dialect, meaning.pre_releases);
-    let checked = Checked::new(range, dialect, lower(dialect, takes_all(rule)))?;
+    let checked = Checked::new(range, dialect)?;
     let version = version.read_by(dialect.grammar().digits());
     Ok(has_from(checked, &version, dialect, rule))
 }
@@ -68,9 +67,9 @@ fn has_from(
     rule: PreReleases,
 ) -> bool
     requires { (t : Text)
-        × IsCheckedAs (lower_of dialect (takes_all rule)) dialect t checked }
+        × IsCheckedAs dialect t checked }
     ensures { (t : Text) (tree : SetTree)
-        → IsCheckedAs (lower_of dialect (takes_all rule)) dialect t checked.entry
+        → IsCheckedAs dialect t checked.entry
         → SpellsAs dialect tree t → (result ≡ true)
         ↔ HasAtOrAbove (record { dialect = dialect; pre_releases = rule }) tree
         (version_of version.now).plain }

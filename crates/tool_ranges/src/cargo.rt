@@ -1,6 +1,6 @@
 //! Cargo's dialect: `1.2` is `>=1.2.0 <2.0.0`, and commas separate comparators.
 
-ghost use Rattle.std.specs.Prelude.{◌≡◌, ◌≤◌, [], true, IfOk, IsTrue, length};
+ghost use Rattle.std.specs.Prelude.{◌≡◌, ◌≤◌, [], IfOk, IsTrue, length};
 ghost use Rattle.semver_ranges.specs.RangeTree.{SetTree, Spells};
 ghost use Rattle.semver_texts.specs.Versions.{PlainVersion};
 ghost use Rattle.semver_ranges.specs.RangeViews.{set_of};
@@ -17,9 +17,9 @@ ghost use Rattle.tool_ranges.specs.declared.dialect.Dialect.TheVariants as diale
 
 use crate::dialect::Dialect;
 use crate::rewriting;
-use semver_ranges::partial::LowerBounds;
 use semver_ranges::{Compat, RangeError, RangeSet};
 use std::alloc::Global;
+use version_sets::PreReleases;
 
 /// The maximum number of comparators in a requirement.
 const MOST_COMPARATORS: usize = 32;
@@ -67,7 +67,7 @@ pub fn rewrite(alloc: Global, requirement: &str) -> Result<RangeSet, RangeError>
         requirement,
         Dialect::Cargo,
         Compat::Cargo,
-        LowerBounds::Stated,
+        PreReleases::ByDialect,
     )
 }
 

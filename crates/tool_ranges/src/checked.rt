@@ -3,8 +3,7 @@
 //! All of it is `inline(always)`, and so are the callers in `rewriting`: without these hints, the
 //! comparators of one term in Cargo's dialect take 12 % more instructions.
 
-ghost use Rattle.std.specs.Prelude.{◌≡◌, ◌≢◌, ◌<◌, Err, List, Option, IfSome, MatchResult};
-ghost use Rattle.semver_texts.specs.declared.grammar.Grammar.{Grammar as SomeGrammar};
+ghost use Rattle.std.specs.Prelude.{◌≢◌, ◌<◌, Err, List, Option, IfSome, MatchResult};
 ghost use Rattle.semver_ranges.specs.Steps.CursorViews.{HasLeft};
 ghost use Rattle.semver_ranges.specs.Steps.RangeEvents.{Event as SomeEvent};
 ghost use Rattle.tool_ranges.specs.Dialects.{RefusesAs, grammar_of};
@@ -18,7 +17,6 @@ use crate::table::fits;
 use semver_ranges::RangeError;
 use semver_ranges::events::{Event, Events};
 use semver_ranges::grammar::Simple;
-use semver_ranges::partial::LowerBounds;
 use semver_texts::grammar::Grammar;
 
 /// The terms of a range string that was checked. If there is only one, it isn't read again.
@@ -38,17 +36,13 @@ impl<'text> Checked<'text> {
     /// `NotARange` if the string isn't a range in the dialect, and `NumberTooLarge` if one of its
     /// numbers, or a number that is raised for one of its bounds, is above the limit.
     #[inline(always)]
-    pub(crate) fn new(
-        range: &'text str,
-        dialect: Dialect,
-        lower: LowerBounds,
-    ) -> Result<Checked<'text>, RangeError>
+    pub(crate) fn new(range: &'text str, dialect: Dialect) -> Result<Checked<'text>, RangeError>
         ensures { MatchResult result
-            (λ checked. IsCheckedAs lower dialect range.now checked)
+            (λ checked. IsCheckedAs dialect range.now checked)
             (λ e. IsRefusedAs dialect range.now e) }
     {
         let grammar = dialect.grammar();
-        let begin = events_of(range, dialect, lower)?;
+        let begin = events_of(range, dialect)?;
         let mut events = begin;
         let Some(event) = events.next_in(grammar) else {
             return Err(RangeError::NotARange);
@@ -92,7 +86,7 @@ pub(crate) fn check(range: &str, dialect: Dialect) -> Result<(), RangeError>
     ensures refusals { RefusesAs dialect range.now result }
     ensures no_memory { result ≢ Err RangeError.OutOfMemory }
 {
-    match Checked::new(range, dialect, LowerBounds::Stated) {
+    match Checked::new(range, dialect) {
         Ok(_) => Ok(()),
         Err(refusal) => Err(refusal),
     }

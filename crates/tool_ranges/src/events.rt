@@ -10,27 +10,21 @@ use crate::dialect::Dialect;
 use crate::npm::may_stand;
 use semver_ranges::RangeError;
 use semver_ranges::events::Events;
-use semver_ranges::partial::LowerBounds;
 
-/// Returns the events of a range string. `lower` says how the left side of a hyphen range is
-/// written.
+/// Returns the events of a range string.
 ///
 /// # Errors
 ///
 /// `NotARange` if the string has a character that can't be in a range of npm, or more comparators
 /// than a requirement of Cargo may have.
 #[inline(always)]
-pub(crate) fn events_of(
-    text: &str,
-    dialect: Dialect,
-    lower: LowerBounds,
-) -> Result<Events<'_>, RangeError>
+pub(crate) fn events_of(text: &str, dialect: Dialect) -> Result<Events<'_>, RangeError>
     ensures { MatchResult result
-        (λ events. HasLeft (grammar_of dialect) events (text_events lower dialect text.now))
+        (λ events. HasLeft (grammar_of dialect) events (text_events dialect text.now))
         (λ e. (e ≡ RangeError.NotARange) × (read_as dialect text.now ≡ None)) }
 {
     if may_be_a_range(text, dialect) {
-        Ok(Events::new(text.as_bytes(), dialect.grammar(), lower))
+        Ok(Events::new(text.as_bytes(), dialect.grammar()))
     } else {
         Err(RangeError::NotARange)
     }

@@ -6,14 +6,14 @@ ghost use Rattle.semver_texts.specs.Digits.{digits_in, plain_by};
 ghost use Rattle.semver_texts.specs.Texts.{is_empty};
 ghost use Rattle.semver_texts.specs.Versions.{PlainVersion, without_build};
 ghost use Rattle.semver_ranges.specs.RangeTree.{Simple as SimpleTree, SetTree};
-ghost use Rattle.semver_ranges.specs.Steps.CursorViews.{IsSimpleOf, form_of};
+ghost use Rattle.semver_ranges.specs.Steps.CursorViews.{IsSimpleOf};
 ghost use Rattle.semver_ranges.specs.Steps.PartialViews.{PartsPass, stated_of, version_of};
 ghost use Rattle.version_sets.specs.PreReleaseRules.{numbers_fit};
 ghost use Rattle.version_sets.specs.Steps.Cuts.{is_in_interval};
 ghost use Rattle.tool_ranges.specs.Dialects.{RefusesAs, SpellsAs, grammar_of};
 ghost use Rattle.tool_ranges.specs.Meanings.{meant_by};
 ghost use Rattle.tool_ranges.specs.Sides.{term_fits, sides_fit};
-ghost use Rattle.tool_ranges.specs.Steps.Matching.{Says, begun, counts, ended, lower_of, plain_of};
+ghost use Rattle.tool_ranges.specs.Steps.Matching.{Says, begun, counts, ended, plain_of};
 ghost use Rattle.tool_ranges.specs.Steps.Matching.{is_met, states_at, taken, takes_all, term_met};
 ghost use Rattle.tool_ranges.specs.Steps.Reading.{IsRead, IsRefusedAs};
 ghost use Rattle.tool_ranges.specs.Steps.Table.{is_counted_within, is_within};
@@ -24,8 +24,9 @@ use crate::events::events_of;
 use crate::table::{bounds, counted, fits, is_zero};
 use semver_ranges::RangeError;
 use semver_ranges::events::Event;
-use semver_ranges::grammar::{Form, Simple};
-use semver_ranges::partial::{LowerBounds, Partial};
+use semver_ranges::grammar::Simple;
+use semver_ranges::operator::Operator;
+use semver_ranges::partial::Partial;
 use semver_versions::version::VersionRef;
 use version_sets::{Interval, PreReleases};
 
@@ -162,7 +163,7 @@ fn matches(
 {
     let grammar = dialect.grammar();
     let counts = counts(version, takes_all);
-    let mut events = events_of(range, dialect, lower(dialect, takes_all))?;
+    let mut events = events_of(range, dialect)?;
     let mut fit = true;
     let mut progress = Progress::new(counts);
     while let Some(event) = events.next_in(grammar) {
@@ -188,17 +189,6 @@ fn counts(version: &VersionRef<'_>, takes_all: bool) -> bool
     takes_all || is_release(version)
 }
 
-/// Returns how the left side of a hyphen range begins in a dialect.
-#[inline(always)]
-pub(crate) fn lower(dialect: Dialect, takes_all: bool) -> LowerBounds
-    ensures { result ≡ lower_of dialect takes_all }
-{
-    match dialect {
-        Dialect::Npm if takes_all => LowerBounds::Lowest,
-        _ => LowerBounds::Stated,
-    }
-}
-
 /// Returns whether a version satisfies a term.
 #[inline(always)]
 fn meets(simple: &Simple<'_>, version: &VersionRef<'_>, dialect: Dialect, by_default: bool) -> bool
@@ -219,13 +209,13 @@ pub(crate) fn interval_of<'t>(
     by_default: bool,
 ) -> Interval<'t>
     requires { PartsPass simple.now.partial }
-    ensures { sides_fit dialect (form_of simple.now.form) (stated_of simple.now.partial)
+    ensures { sides_fit dialect simple.now.operator (stated_of simple.now.partial)
         (version_of simple.now.partial) ≡ true → (v : PlainVersion)
         → is_in_interval (digits_in (grammar_of dialect)) result v
-        ≡ (if by_default then is_counted_within dialect (form_of simple.now.form)
+        ≡ (if by_default then is_counted_within dialect simple.now.operator
         (stated_of simple.now.partial)
         (plain_by (digits_in (grammar_of dialect)) (version_of simple.now.partial)) v
-        else is_within dialect (form_of simple.now.form) (stated_of simple.now.partial)
+        else is_within dialect simple.now.operator (stated_of simple.now.partial)
         (plain_by (digits_in (grammar_of dialect)) (version_of simple.now.partial)) v) }
 {
     if by_default {
@@ -258,12 +248,12 @@ fn is_stated_by(version: &VersionRef<'_>, partial: &Partial<'_>) -> bool
 /// Returns whether npm matches everything with a term.
 #[inline(always)]
 pub(crate) fn matches_everything(simple: &Simple<'_>) -> bool
-    ensures { result ≡ asks_nothing_by (form_of simple.now.form)
+    ensures { result ≡ asks_nothing_by simple.now.operator
         (is_empty (stated_of simple.now.partial)) (is_zero (version_of simple.now.partial)) }
 {
-    match simple.form {
-        Form::Less | Form::Greater => false,
-        Form::AtLeast => is_zero(&simple.partial),
+    match simple.operator {
+        Operator::Less | Operator::Greater => false,
+        Operator::GreaterOrEqual | Operator::Hyphen => is_zero(&simple.partial),
         _ => simple.partial.states_nothing(),
     }
 }

@@ -20,10 +20,10 @@ ghost use Rattle.tool_ranges.specs.declared.dialect.Dialect.TheVariants as diale
 
 use crate::dialect::Dialect;
 use crate::rewriting;
-use semver_ranges::partial::LowerBounds;
 use semver_ranges::{Compat, RangeError, RangeSet};
 use semver_texts::white_space::is_white_space_beyond_ascii;
 use std::alloc::Global;
+use version_sets::PreReleases;
 
 // Determined by: law result_laws::ranges::one_npm_rewrite.
 /// Rewrites a range in npm's dialect into plain comparators with exact bounds.
@@ -65,7 +65,13 @@ pub fn rewrite(alloc: Global, range: &str) -> Result<RangeSet, RangeError>
         × Spells tree (set_text (set_of set)) × IsTrue (fits Npm tree)
         × (rewritten Npm tree ≡ set_of set)) }
 {
-    rewriting::rewrite(alloc, range, Dialect::Npm, Compat::Npm, LowerBounds::Stated)
+    rewriting::rewrite(
+        alloc,
+        range,
+        Dialect::Npm,
+        Compat::Npm,
+        PreReleases::ByDialect,
+    )
 }
 
 // Determined by: law result_laws::ranges::one_npm_rewrite_included.
@@ -92,7 +98,13 @@ pub fn rewrite_included(alloc: Global, range: &str) -> Result<RangeSet, RangeErr
         → SpellsNpmRange tree range.now
         → meets_set v (set_any (set_of set)) ≡ meets_npm Included tree v) }
 {
-    rewriting::rewrite(alloc, range, Dialect::Npm, Compat::Npm, LowerBounds::Lowest)
+    rewriting::rewrite(
+        alloc,
+        range,
+        Dialect::Npm,
+        Compat::Npm,
+        PreReleases::Included,
+    )
 }
 
 /// Returns whether every non-ASCII character of a string is white space to JavaScript. Strings of

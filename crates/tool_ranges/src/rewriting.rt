@@ -23,10 +23,10 @@ use crate::dialect::Dialect;
 use crate::table::{is_past, numbers, raised, sides};
 use semver_ranges::events::Event;
 use semver_ranges::grammar::Simple;
-use semver_ranges::partial::{LowerBounds, Partial, lowest_pre_release};
+use semver_ranges::partial::{Partial, lowest_pre_release};
 use semver_ranges::{Comparator, Compat, Op, Range, RangeError, RangeSet};
 use std::alloc::{AllocError, Global};
-use version_sets::{Release, Side};
+use version_sets::{PreReleases, Release, Side};
 
 /// Rewrites a range into plain comparators. The text is checked first, so that an invalid one
 /// doesn't allocate.
@@ -36,13 +36,13 @@ pub(crate) fn rewrite(
     range: &str,
     dialect: Dialect,
     compat: Compat,
-    lower: LowerBounds,
+    rule: PreReleases,
 ) -> Result<RangeSet, RangeError>
     ensures refusals { RefusesAs dialect range.now result }
-    ensures printed { IfOk result (λ set. IsPrintedAs lower dialect compat range.now (set_of set)) }
+    ensures printed { IfOk result (λ set. IsPrintedAs rule dialect compat range.now (set_of set)) }
 {
-    let checked = Checked::new(range, dialect, lower)?;
-    match ranges(alloc, checked, dialect, compat, lower) {
+    let checked = Checked::new(range, dialect)?;
+    match ranges(alloc, checked, dialect, compat, rule) {
         Ok(ranges) => Ok(RangeSet { ranges, compat }),
         Err(_) => Err(RangeError::OutOfMemory),
     }
@@ -55,19 +55,19 @@ fn ranges(
     mut checked: Checked<'_>,
     dialect: Dialect,
     compat: Compat,
-    lower: LowerBounds,
+    rule: PreReleases,
 ) -> Result<Vec<Range>, AllocError>
-    requires { (t : Text) × IsCheckedAs lower dialect t checked }
-    ensures { IfOk result (λ ranges. (t : Text) → IsCheckedAs lower dialect t checked.entry
+    requires { (t : Text) × IsCheckedAs dialect t checked }
+    ensures { IfOk result (λ ranges. (t : Text) → IsCheckedAs dialect t checked.entry
         → (tree : SetTree) → SpellsAs dialect tree t
-        → map range_of ranges.items ≡ printed_ranges lower dialect compat tree) }
+        → map range_of ranges.items ≡ printed_ranges rule dialect compat tree) }
 {
     let grammar = dialect.grammar();
     let mut ranges = Vec::with_capacity(alloc, 1)?;
     let mut comparator_set = Vec::with_capacity(alloc, 4)?;
     while let Some(event) = checked.next(grammar) {
         match event {
-            Event::Simple(simple) => push(alloc, &simple, dialect, lower, &mut comparator_set)?,
+            Event::Simple(simple) => push(alloc, &simple, dialect, rule, &mut comparator_set)?,
             Event::NextRange => {
                 ranges.push(Range {
                     comparator_set,
@@ -90,13 +90,13 @@ fn push(
     alloc: Global,
     simple: &Simple<'_>,
     dialect: Dialect,
-    lower: LowerBounds,
+    rule: PreReleases,
     comparators: &mut Vec<Comparator>,
 ) -> Result<(), AllocError>
     requires { (s : SimpleTree) × IsSimpleOf s simple.now }
     ensures { IfOk result (λ _. (s : SimpleTree) → IsSimpleOf s simple.now
         → term_fits dialect s ≡ true → map comparator_of comparators.new.items
-        ≡ map comparator_of comparators.old.items ++ printed_term lower dialect s) }
+        ≡ map comparator_of comparators.old.items ++ printed_term rule dialect s) }
 {
     let partial = &simple.partial;
     let (first, last) = sides(simple, dialect);
@@ -105,7 +105,7 @@ fn push(
         return Ok(());
     }
     if let Some(side) = first {
-        comparators.push(lower_comparator(alloc, partial, side, lower)?)?;
+        comparators.push(lower_comparator(alloc, partial, side, rule)?)?;
     }
     if let Some(side) = last {
         comparators.push(upper_comparator(alloc, partial, side)?)?;
@@ -113,28 +113,28 @@ fn push(
     Ok(())
 }
 
-/// Returns the comparator of a lower side. If lower bounds are as stated, `Below` and `At` give the
-/// same one: then comparators are exact only for releases.
+/// Returns the comparator of a lower side. With `Included` it is right for all versions. Otherwise
+/// `Below` and `At` give the same one, which is right only for releases.
 #[inline(always)]
 fn lower_comparator(
     alloc: Global,
     partial: &Partial<'_>,
     side: Side,
-    lower: LowerBounds,
+    rule: PreReleases,
 ) -> Result<Comparator, AllocError>
     requires { PartsPass partial.now }
     ensures { may_rise (2 ^ 64 - 1) (Some (side_value side)) (numbers (version_of partial.now))
         ≡ true → IfOk result (λ c. comparator_of c
-        ≡ lower_comparator lower (side_value side) (version_of partial.now)) }
+        ≡ lower_comparator rule (side_value side) (version_of partial.now)) }
 {
-    match (side, lower) {
-        (Side::At, _) | (Side::Below, LowerBounds::Stated) => partial.as_comparator(alloc, Op::Gte),
-        (Side::Below, LowerBounds::Lowest) => lowest_with(alloc, Op::Gte, numbers(partial)),
+    match (side, rule) {
+        (Side::Below, PreReleases::Included) => lowest_with(alloc, Op::Gte, numbers(partial)),
+        (Side::At | Side::Below, _) => partial.as_comparator(alloc, Op::Gte),
         (Side::Past, _) => partial.as_comparator(alloc, Op::Gt),
-        (Side::Above(place), LowerBounds::Lowest) => {
+        (Side::Above(place), PreReleases::Included) => {
             lowest_with(alloc, Op::Gte, raised(partial, place))
         }
-        (Side::Above(place), LowerBounds::Stated) => {
+        (Side::Above(place), PreReleases::ByDialect | PreReleases::Excluded) => {
             let Release {
                 major,
                 minor,

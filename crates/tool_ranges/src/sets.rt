@@ -1,21 +1,21 @@
 //! A range string as the set of the versions that satisfy it.
 
-ghost use Rattle.std.specs.Prelude.{◌≡◌, ◌≢◌, true, Err, IfOk, Bool, if◌then◌else◌, not, ◌&&◌};
+ghost use Rattle.std.specs.Prelude.{◌≡◌, true, Err, IfOk, Bool, not, ◌&&◌};
 ghost use Rattle.std.specs.Prelude.{◌||◌};
 ghost use Rattle.semver_texts.specs.Digits.{digits_in};
 ghost use Rattle.semver_texts.specs.Texts.{Text, is_empty};
-ghost use Rattle.semver_texts.specs.Versions.{PlainVersion, VersionValue, without_build};
+ghost use Rattle.semver_texts.specs.Versions.{PlainVersion};
 ghost use Rattle.semver_texts.specs.declared.grammar.Digits.{Digits as SomeDigits};
 ghost use Rattle.semver_ranges.specs.RangeTree.{Simple as SimpleTree};
 ghost use Rattle.semver_ranges.specs.Steps.CursorViews.{IsSimpleOf};
 ghost use Rattle.version_sets.specs.Printable.{IsPrintable};
 ghost use Rattle.version_sets.specs.VersionSets.{contains, Fits};
-ghost use Rattle.tool_ranges.specs.Dialects.{RefusesAs, SpellsAs, grammar_of};
-ghost use Rattle.tool_ranges.specs.Meanings.{MeansBy, meant_by};
+ghost use Rattle.tool_ranges.specs.Dialects.{RefusesAs, grammar_of};
+ghost use Rattle.tool_ranges.specs.Meanings.{MeansBy};
 ghost use Rattle.tool_ranges.specs.Steps.Building.{is_one_of, known, Prints};
 ghost use Rattle.tool_ranges.specs.Steps.Checked.{IsCheckedAs};
 ghost use Rattle.tool_ranges.specs.Steps.Matching.{begun, counts, ended, is_met, taken, takes_all};
-ghost use Rattle.tool_ranges.specs.Steps.Matching.{lower_of, states_at, takes_releases, term_met};
+ghost use Rattle.tool_ranges.specs.Steps.Matching.{states_at, takes_releases, term_met};
 ghost use Rattle.tool_ranges.specs.Sides.{term_fits};
 ghost use Rattle.std.specs.List.{list_any};
 ghost use Rattle.version_sets.specs.Steps.Ends.{each_prints, has_numbers, in_each, in_ranges};
@@ -23,7 +23,7 @@ ghost use Rattle.version_sets.specs.Steps.Ends.{ranges_print};
 
 use crate::checked::Checked;
 use crate::dialect::Dialect;
-use crate::matching::{interval_of, lower, matches_everything, takes_all};
+use crate::matching::{interval_of, matches_everything, takes_all};
 use crate::table::{bounds, numbers};
 use semver_ranges::RangeError;
 use semver_ranges::events::Event;
@@ -46,7 +46,7 @@ pub(crate) fn read(
     ensures printable { IfOk result IsPrintable }
     ensures digits { IfOk result (λ set. set.digits ≡ digits_in (grammar_of dialect)) }
 {
-    let checked = Checked::new(range, dialect, lower(dialect, takes_all(rule)))?;
+    let checked = Checked::new(range, dialect)?;
     match set_of(alloc, checked, dialect, rule) {
         Ok(set) => Ok(set),
         Err(_) => Err(RangeError::OutOfMemory),
@@ -62,9 +62,9 @@ fn set_of(
     rule: PreReleases,
 ) -> Result<VersionSet, AllocError>
     requires { (t : Text)
-        × IsCheckedAs (lower_of dialect (takes_all rule)) dialect t checked }
+        × IsCheckedAs dialect t checked }
     ensures meaning { IfOk result (λ set. (t : Text)
-        → IsCheckedAs (lower_of dialect (takes_all rule)) dialect t checked.entry
+        → IsCheckedAs dialect t checked.entry
         → MeansBy dialect rule t set) }
     ensures printable { IfOk result IsPrintable }
     ensures digits { IfOk result (λ set. set.digits ≡ digits_in (grammar_of dialect)) }

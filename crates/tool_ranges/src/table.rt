@@ -16,7 +16,6 @@ ghost use Rattle.semver_texts.specs.declared.grammar.Digits.{Digits as SomeDigit
 ghost use Rattle.semver_ranges.specs.RewritingTable.{up};
 ghost use Rattle.semver_ranges.specs.Partials.{stated};
 ghost use Rattle.semver_ranges.specs.RangeTree.{PartialTree, Simple as SimpleTree};
-ghost use Rattle.semver_ranges.specs.Steps.CursorViews.{form_of};
 ghost use Rattle.semver_ranges.specs.Steps.PartialViews.{AreWritten, IsValue};
 ghost use Rattle.semver_ranges.specs.Steps.PartialViews.{PartsPass, place_number, stated_of};
 ghost use Rattle.semver_ranges.specs.Steps.PartialViews.{version_of};
@@ -27,7 +26,7 @@ ghost use Rattle.version_sets.specs.Sides.{above};
 ghost use Rattle.version_sets.specs.Releases.{release_value};
 ghost use Rattle.tool_ranges.specs.declared.dialect.Dialect.TheVariants.{Cargo, Npm};
 ghost use Rattle.tool_ranges.specs.NpmMeaning.{is_zero};
-ghost use Rattle.tool_ranges.specs.Sides.{block_begins, sides, sides_of_nothing, term_fits};
+ghost use Rattle.tool_ranges.specs.Sides.{block_begins, sides, sides_of_nothing};
 ghost use Rattle.tool_ranges.specs.Sides.{ends_past, may_rise, raised_for, raised_index, sides_fit};
 ghost use Rattle.tool_ranges.specs.Steps.Table.{is_within, cargo_sides, is_counted_within};
 ghost use Rattle.tool_ranges.specs.Steps.Table.{is_past_release, sides_beside};
@@ -35,7 +34,8 @@ ghost use Rattle.tool_ranges.specs.DialectTable.{limit};
 ghost use Rattle.tool_ranges.specs.FittingTerms.{first_above, read_in, too_large};
 
 use crate::dialect::Dialect;
-use semver_ranges::grammar::{Form, Simple};
+use semver_ranges::grammar::Simple;
+use semver_ranges::operator::Operator;
 use semver_ranges::partial::{Component, Components, Partial, PartialKind, Place};
 use semver_texts::npm_limits::MAX_SAFE_INTEGER;
 use version_sets::{Cut, Interval, Release, Side};
@@ -45,7 +45,7 @@ use version_sets::{Cut, Interval, Release, Side};
 pub(crate) fn bounds<'t>(simple: &Simple<'t>, dialect: Dialect) -> Interval<'t>
     requires { PartsPass simple.now.partial }
     ensures { (digits : SomeDigits) (v : PlainVersion) → is_in_interval digits result v
-        ≡ is_within dialect (form_of simple.now.form) (stated_of simple.now.partial)
+        ≡ is_within dialect simple.now.operator (stated_of simple.now.partial)
         (plain_by digits (version_of simple.now.partial)) v }
 {
     between(&simple.partial, sides(simple, dialect))
@@ -96,10 +96,10 @@ fn cut<'t>(partial: &Partial<'t>, side: Side) -> Cut<'t>
 #[inline(always)]
 pub(crate) fn counted<'t>(simple: &Simple<'t>, dialect: Dialect) -> Interval<'t>
     requires { PartsPass simple.now.partial }
-    ensures { sides_fit dialect (form_of simple.now.form) (stated_of simple.now.partial)
+    ensures { sides_fit dialect simple.now.operator (stated_of simple.now.partial)
         (version_of simple.now.partial) ≡ true → (digits : SomeDigits) (v : PlainVersion)
         → is_in_interval digits result v
-        ≡ is_counted_within dialect (form_of simple.now.form) (stated_of simple.now.partial)
+        ≡ is_counted_within dialect simple.now.operator (stated_of simple.now.partial)
         (plain_by digits (version_of simple.now.partial)) v }
 {
     match dialect {
@@ -115,7 +115,7 @@ pub(crate) fn counted<'t>(simple: &Simple<'t>, dialect: Dialect) -> Interval<'t>
 fn besides_block<'t>(simple: &Simple<'t>) -> Interval<'t>
     requires { PartsPass simple.now.partial }
     ensures { (digits : SomeDigits) (v : PlainVersion) → is_in_interval digits result v
-        ≡ is_counted_within Cargo (form_of simple.now.form) (stated_of simple.now.partial)
+        ≡ is_counted_within Cargo simple.now.operator (stated_of simple.now.partial)
         (plain_by digits (version_of simple.now.partial)) v }
 {
     between(&simple.partial, cargo_sides(simple))
@@ -125,9 +125,9 @@ fn besides_block<'t>(simple: &Simple<'t>) -> Interval<'t>
 /// the interval is empty.
 #[inline(always)]
 fn cargo_sides(simple: &Simple<'_>) -> (Option<Side>, Option<Side>)
-    ensures lower { option_map side_value result.0 ≡ (cargo_sides (form_of simple.now.form)
+    ensures lower { option_map side_value result.0 ≡ (cargo_sides simple.now.operator
         (stated_of simple.now.partial) (not (is_empty (version_of simple.now.partial).pre))).0 }
-    ensures upper { option_map side_value result.1 ≡ (cargo_sides (form_of simple.now.form)
+    ensures upper { option_map side_value result.1 ≡ (cargo_sides simple.now.operator
         (stated_of simple.now.partial) (not (is_empty (version_of simple.now.partial).pre))).1 }
 {
     match simple.partial.kind() {
@@ -141,22 +141,22 @@ fn cargo_sides(simple: &Simple<'_>) -> (Option<Side>, Option<Side>)
 /// numbers.
 #[inline(always)]
 fn sides_beside(simple: &Simple<'_>) -> (Option<Side>, Option<Side>)
-    ensures lower { option_map side_value result.0 ≡ (sides_beside (form_of simple.now.form)
+    ensures lower { option_map side_value result.0 ≡ (sides_beside simple.now.operator
         (stated_of simple.now.partial) (not (is_empty (version_of simple.now.partial).pre))).0 }
-    ensures upper { option_map side_value result.1 ≡ (sides_beside (form_of simple.now.form)
+    ensures upper { option_map side_value result.1 ≡ (sides_beside simple.now.operator
         (stated_of simple.now.partial) (not (is_empty (version_of simple.now.partial).pre))).1 }
 {
-    match simple.form {
-        Form::Caret | Form::Greater => sides(simple, Dialect::Cargo),
-        Form::AtLeast => {
+    match simple.operator {
+        Operator::Caret | Operator::Greater => sides(simple, Dialect::Cargo),
+        Operator::GreaterOrEqual | Operator::Hyphen => {
             let greater = Simple {
-                form: Form::Greater,
+                operator: Operator::Greater,
                 partial: simple.partial,
             };
             sides(&greater, Dialect::Cargo)
         }
-        Form::Less | Form::AtMost => (None, Some(Side::Below)),
-        Form::Bare | Form::Equal | Form::Tilde => (Some(Side::Below), Some(Side::Below)),
+        Operator::Less | Operator::LessOrEqual => (None, Some(Side::Below)),
+        _ => (Some(Side::Below), Some(Side::Below)),
     }
 }
 
@@ -167,10 +167,10 @@ fn sides_beside(simple: &Simple<'_>) -> (Option<Side>, Option<Side>)
 #[inline(always)]
 fn from_release<'t>(simple: &Simple<'t>) -> Interval<'t>
     requires { PartsPass simple.now.partial }
-    ensures { sides_fit Npm (form_of simple.now.form) (stated_of simple.now.partial)
+    ensures { sides_fit Npm simple.now.operator (stated_of simple.now.partial)
         (version_of simple.now.partial) ≡ true → (digits : SomeDigits) (v : PlainVersion)
         → is_in_interval digits result v
-        ≡ is_counted_within Npm (form_of simple.now.form) (stated_of simple.now.partial)
+        ≡ is_counted_within Npm simple.now.operator (stated_of simple.now.partial)
         (plain_by digits (version_of simple.now.partial)) v }
 {
     let (lower, upper) = sides(simple, Dialect::Npm);
@@ -243,7 +243,7 @@ pub(crate) fn raised(partial: &Partial<'_>, place: Place) -> Release
 /// Returns whether the numbers of a term, and the raised ones, are within the limit of a dialect.
 #[inline(always)]
 pub(crate) fn fits(simple: &Simple<'_>, dialect: Dialect) -> bool
-    ensures { result ≡ (simple.now.partial.fits && sides_fit dialect (form_of simple.now.form)
+    ensures { result ≡ (simple.now.partial.fits && sides_fit dialect simple.now.operator
         (stated_of simple.now.partial) (version_of simple.now.partial)) }
 {
     let most = limit(dialect);
@@ -257,13 +257,13 @@ pub(crate) fn fits(simple: &Simple<'_>, dialect: Dialect) -> bool
 /// first number above the limit of the dialect, or if there is none, of the number that is raised
 /// for one of the sides and can't be. It is below 3.
 #[must_use]
-pub fn too_large(form: Form, written: &Components<'_>, dialect: Dialect) -> Option<usize>
+pub fn too_large(operator: Operator, written: &Components<'_>, dialect: Dialect) -> Option<usize>
     requires { list_all is_part (cut_at_dots written.now.pre.now) ≡ true }
-    ensures value { (s : SimpleTree) → form_of form ≡ s.form → AreWritten s.partial written.now
+    ensures value { (s : SimpleTree) → operator ≡ s.operator → AreWritten s.partial written.now
         → result ≡ too_large dialect (read_in dialect s) }
     ensures small { IfSome result (λ index. index < 3) }
 {
-    let simple = Simple::of(form, written, dialect.grammar());
+    let simple = Simple::of(operator, written, dialect.grammar());
     if fits(&simple, dialect) {
         return None;
     }
@@ -385,47 +385,51 @@ pub(crate) fn numbers(partial: &Partial<'_>) -> Release
 /// Returns the sides of the zero-filled version at which the interval of a term begins and ends.
 #[inline(always)]
 pub(crate) fn sides(simple: &Simple<'_>, dialect: Dialect) -> (Option<Side>, Option<Side>)
-    ensures lower { option_map side_value result.0 ≡ (sides dialect (form_of simple.now.form)
+    ensures lower { option_map side_value result.0 ≡ (sides dialect simple.now.operator
         (stated_of simple.now.partial) (not (is_empty (version_of simple.now.partial).pre))).0 }
-    ensures upper { option_map side_value result.1 ≡ (sides dialect (form_of simple.now.form)
+    ensures upper { option_map side_value result.1 ≡ (sides dialect simple.now.operator
         (stated_of simple.now.partial) (not (is_empty (version_of simple.now.partial).pre))).1 }
 {
     let first = beginning(simple, dialect);
     let partial = &simple.partial;
     let last = match partial.kind() {
-        PartialKind::XRangeOnly => return sides_of_nothing(simple.form, dialect, first),
+        PartialKind::XRangeOnly => return sides_of_nothing(simple.operator, dialect, first),
         PartialKind::MajorOnly => Side::Above(Place::Major),
         PartialKind::MajorMinor => Side::Above(Place::Minor),
         PartialKind::MajorMinorPatch => Side::Past,
     };
-    match (simple.form, dialect) {
-        (Form::Less, _) => (None, Some(first)),
-        (Form::AtMost, _) => (None, Some(last)),
-        (Form::AtLeast, _) => (Some(first), None),
-        (Form::Greater, Dialect::Cargo | Dialect::Npm) => (Some(last), None),
-        (Form::Greater, Dialect::CrateCargo | Dialect::CrateNpm) => (Some(Side::Past), None),
-        (Form::Tilde, _) if partial.states_three() => {
+    match (simple.operator, dialect) {
+        (Operator::Less, _) => (None, Some(first)),
+        (Operator::LessOrEqual, _) => (None, Some(last)),
+        (Operator::GreaterOrEqual | Operator::Hyphen, _) => (Some(first), None),
+        (Operator::Greater, Dialect::Cargo | Dialect::Npm) => (Some(last), None),
+        (Operator::Greater, Dialect::CrateCargo | Dialect::CrateNpm) => (Some(Side::Past), None),
+        (Operator::Tilde, _) if partial.states_three() => {
             (Some(first), Some(Side::Above(Place::Minor)))
         }
-        (Form::Bare, Dialect::Cargo | Dialect::CrateCargo) if partial.states_three() => {
+        (Operator::Bare, Dialect::Cargo | Dialect::CrateCargo) if partial.states_three() => {
             (Some(first), Some(Side::Above(partial.leading_place())))
         }
-        (Form::Caret, _) => (Some(first), Some(Side::Above(partial.leading_place()))),
-        (Form::Bare | Form::Equal | Form::Tilde, _) => (Some(first), Some(last)),
+        (Operator::Caret, _) => (Some(first), Some(Side::Above(partial.leading_place()))),
+        _ => (Some(first), Some(last)),
     }
 }
 
 /// Returns the sides for a term without a number. In Cargo's dialect such a term has no operator.
 #[inline(always)]
-fn sides_of_nothing(form: Form, dialect: Dialect, first: Side) -> (Option<Side>, Option<Side>)
+fn sides_of_nothing(
+    operator: Operator,
+    dialect: Dialect,
+    first: Side,
+) -> (Option<Side>, Option<Side>)
     ensures lower { option_map side_value result.0
-        ≡ (sides_of_nothing dialect (form_of form) (side_value first)).0 }
+        ≡ (sides_of_nothing dialect operator (side_value first)).0 }
     ensures upper { option_map side_value result.1
-        ≡ (sides_of_nothing dialect (form_of form) (side_value first)).1 }
+        ≡ (sides_of_nothing dialect operator (side_value first)).1 }
 {
-    match (dialect, form) {
+    match (dialect, operator) {
         (Dialect::Cargo, _) => (Some(first), None),
-        (_, Form::Less | Form::Greater) => (None, Some(first)),
+        (_, Operator::Less | Operator::Greater) => (None, Some(first)),
         _ => (Some(first), None),
     }
 }
@@ -436,10 +440,10 @@ fn sides_of_nothing(form: Form, dialect: Dialect, first: Side) -> (Option<Side>,
 /// - For Cargo and npm, a block of fewer than three numbers begins below all pre-releases with
 ///   these numbers, except with Cargo's `<` and npm's `~`. A block of three numbers begins at the
 ///   version.
-/// - For npm, `^0.2.3` begins below all pre-releases of 0.2.3, too.
+/// - For npm, `^0.2.3` and `0.2.3 - 1` begin below all pre-releases of 0.2.3, too.
 #[inline(always)]
 fn beginning(simple: &Simple<'_>, dialect: Dialect) -> Side
-    ensures { side_value result ≡ block_begins dialect (form_of simple.now.form)
+    ensures { side_value result ≡ block_begins dialect simple.now.operator
         (stated_of simple.now.partial) (not (is_empty (version_of simple.now.partial).pre)) }
 {
     let partial = &simple.partial;
@@ -448,16 +452,18 @@ fn beginning(simple: &Simple<'_>, dialect: Dialect) -> Side
         (Dialect::Cargo, PartialKind::XRangeOnly) => true,
         (Dialect::Cargo, PartialKind::MajorMinorPatch) => false,
         (Dialect::Cargo, PartialKind::MajorOnly | PartialKind::MajorMinor) => !matches!(
-            simple.form,
-            Form::Less
+            simple.operator,
+            Operator::Less
         ),
         (Dialect::Npm, PartialKind::XRangeOnly) => true,
         (Dialect::Npm, PartialKind::MajorOnly | PartialKind::MajorMinor) => {
-            !matches!(simple.form, Form::Tilde)
+            !matches!(simple.operator, Operator::Tilde)
         }
-        (Dialect::Npm, PartialKind::MajorMinorPatch) => {
-            matches!(simple.form, Form::Caret) && !partial.has_pre_release() && partial.major() == 0
-        }
+        (Dialect::Npm, PartialKind::MajorMinorPatch) => match simple.operator {
+            Operator::Caret => !partial.has_pre_release() && partial.major() == 0,
+            Operator::Hyphen => !partial.has_pre_release(),
+            _ => false,
+        },
     };
     if is_below { Side::Below } else { Side::At }
 }

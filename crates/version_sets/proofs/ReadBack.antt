@@ -15,7 +15,8 @@ use Rattle.semver_texts.specs.Texts.{is_empty}
 use Rattle.semver_texts.specs.Versions.{numeric, PlainVersion}
 use Rattle.semver_texts.specs.Precedence.{precedence}
 use Rattle.semver_ranges.specs.Partials.{zero_version}
-use Rattle.semver_ranges.specs.RangeTree.{bare, one, simples, SetTree, Spells}
+use Rattle.semver_ranges.specs.declared.operator.Operator.TheVariants.{Bare}
+use Rattle.semver_ranges.specs.RangeTree.{one, simples, SetTree, Spells}
 use Rattle.semver_ranges.specs.RewritingTable.{PlainComparator, PlainRange, PlainSet, comparator, fits, rewritten}
 use Rattle.semver_ranges.specs.SatisfiedComparators.{meets_comparator, meets_range, meets_set}
 use Rattle.semver_ranges.specs.PrintedRanges.{is_printable_version, IsPrintableRange, IsPrintableSet, set_text}
@@ -106,7 +107,7 @@ none_below v =
     ap (λ t. (t && true) || false) (below_is (precedence v lowest) ∙ ap not at)
 
 abbrev star : SetTree
-star = simples (record { form = bare; partial = one (codes "*") }) [] ∷ []
+star = simples (record { operator = Bare; partial = one (codes "*") }) [] ∷ []
 
 star_spells : Spells star (codes "*")
 star_spells = ([], codes "*", [], refl, ([], codes "*", refl, (refl, tt, refl), refl), refl, refl)

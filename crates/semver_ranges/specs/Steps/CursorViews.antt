@@ -5,8 +5,6 @@ use Rattle.std.specs.Prelude.{if◌then◌else◌, Option, Some, None, is_some, 
 use Rattle.std.specs.Prelude.{◌∷◌}
 use Rattle.std.specs.Borrow.{Bor}
 use Rattle.std.specs.List.{list_all}
-use Rattle.semver_ranges.specs.declared.grammar.Form.{Form}
-use Rattle.semver_ranges.specs.declared.grammar.Form.TheVariants as form
 use Rattle.semver_ranges.specs.declared.grammar.Role.{Role}
 use Rattle.semver_ranges.specs.declared.grammar.Role.TheVariants as role
 use Rattle.semver_ranges.specs.declared.grammar.Simple.{Simple}
@@ -16,7 +14,6 @@ use Rattle.semver_ranges.specs.declared.events.Events.{Events}
 use Rattle.semver_ranges.specs.declared.range_set.RangeError.{RangeError}
 use Rattle.semver_ranges.specs.declared.range_set.RangeError.TheVariants.{NotARange}
 use Rattle.semver_texts.specs.declared.grammar.Grammar.{Grammar}
-use Rattle.semver_ranges.specs.declared.partial.LowerBounds.{LowerBounds}
 use Rattle.semver_ranges.specs.RangeTree as tree
 use Rattle.semver_ranges.specs.RangeTree.{three}
 use Rattle.semver_texts.specs.Texts.{is_part}
@@ -50,25 +47,14 @@ FindsPre t (Some found) =
     ≡ Some (three a b c (cut_at_dots found.0.now) (cut_at_dots found.1.now), found.2.now))
     × (list_all is_part (cut_at_dots found.0.now) ≡ true)
 
--- the operator, as the syntax tree has it
-abbrev pub form_of : Form → tree.Form
-form_of form.Bare = tree.bare
-form_of form.Equal = tree.equal
-form_of form.Less = tree.less
-form_of form.AtMost = tree.at_most
-form_of form.Greater = tree.greater
-form_of form.AtLeast = tree.at_least
-form_of form.Tilde = tree.tilde
-form_of form.Caret = tree.caret
-
 -- what a word comes after, as the syntax tree has it
 abbrev pub role_of : Role → tree.Role
-role_of (role.AfterForm f) = tree.after_form (form_of f)
+role_of (role.AfterOperator f) = tree.after_operator f
 role_of role.AfterHyphen = tree.after_hyphen
 
 -- a term that was read has this syntax tree
 abbrev pub IsSimpleOf : tree.Simple → Simple → Type 0
-IsSimpleOf s simple = (form_of simple.form ≡ s.form) × IsPartialOf s.partial simple.partial
+IsSimpleOf s simple = (simple.operator ≡ s.operator) × IsPartialOf s.partial simple.partial
 
 -- the one or two terms that the cursor returns for a hyphen range
 abbrev pub AreSides : List tree.Simple → Simple → Option Simple → Type 0
@@ -92,11 +78,11 @@ HasAfter (Some upper) after o =
 abbrev pub HasLeft : Grammar → Events → Option (List list.Event) → Type 0
 HasLeft d cursor o =
     HasAfter cursor.upper
-    (events_left d cursor.lower cursor.cursor.begins_range cursor.cursor.rest.now) o
+    (events_left d cursor.cursor.begins_range cursor.cursor.rest.now) o
 
 -- the cursor is at the beginning of a text
-abbrev pub IsBegunIn : Grammar → LowerBounds → Text → Events → Type 0
-IsBegunIn d lower t cursor = HasLeft d cursor (events d lower t)
+abbrev pub IsBegunIn : Grammar → Text → Events → Type 0
+IsBegunIn d t cursor = HasLeft d cursor (events d t)
     × (cursor.cursor.begins_range ≡ true) × (cursor.cursor.rest.now ≡ after_blanks d t)
 
 -- an event is the first of those that are left, and a cursor after it has the others left

@@ -7,13 +7,13 @@ use Rattle.std.specs.Prelude.{List, [], ◌∷◌, ℕ, zero, suc}
 use Rattle.semver_texts.specs.Texts.{Text, begins_with, is_empty}
 use Rattle.semver_texts.specs.declared.grammar.Grammar.{Grammar}
 use Rattle.semver_texts.specs.declared.grammar.Grammar.TheVariants.{Cargo}
-use Rattle.semver_ranges.specs.RangeTree.{bare, Simple, RangeTree, Role}
-use Rattle.semver_ranges.specs.RangeTree.{after_form, after_hyphen}
+use Rattle.semver_ranges.specs.declared.operator.Operator.TheVariants.{Hyphen}
+use Rattle.semver_ranges.specs.RangeTree.{Simple, RangeTree, Role, after_operator, after_hyphen}
 use Rattle.semver_ranges.specs.Partials.{states_nothing}
 use Rattle.semver_ranges.specs.CargoGrammar.{is_cargo, is_of_cargo}
 use Rattle.semver_ranges.specs.TextItems.{FoundTerm, FoundWord, Item, one_term}
 use Rattle.semver_ranges.specs.TextItems.{empty_range, two_bars}
-use Rattle.semver_ranges.specs.Steps.Reading.{after_bars, after_blanks, ends_range, operator}
+use Rattle.semver_ranges.specs.Steps.Reading.{after_bars, after_blanks, ends_range, operator_at}
 use Rattle.semver_ranges.specs.Steps.Reading.{partial, right_side, simple, with_right}
 
 -- ---- what is found in a text
@@ -31,7 +31,7 @@ upper_word d t = word_at d after_hyphen (after_blanks d (drop 2 t))
 abbrev pub with_upper : Text → FoundWord → Option (RangeTree × Text) → Option FoundWord
     → Option (Item × Text)
 with_upper t version (Some found) (Some upper) = Some (
-  one_term (record { from = t; form = bare; version = version; upper = Some upper }),
+  one_term (record { from = t; operator = Hyphen; version = version; upper = Some upper }),
   found.1,
 )
 with_upper t version _ _ = None
@@ -42,7 +42,7 @@ with_simple d begins t (Some found) (Some version) =
     if begins && begins_with (code "-") found.1
     then with_upper t version (with_right found.0 (right_side d found.1)) (upper_word d found.1)
     else Some (
-      one_term (record { from = t; form = found.0.form; version = version; upper = None }),
+      one_term (record { from = t; operator = found.0.operator; version = version; upper = None }),
       found.1,
     )
 with_simple d begins t _ _ = None
@@ -53,7 +53,7 @@ range_item d begins t =
     then (if begins then Some (empty_range, t)
     else option_map (λ u. (two_bars, after_blanks d u)) (after_bars t))
     else with_simple d begins t (simple d t)
-    (word_at d (after_form (operator d t).0) (operator d t).1)
+    (word_at d (after_operator (operator_at d t).0) (operator_at d t).1)
 
 -- ---- the comparators of Cargo's requirements
 
@@ -73,7 +73,7 @@ abbrev pub with_comparator : Bool → Text → Option (Simple × Text) → Optio
 with_comparator is_first t (Some found) (Some version) =
     if may_come is_first t found.0 found.1
     then Some (
-      one_term (record { from = t; form = found.0.form; version = version; upper = None }),
+      one_term (record { from = t; operator = found.0.operator; version = version; upper = None }),
       found.1,
     )
     else None
@@ -81,7 +81,7 @@ with_comparator is_first t _ _ = None
 
 abbrev pub comparator_at : Bool → Text → Option (Item × Text)
 comparator_at is_first t = with_comparator is_first t (simple Cargo t)
-    (word_at Cargo (after_form (operator Cargo t).0) (operator Cargo t).1)
+    (word_at Cargo (after_operator (operator_at Cargo t).0) (operator_at Cargo t).1)
 
 -- what follows a comma and the blanks after it
 abbrev pub after_comma : Text → Option Text
@@ -131,4 +131,4 @@ items_left d begins t = some_items d (size_at begins t) begins t
 
 -- the operator and the partial version of a term
 abbrev pub simple_of : FoundTerm → Simple
-simple_of x = record { form = x.form; partial = x.version.partial }
+simple_of x = record { operator = x.operator; partial = x.version.partial }

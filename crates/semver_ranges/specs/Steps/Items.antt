@@ -6,19 +6,18 @@ use Rattle.std.specs.Borrow.{Bor}
 use Rattle.semver_texts.specs.Texts.{Text}
 use Rattle.semver_texts.specs.declared.grammar.Grammar.{Grammar}
 use Rattle.semver_texts.specs.declared.grammar.Grammar.TheVariants.{Cargo}
-use Rattle.semver_ranges.specs.RangeTree.{PartialTree, Simple, hyphen, Role, after_form}
+use Rattle.semver_ranges.specs.RangeTree.{PartialTree, Simple, Role, after_operator}
 use Rattle.semver_ranges.specs.CargoGrammar.{read_in}
 use Rattle.semver_ranges.specs.declared.cursor.Cursor.{Cursor}
 use Rattle.semver_ranges.specs.declared.cursor.Event.{Event}
 use Rattle.semver_ranges.specs.declared.cursor.Event.TheVariants.{Term, EmptyRange, NextRange}
 use Rattle.semver_ranges.specs.declared.events.Event as events
 use Rattle.semver_ranges.specs.declared.grammar.Simple as read
-use Rattle.semver_ranges.specs.declared.partial.LowerBounds.{LowerBounds}
 use Rattle.semver_ranges.specs.declared.range_set.RangeError.{RangeError}
 use Rattle.semver_ranges.specs.declared.range_set.RangeError.TheVariants.{NotARange}
 use Rattle.semver_ranges.specs.declared.term.RawTerm as written
 use Rattle.semver_ranges.specs.declared.term.RawVersion.{RawVersion}
-use Rattle.semver_ranges.specs.Steps.Reading.{after_v, component, operator, partial, right_side}
+use Rattle.semver_ranges.specs.Steps.Reading.{after_v, component, operator_at, partial, right_side}
 use Rattle.semver_ranges.specs.Steps.Reading.{simple, with_first}
 use Rattle.semver_ranges.specs.TextItems.{FoundTerm, FoundWord, Item, one_term}
 use Rattle.semver_ranges.specs.TextItems.{empty_range, two_bars}
@@ -26,25 +25,25 @@ use Rattle.semver_ranges.specs.Steps.FoundItems.{flag, item, items_left, simple_
 use Rattle.semver_ranges.specs.Steps.FoundItems.{size_at, upper_word, word_at}
 use Rattle.semver_ranges.specs.Steps.RangeEvents as list
 use Rattle.semver_ranges.specs.Steps.RangeEvents.{one_simple, next_range, put, put_simples}
-use Rattle.semver_ranges.specs.Steps.RangeEvents.{events_left, wildcard, yielded}
+use Rattle.semver_ranges.specs.Steps.RangeEvents.{events_left, wildcard, yielded_sides}
 use Rattle.semver_ranges.specs.Steps.PartialViews.{AreWritten}
-use Rattle.semver_ranges.specs.Steps.CursorViews.{HasAfter, IsEventOf, form_of}
+use Rattle.semver_ranges.specs.Steps.CursorViews.{HasAfter, IsEventOf}
 
 -- ---- a term as plain terms
 
-abbrev pub simples_with : Grammar → LowerBounds → Simple → Option FoundWord → List Simple
-simples_with d lower s None = read_in d s ∷ []
-simples_with d lower s (Some upper) = yielded lower (hyphen s.partial upper.partial)
+abbrev pub simples_with : Grammar → Simple → Option FoundWord → List Simple
+simples_with d s None = read_in d s ∷ []
+simples_with d s (Some upper) = yielded_sides (read_in d s) upper.partial
 
-abbrev pub simples_of : Grammar → LowerBounds → FoundTerm → List Simple
-simples_of d lower x = simples_with d lower (simple_of x) x.upper
+abbrev pub simples_of : Grammar → FoundTerm → List Simple
+simples_of d x = simples_with d (simple_of x) x.upper
 
 -- the events of an item before those that are left
-abbrev pub put_item : Grammar → LowerBounds → Item → Option (List list.Event)
+abbrev pub put_item : Grammar → Item → Option (List list.Event)
     → Option (List list.Event)
-put_item d lower (one_term x) o = put_simples (simples_of d lower x) o
-put_item d lower empty_range o = put (one_simple wildcard) o
-put_item d lower two_bars o = put next_range o
+put_item d (one_term x) o = put_simples (simples_of d x) o
+put_item d empty_range o = put (one_simple wildcard) o
+put_item d two_bars o = put next_range o
 
 -- ---- what the cursor yields
 
@@ -63,7 +62,7 @@ IsUpperOf d t _ _ = ⊥
 -- a term that was read is this term
 pub record IsTermOf (d : Grammar) (x : FoundTerm) (term : written.RawTerm) : Type 0 where
   pub from : term.from.now ≡ x.from
-  pub form : form_of term.form ≡ x.form
+  pub operator : term.operator ≡ x.operator
   pub version : IsWordOf d x.version term.version
   pub within : length x.version.from ≤ length x.from
   pub upper : IsUpperOf d x.from x.upper term.upper
@@ -86,10 +85,10 @@ FindsWord d role t (Some v) =
 pub record IsTermAt (d : Grammar) (t : Text) (term : written.RawTerm) (u : Text) : Type 0 where
   pub version : FoundWord
   pub simple : simple d t ≡ Some (
-    record { form = form_of term.form; partial = version.partial },
+    record { operator = term.operator; partial = version.partial },
     u,
   )
-  pub word : word_at d (after_form (operator d t).0) (operator d t).1 ≡ Some version
+  pub word : word_at d (after_operator (operator_at d t).0) (operator_at d t).1 ≡ Some version
   pub from : term.from.now ≡ t
   pub is : IsWordOf d version term.version
   pub within : length version.from ≤ length t
@@ -134,15 +133,15 @@ pub record IsTaken (d : Grammar) (begins : Bool) (t : Text) (e : Event) (after :
     pub x : Item
     pub is : IsItemOf d (length t) x e
     pub whole : items_left d begins t ≡ x ∷ items_left d after.begins_range after.rest.now
-    pub left : (lower : LowerBounds) → events_left d lower begins t
-        ≡ put_item d lower x (events_left d lower after.begins_range after.rest.now)
+    pub left : events_left d begins t
+        ≡ put_item d x (events_left d after.begins_range after.rest.now)
     pub fewer : size_at after.begins_range after.rest.now + flag (is_term e) < size_at begins t
     pub shorter : length after.rest.now + bytes_of e ≤ length t
 
 -- the text isn't in the grammar
 pub record IsNoItem (d : Grammar) (begins : Bool) (t : Text) (after : Cursor) : Type 0 where
   pub found : item d begins t ≡ None
-  pub left : (lower : LowerBounds) → events_left d lower begins t ≡ None
+  pub left : events_left d begins t ≡ None
   pub begins_after : after.begins_range ≡ false
 
 abbrev pub TakesItem : Grammar → Bool → Text → Option Event → Cursor → Type 0
@@ -163,8 +162,8 @@ GivesItem d before (Some (Err e)) after =
 
 -- an event in plain terms: it is the first of those of an item, and the right side of a hyphen
 -- range, if it comes next, is put before those that are left
-abbrev pub IsViewOf : Grammar → LowerBounds → Item → Bool → events.Event → Option read.Simple
+abbrev pub IsViewOf : Grammar → Item → Bool → events.Event → Option read.Simple
     → Type 0
-IsViewOf d lower x is_term e upper = ((o : Option (List list.Event)) → (y : list.Event)
+IsViewOf d x is_term e upper = ((o : Option (List list.Event)) → (y : list.Event)
     × (left : Option (List list.Event)) × IsEventOf y e × HasAfter upper o left
-    × (put_item d lower x o ≡ put y left)) × (flag (is_some upper) ≤ flag is_term)
+    × (put_item d x o ≡ put y left)) × (flag (is_some upper) ≤ flag is_term)

@@ -1,7 +1,6 @@
 -- A means of proof, cited only in clauses of calls between these crates: how contracts see
 -- components and partial versions.
 use Rattle.std.specs.Prelude.{◌≡◌, ℕ, Bool, true, false, Option, Some, None, List, [], ◌∷◌, map}
-use Rattle.std.specs.Prelude.{codes}
 use Rattle.std.specs.List.{list_all}
 use Rattle.std.specs.Str.Parse.{digits_value}
 use Rattle.semver_ranges.specs.declared.partial.Component.{Component}
@@ -14,8 +13,6 @@ use Rattle.semver_ranges.specs.declared.partial.PartialKind.TheVariants.{MajorMi
 use Rattle.semver_ranges.specs.declared.partial.PartialKind.TheVariants.{MajorMinorPatch}
 use Rattle.semver_ranges.specs.declared.partial.RaisedBounds.{RaisedBounds}
 use Rattle.semver_ranges.specs.declared.partial.RaisedBounds.TheVariants.{Plain, Exact}
-use Rattle.semver_ranges.specs.declared.partial.LowerBounds.{LowerBounds}
-use Rattle.semver_ranges.specs.declared.partial.LowerBounds.TheVariants.{Stated, Lowest}
 use Rattle.semver_ranges.specs.declared.partial.Place.{Place}
 use Rattle.semver_ranges.specs.declared.partial.Place.TheVariants.{Major, Minor, Patch}
 use Rattle.semver_ranges.specs.RangeTree.{PartialTree, one, two, three, is_wildcard}
@@ -61,13 +58,6 @@ number_at Patch p = p.patch
 abbrev pub pre_of : RaisedBounds → List IdentifierValue
 pre_of Plain = []
 pre_of Exact = lowest_pre_release
-
--- a partial version as it is written in a lower bound: as stated, or with the pre-release `0` if it
--- has three components and no pre-release
-abbrev pub begun_as : LowerBounds → PartialTree → PartialTree
-begun_as Stated t = t
-begun_as Lowest (three a b c [] build) = three a b c (codes "0" ∷ []) build
-begun_as Lowest t = t
 
 -- the value of a number, or `None` if it is above 2^64 - 1
 abbrev pub IsValue : ℕ → Option ℕ → Type 0

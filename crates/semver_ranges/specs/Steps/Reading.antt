@@ -7,11 +7,13 @@ use Rattle.std.specs.Prelude.{ℕ, zero, suc, ◌-◌, Bool, true, ◌&&◌, ◌
 use Rattle.std.specs.Prelude.{Option, Some, None, List, [], ◌∷◌, length}
 use Rattle.std.specs.Char.{is_ascii_digit}
 use Rattle.std.specs.List.{list_all, slice_split}
-use Rattle.semver_ranges.specs.RangeTree.{PartialTree, one, two, three, Form, bare, equal, less}
-use Rattle.semver_ranges.specs.RangeTree.{at_most, greater, at_least, tilde, caret, Simple}
-use Rattle.semver_ranges.specs.RangeTree.{RangeTree, empty, hyphen, simples, SetTree, is_blank}
-use Rattle.semver_ranges.specs.RangeTree.{Role, after_form, after_hyphen, is_bare, is_wildcard}
-use Rattle.semver_ranges.specs.RangeTree.{is_word_of_npm}
+use Rattle.semver_ranges.specs.declared.operator.Operator.{Operator}
+use Rattle.semver_ranges.specs.declared.operator.Operator.TheVariants.{Bare, Equal, Less}
+use Rattle.semver_ranges.specs.declared.operator.Operator.TheVariants.{LessOrEqual, Greater}
+use Rattle.semver_ranges.specs.declared.operator.Operator.TheVariants.{GreaterOrEqual, Tilde, Caret}
+use Rattle.semver_ranges.specs.RangeTree.{PartialTree, one, two, three, Simple, RangeTree, empty}
+use Rattle.semver_ranges.specs.RangeTree.{hyphen, simples, SetTree, is_blank, Role, after_operator}
+use Rattle.semver_ranges.specs.RangeTree.{after_hyphen, is_bare, is_wildcard, is_word_of_npm}
 use Rattle.semver_texts.specs.Texts.{is_part}
 use Rattle.semver_texts.specs.declared.grammar.Grammar.{Grammar}
 use Rattle.semver_texts.specs.declared.grammar.Grammar.TheVariants.{Crate, Cargo, Npm}
@@ -127,40 +129,40 @@ abbrev pub partial : Grammar → Role → Text → Option (PartialTree × Text)
 partial d role t = whole_word d role (length t) (with_first (component (after_v d t)))
 
 -- the operator at the beginning of a text, and what follows it and the blanks after it
-abbrev pub after_less : Grammar → Text → Form × Text
-after_less d [] = (less, [])
+abbrev pub after_less : Grammar → Text → Operator × Text
+after_less d [] = (Less, [])
 after_less d (b ∷ t) =
-    if b == code "=" then (at_most, after_blanks d t) else (less, after_blanks d (b ∷ t))
+    if b == code "=" then (LessOrEqual, after_blanks d t) else (Less, after_blanks d (b ∷ t))
 
-abbrev pub after_greater : Grammar → Text → Form × Text
-after_greater d [] = (greater, [])
+abbrev pub after_greater : Grammar → Text → Operator × Text
+after_greater d [] = (Greater, [])
 after_greater d (b ∷ t) =
-    if b == code "=" then (at_least, after_blanks d t) else (greater, after_blanks d (b ∷ t))
+    if b == code "=" then (GreaterOrEqual, after_blanks d t) else (Greater, after_blanks d (b ∷ t))
 
-abbrev pub after_tilde : Grammar → Text → Form × Text
-after_tilde d [] = (tilde, [])
+abbrev pub after_tilde : Grammar → Text → Operator × Text
+after_tilde d [] = (Tilde, [])
 after_tilde d (b ∷ t) =
-    if b == code ">" then (tilde, after_blanks d t) else (tilde, after_blanks d (b ∷ t))
+    if b == code ">" then (Tilde, after_blanks d t) else (Tilde, after_blanks d (b ∷ t))
 
-abbrev pub operator : Grammar → Text → Form × Text
-operator d [] = (bare, [])
-operator d (b ∷ t) =
-    if b == code "=" then (equal, after_blanks d t)
+abbrev pub operator_at : Grammar → Text → Operator × Text
+operator_at d [] = (Bare, [])
+operator_at d (b ∷ t) =
+    if b == code "=" then (Equal, after_blanks d t)
     else (if b == code "<" then after_less d t
     else (if b == code ">" then after_greater d t
     else (if b == code "~" then after_tilde d t
-    else (if b == code "^" then (caret, after_blanks d t)
-    else (bare, b ∷ t)))))
+    else (if b == code "^" then (Caret, after_blanks d t)
+    else (Bare, b ∷ t)))))
 
 -- a term, and what follows it and the blanks after it
-abbrev pub with_form : Grammar → Form → Option (PartialTree × Text) → Option (Simple × Text)
-with_form d form None = None
-with_form d form (Some found) =
-    Some (record { form = form; partial = found.0 }, after_blanks d found.1)
+abbrev pub with_form : Grammar → Operator → Option (PartialTree × Text) → Option (Simple × Text)
+with_form d operator None = None
+with_form d operator (Some found) =
+    Some (record { operator = operator; partial = found.0 }, after_blanks d found.1)
 
 abbrev pub simple : Grammar → Text → Option (Simple × Text)
 simple d t =
-    with_form d (operator d t).0 (partial d (after_form (operator d t).0) (operator d t).1)
+    with_form d (operator_at d t).0 (partial d (after_operator (operator_at d t).0) (operator_at d t).1)
 
 -- the terms up to the end of their range. The number is a limit for the depth of the recursion
 abbrev pub put_before : Simple → Option (List Simple × Text) → Option (List Simple × Text)
@@ -199,7 +201,7 @@ right_side d (dash ∷ blank ∷ t) =
 abbrev pub with_right : Simple → Option (PartialTree × Text) → Option (RangeTree × Text)
 with_right s None = None
 with_right s (Some found) =
-    if is_bare s.form then Some (hyphen s.partial found.0, found.1) else None
+    if is_bare s.operator then Some (hyphen s.partial found.0, found.1) else None
 
 -- a range of a first term and the terms after it
 abbrev pub with_others : Simple → Option (List Simple × Text) → Option (RangeTree × Text)

@@ -5,7 +5,6 @@ use Rattle.std.specs.Prelude.{List, [], ◌∷◌, Result, Ok, Err}
 use Rattle.std.specs.List.{list_all}
 use Rattle.semver_texts.specs.declared.grammar.Grammar.{Grammar}
 use Rattle.semver_texts.specs.Texts.{Text}
-use Rattle.semver_ranges.specs.declared.partial.LowerBounds.{LowerBounds}
 use Rattle.semver_ranges.specs.declared.events.Event as read
 use Rattle.semver_ranges.specs.declared.grammar.Simple as found
 use Rattle.semver_ranges.specs.RangeTree.{Simple}
@@ -40,9 +39,9 @@ GivesEvent d es (Some e) after = (x : Event) × (others : List Event) × IsEvent
     × HasEvents d after others × (es ≡ x ∷ others)
 
 -- the text is a range whose numbers fit, and its events are left
-abbrev pub IsCheckedAs : LowerBounds → Dialect → Text → Checked → Type 0
-IsCheckedAs lower dialect t checked = IsRead dialect t (λ tree.
-    HasEvents (grammar_of dialect) checked (events_in (ranges_of lower dialect tree)))
+abbrev pub IsCheckedAs : Dialect → Text → Checked → Type 0
+IsCheckedAs dialect t checked = IsRead dialect t (λ tree.
+    HasEvents (grammar_of dialect) checked (events_in (ranges_of dialect tree)))
 
 -- the rest of a text was checked, where `fit` says whether the terms before it fit: whether nothing
 -- was left, and nothing is left after it; or the error

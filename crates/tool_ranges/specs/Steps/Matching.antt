@@ -6,8 +6,6 @@ use Rattle.std.specs.Cmp.Lexicographic.{pointwise}
 use Rattle.std.specs.List.{list_all, list_any}
 use Rattle.semver_texts.specs.Texts.{is_empty}
 use Rattle.semver_texts.specs.Versions.{PlainVersion, numbers}
-use Rattle.semver_ranges.specs.declared.partial.LowerBounds.{LowerBounds}
-use Rattle.semver_ranges.specs.declared.partial.LowerBounds.TheVariants.{Lowest, Stated}
 use Rattle.semver_ranges.specs.declared.partial.Partial.{Partial}
 use Rattle.semver_ranges.specs.declared.range.Compat.TheVariants as mode
 use Rattle.semver_ranges.specs.RangeTree.{Simple, SetTree}
@@ -48,20 +46,15 @@ abbrev pub takes_all : PreReleases → Bool
 takes_all Included = true
 takes_all rule = false
 
--- whether the left side of a hyphen range is written as stated, or with the lowest pre-release
-abbrev pub lower_of : Dialect → Bool → LowerBounds
-lower_of Npm true = Lowest
-lower_of dialect all = Stated
-
 -- ---- whether a version satisfies a term
 abbrev pub term_met : Dialect → Bool → PlainVersion → Simple → Bool
 term_met Cargo all v s =
-    cargo.meets_by_count (rule_of all) s.form (stated s.partial) (zero_filled_any s.partial) v
+    cargo.meets_by_count (rule_of all) s.operator (stated s.partial) (zero_filled_any s.partial) v
 term_met Npm all v s = npm.meets_one (rule_of all) s v
 term_met CrateCargo all v s =
-    meets_stated mode.Cargo s.form (stated s.partial) (zero_filled s.partial) v
+    meets_stated mode.Cargo s.operator (stated s.partial) (zero_filled s.partial) v
 term_met CrateNpm all v s =
-    meets_stated mode.Npm s.form (stated s.partial) (zero_filled s.partial) v
+    meets_stated mode.Npm s.operator (stated s.partial) (zero_filled s.partial) v
 
 -- ---- ranges
 
@@ -112,8 +105,8 @@ range_every ss = list_all (λ s. npm.matches_everything (of_simple s)) ss
 abbrev pub Says : Dialect → Bool → PlainVersion → Progress → SetTree → Type 0
 Says dialect all v progress tree =
     (progress.met
-    ≡ list_any (range_met dialect all v) (ranges_of (lower_of dialect all) dialect tree))
-    × (progress.matched_all ≡ list_any range_every (ranges_of (lower_of dialect all) dialect tree))
+    ≡ list_any (range_met dialect all v) (ranges_of dialect tree))
+    × (progress.matched_all ≡ list_any range_every (ranges_of dialect tree))
 
 -- whether the version satisfies the text. In npm's dialect, if some range matches everything, each
 -- release does by default and no pre-release

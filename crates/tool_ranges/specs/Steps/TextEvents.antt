@@ -9,7 +9,6 @@ use Rattle.semver_texts.specs.Texts.{Text}
 use Rattle.semver_texts.specs.declared.grammar.Grammar.TheVariants as grammar
 use Rattle.semver_ranges.specs.RangeTree.{Simple, SetTree, simples}
 use Rattle.semver_ranges.specs.CargoGrammar.{as_read, comparators_of}
-use Rattle.semver_ranges.specs.declared.partial.LowerBounds.{LowerBounds}
 use Rattle.semver_ranges.specs.Steps.RangeEvents.{Event, comparators_left, in_front, next_range}
 use Rattle.semver_ranges.specs.Steps.RangeEvents.{yielded}
 use Rattle.semver_ranges.specs.Steps.Reading.{after_blanks, read}
@@ -50,9 +49,9 @@ read_as Npm t = if list_all may_stand (chars t) then read grammar.Npm t else Non
 read_as CrateCargo t = read grammar.Crate t
 read_as CrateNpm t = read grammar.Crate t
 
-abbrev pub ranges_of : LowerBounds → Dialect → SetTree → List (List Simple)
-ranges_of lower Cargo tree = map as_read (comparators_of tree) ∷ []
-ranges_of lower dialect tree = map (yielded lower) tree
+abbrev pub ranges_of : Dialect → SetTree → List (List Simple)
+ranges_of Cargo tree = map as_read (comparators_of tree) ∷ []
+ranges_of dialect tree = map yielded tree
 
 -- the events of ranges: their terms, with `next_range` between each two ranges
 abbrev pub events_in : List (List Simple) → List Event
@@ -60,6 +59,6 @@ events_in [] = []
 events_in (ss ∷ []) = in_front ss []
 events_in (ss ∷ next ∷ others) = in_front ss (next_range ∷ events_in (next ∷ others))
 
-abbrev pub text_events : LowerBounds → Dialect → Text → Option (List Event)
-text_events lower dialect t =
-    option_map (λ tree. events_in (ranges_of lower dialect tree)) (read_as dialect t)
+abbrev pub text_events : Dialect → Text → Option (List Event)
+text_events dialect t =
+    option_map (λ tree. events_in (ranges_of dialect tree)) (read_as dialect t)

@@ -4,7 +4,7 @@
 use crate::rattle_std::prelude::*;
 use crate::proved::invalid_strings::reasons::Reason;
 use crate::proved::semver_ranges::cursor::{Cursor, Event};
-use crate::proved::semver_ranges::grammar::Form;
+use crate::proved::semver_ranges::operator::Operator;
 use crate::proved::semver_ranges::term::RawVersion;
 use crate::proved::semver_texts::bytes::run_len;
 use crate::proved::semver_texts::decimals::number_of_digits;
@@ -35,20 +35,24 @@ fn offset_in_event(event: &Event<'_>, len: usize, dialect: Dialect) -> Option<us
     let Event::Term(term) = event else {
         return None;
     };
-    let Some(upper) = &term.upper else {
-        return offset_in(&term.version, term.form, len, dialect);
-    };
-    // The left side of a hyphen range is read as a term with `>=`.
-    if let Some(offset) = offset_in(&term.version, Form::AtLeast, len, dialect) {
+    if let Some(offset) = offset_in(&term.version, term.operator, len, dialect) {
         return Some(offset);
     }
-    offset_in(upper, Form::AtMost, len, dialect)
+    match &term.upper {
+        Some(upper) => offset_in(upper, Operator::LessOrEqual, len, dialect),
+        None => None,
+    }
 }
 
 /// Returns the offset of the number that is too large in a version after an operator, if they don't
 /// fit.
-fn offset_in(version: &RawVersion<'_>, form: Form, len: usize, dialect: Dialect) -> Option<usize> {
-    let index = too_large(form, &version.components, dialect)?;
+fn offset_in(
+    version: &RawVersion<'_>,
+    operator: Operator,
+    len: usize,
+    dialect: Dialect,
+) -> Option<usize> {
+    let index = too_large(operator, &version.components, dialect)?;
     let numbers = without_v(version.from);
     let word = &numbers[..numbers.len() - version.after.len()];
     Some(len - numbers.len() + component_begin(word, index))

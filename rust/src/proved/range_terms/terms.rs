@@ -2,9 +2,8 @@
 //! Iterates over the terms of a range string. Nothing here allocates.
 
 use crate::rattle_std::prelude::*;
-use crate::proved::range_terms::term::{Component, Operator, PartialVersion, Span, Term};
+use crate::proved::range_terms::term::{Component, PartialVersion, Span, Term};
 use crate::proved::semver_ranges::cursor::{Cursor, Event};
-use crate::proved::semver_ranges::grammar::Form;
 use crate::proved::semver_ranges::term::{RawTerm, RawVersion};
 use crate::proved::semver_ranges::{RangeError, partial};
 use crate::proved::semver_texts::dotted::text_of_parts;
@@ -117,13 +116,13 @@ fn term_of<'text>(read: &RawTerm<'text>, range: usize, len: usize) -> Term<'text
         Some(upper) => Some(version_of(upper, len)),
         None => None,
     };
-    let (operator, end) = match &upper {
-        Some(upper) => (Operator::Hyphen, upper.span.end),
-        None => (operator_of(read.form), version.span.end),
+    let end = match &upper {
+        Some(upper) => upper.span.end,
+        None => version.span.end,
     };
     Term {
         range,
-        operator,
+        operator: read.operator,
         span: Span {
             start: len - read.from.len(),
             end,
@@ -133,21 +132,8 @@ fn term_of<'text>(read: &RawTerm<'text>, range: usize, len: usize) -> Term<'text
     }
 }
 
-/// Returns the operator before a partial version.
-fn operator_of(form: Form) -> Operator {
-    match form {
-        Form::Bare => Operator::Bare,
-        Form::Equal => Operator::Equal,
-        Form::Less => Operator::Less,
-        Form::AtMost => Operator::LessOrEqual,
-        Form::Greater => Operator::Greater,
-        Form::AtLeast => Operator::GreaterOrEqual,
-        Form::Tilde => Operator::Tilde,
-        Form::Caret => Operator::Caret,
-    }
-}
-
 /// Returns a version of a term, in a string with a length of `len` bytes.
+#[inline]
 fn version_of<'text>(written: &RawVersion<'text>, len: usize) -> PartialVersion<'text> {
     let components = &written.components;
     PartialVersion {

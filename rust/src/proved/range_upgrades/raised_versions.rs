@@ -2,7 +2,8 @@
 //! The version of a term with the numbers of a newer version.
 
 use crate::rattle_std::prelude::*;
-use crate::proved::range_terms::term::{Component, Operator, PartialVersion};
+use crate::proved::range_terms::term::{Component, PartialVersion};
+use crate::proved::semver_ranges::operator::Operator;
 use crate::proved::semver_versions::version::VersionRef;
 use crate::proved::tool_ranges::dialect::Dialect;
 use crate::proved::version_sets::Release;

@@ -3,7 +3,8 @@
 //! `None`.
 
 use crate::rattle_std::prelude::*;
-use crate::proved::semver_ranges::grammar::{Form, after_blanks, read_term};
+use crate::proved::semver_ranges::grammar::{after_blanks, read_term};
+use crate::proved::semver_ranges::operator::Operator;
 use crate::proved::semver_ranges::partial::{Component, Components};
 use crate::proved::semver_ranges::term::RawTerm;
 use crate::proved::semver_texts::dotted::have_no_leading_zeros;
@@ -44,7 +45,7 @@ fn read_comparator(text: &[u8], is_first: bool) -> Option<(RawTerm<'_>, &[u8])> 
 fn may_come(text: &[u8], term: &RawTerm<'_>, is_only: bool) -> bool {
     let written = &term.version.components;
     !begins_with_tilde_greater(text)
-        && is_of_cargo(term.form, written)
+        && is_of_cargo(term.operator, written)
         && (!begins_with_wildcard(written) || is_only)
 }
 
@@ -54,16 +55,22 @@ fn begins_with_tilde_greater(text: &[u8]) -> bool {
     matches!(text, [b'~', b'>', ..])
 }
 
-/// Returns whether Cargo accepts a comparator. A single wildcard is accepted; it matches every
-/// release. All others need all of these:
+/// Returns whether Cargo, which has no hyphen ranges, accepts a comparator.
+#[inline(always)]
+fn is_of_cargo(operator: Operator, written: &Components<'_>) -> bool {
+    !matches!(operator, Operator::Hyphen) && is_accepted(operator, written)
+}
+
+/// Returns whether Cargo accepts a version after an operator. A single wildcard without an operator
+/// is accepted; it matches every release. All others need all of these:
 /// - The first component is a number.
 /// - Only wildcards follow a wildcard.
 /// - Only three numbers are followed by a pre-release or build metadata.
 /// - No number in the pre-release has a leading zero.
 #[inline(always)]
-fn is_of_cargo(form: Form, written: &Components<'_>) -> bool {
+fn is_accepted(operator: Operator, written: &Components<'_>) -> bool {
     match (written.major, written.minor, written.patch) {
-        (Component::Wildcard(_), None, _) => matches!(form, Form::Bare),
+        (Component::Wildcard(_), None, _) => matches!(operator, Operator::Bare),
         (Component::Wildcard(_), Some(_), _) => false,
         (_, Some(Component::Wildcard(_)), Some(Component::Number(_))) => false,
         (_, _, Some(Component::Wildcard(_))) => !is_qualified(written),
@@ -85,11 +92,11 @@ fn begins_with_wildcard(written: &Components<'_>) -> bool {
 
 /// Returns the operator that Cargo reads, where none means `^`, or `=` with a wildcard.
 #[inline(always)]
-pub(crate) fn named(form: Form, has_wildcard: bool) -> Form {
-    match form {
-        Form::Bare if has_wildcard => Form::Equal,
-        Form::Bare => Form::Caret,
-        _ => form,
+pub(crate) fn named(operator: Operator, has_wildcard: bool) -> Operator {
+    match operator {
+        Operator::Bare if has_wildcard => Operator::Equal,
+        Operator::Bare => Operator::Caret,
+        _ => operator,
     }
 }
 

@@ -5,7 +5,8 @@
 
 use crate::rattle_std::prelude::*;
 use crate::proved::semver_ranges::cargo::next_comparator;
-use crate::proved::semver_ranges::grammar::{Form, after_bars, after_blanks, ends_range, read_right_side, read_term};
+use crate::proved::semver_ranges::grammar::{after_bars, after_blanks, ends_range, read_right_side, read_term};
+use crate::proved::semver_ranges::operator::Operator;
 use crate::proved::semver_ranges::range_set::RangeError;
 use crate::proved::semver_ranges::term::RawTerm;
 use crate::proved::semver_texts::dotted::strip_mark;
@@ -121,12 +122,13 @@ impl<'text> Cursor<'text> {
         after: &'text [u8],
         grammar: Grammar,
     ) -> Option<Event<'text>> {
-        let Form::Bare = left.form else {
+        let Operator::Bare = left.operator else {
             return None;
         };
         let (upper, rest) = read_right_side(after, grammar)?;
         self.rest = rest;
         Some(Event::Term(RawTerm {
+            operator: Operator::Hyphen,
             upper: Some(upper),
             ..left
         }))

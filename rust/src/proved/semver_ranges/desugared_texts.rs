@@ -5,7 +5,7 @@ use crate::rattle_std::prelude::*;
 use crate::proved::semver_ranges::desugaring::rewritten;
 use crate::proved::semver_ranges::events::{Event, Events};
 use crate::proved::semver_ranges::grammar::Simple;
-use crate::proved::semver_ranges::partial::{LowerBounds, RaisedBounds};
+use crate::proved::semver_ranges::partial::RaisedBounds;
 use crate::proved::semver_ranges::range::{Comparator, Compat, Range};
 use crate::proved::semver_ranges::range_set::{RangeError, RangeSet};
 use crate::proved::semver_texts::grammar::Grammar;
@@ -39,7 +39,7 @@ struct Sizes {
 /// Returns the sizes of a string, or the reason why it has no set.
 fn survey(text: &[u8], compat: Compat) -> Result<Sizes, RangeError> {
     let grammar = Grammar::Crate;
-    let mut events = Events::new(text, grammar, LowerBounds::Stated);
+    let mut events = Events::new(text, grammar);
     let mut comparators = [0usize; REMEMBERED];
     let mut ended = 0usize;
     let mut fit = true;
@@ -86,7 +86,7 @@ fn build(
     raised: RaisedBounds,
 ) -> Result<Vec<Range>, AllocError> {
     let grammar = Grammar::Crate;
-    let mut events = Events::new(text, grammar, LowerBounds::Stated);
+    let mut events = Events::new(text, grammar);
     let mut ranges = Vec::fallible_with_capacity(sizes.ranges)?;
     let mut comparator_set = Vec::fallible_with_capacity(sizes.comparators[0])?;
     while let Some(event) = events.next_in(grammar) {

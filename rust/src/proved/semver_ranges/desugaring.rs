@@ -6,7 +6,8 @@
 //! once everything is known to fit.
 
 use crate::rattle_std::prelude::*;
-use crate::proved::semver_ranges::grammar::{Form, Simple};
+use crate::proved::semver_ranges::grammar::Simple;
+use crate::proved::semver_ranges::operator::Operator;
 use crate::proved::semver_ranges::partial::{Partial, PartialKind, Place, RaisedBounds};
 use crate::proved::semver_ranges::range::{Comparator, Compat, Op};
 use crate::rattle_std::AllocError;
@@ -105,51 +106,50 @@ fn singleton(comparator: Comparator) -> Result<Vec<Comparator>, AllocError> {
 pub(crate) fn rewritten(simple: &Simple<'_>, compat: Compat) -> Desugared {
     let partial = &simple.partial;
     match partial.kind() {
-        PartialKind::XRangeOnly => with_nothing_stated(simple.form),
-        PartialKind::MajorOnly => with_some_stated(simple.form, partial, Place::Major),
-        PartialKind::MajorMinor => with_some_stated(simple.form, partial, Place::Minor),
-        PartialKind::MajorMinorPatch => with_three_stated(simple.form, partial, compat),
+        PartialKind::XRangeOnly => with_nothing_stated(simple.operator),
+        PartialKind::MajorOnly => with_some_stated(simple.operator, partial, Place::Major),
+        PartialKind::MajorMinor => with_some_stated(simple.operator, partial, Place::Minor),
+        PartialKind::MajorMinorPatch => with_three_stated(simple.operator, partial, compat),
     }
 }
 
 /// Returns the column of the table for terms without a number. The partial is 0.0.0 then.
 #[inline(always)]
-fn with_nothing_stated(form: Form) -> Desugared {
-    match form {
-        Form::Less | Form::Greater => Desugared::Against(Op::Lt),
-        Form::Bare | Form::Equal | Form::AtMost | Form::AtLeast | Form::Tilde | Form::Caret =>
-            Desugared::Against(Op::Gte),
+fn with_nothing_stated(operator: Operator) -> Desugared {
+    match operator {
+        Operator::Less | Operator::Greater => Desugared::Against(Op::Lt),
+        _ => Desugared::Against(Op::Gte),
     }
 }
 
 /// Returns the column of the table for terms of one or two numbers, the last of them at a place.
 #[inline(always)]
-fn with_some_stated(form: Form, partial: &Partial<'_>, last: Place) -> Desugared {
-    match form {
-        Form::Bare | Form::Equal | Form::Tilde => Desugared::Between(last),
-        Form::Less => Desugared::Against(Op::Lt),
-        Form::AtMost => Desugared::Below(last),
-        Form::Greater => Desugared::Against(Op::Gt),
-        Form::AtLeast => Desugared::Against(Op::Gte),
-        Form::Caret => Desugared::Between(partial.leading_place()),
+fn with_some_stated(operator: Operator, partial: &Partial<'_>, last: Place) -> Desugared {
+    match operator {
+        Operator::Bare | Operator::Equal | Operator::Tilde => Desugared::Between(last),
+        Operator::Less => Desugared::Against(Op::Lt),
+        Operator::LessOrEqual => Desugared::Below(last),
+        Operator::Greater => Desugared::Against(Op::Gt),
+        Operator::GreaterOrEqual | Operator::Hyphen => Desugared::Against(Op::Gte),
+        Operator::Caret => Desugared::Between(partial.leading_place()),
     }
 }
 
 /// Returns the column of the table for terms of three numbers. The mode decides only how a bare
 /// version is read.
 #[inline(always)]
-fn with_three_stated(form: Form, partial: &Partial<'_>, compat: Compat) -> Desugared {
-    match form {
-        Form::Bare => match compat {
+fn with_three_stated(operator: Operator, partial: &Partial<'_>, compat: Compat) -> Desugared {
+    match operator {
+        Operator::Bare => match compat {
             Compat::Cargo => Desugared::Between(partial.leading_place()),
             Compat::Npm => Desugared::Against(Op::Eq),
         },
-        Form::Equal => Desugared::Against(Op::Eq),
-        Form::Less => Desugared::Against(Op::Lt),
-        Form::AtMost => Desugared::Against(Op::Lte),
-        Form::Greater => Desugared::Against(Op::Gt),
-        Form::AtLeast => Desugared::Against(Op::Gte),
-        Form::Tilde => Desugared::Between(Place::Minor),
-        Form::Caret => Desugared::Between(partial.leading_place()),
+        Operator::Equal => Desugared::Against(Op::Eq),
+        Operator::Less => Desugared::Against(Op::Lt),
+        Operator::LessOrEqual => Desugared::Against(Op::Lte),
+        Operator::Greater => Desugared::Against(Op::Gt),
+        Operator::GreaterOrEqual | Operator::Hyphen => Desugared::Against(Op::Gte),
+        Operator::Tilde => Desugared::Between(Place::Minor),
+        Operator::Caret => Desugared::Between(partial.leading_place()),
     }
 }

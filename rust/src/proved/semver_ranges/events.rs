@@ -4,8 +4,9 @@
 
 use crate::rattle_std::prelude::*;
 use crate::proved::semver_ranges::cursor::{self, Cursor};
-use crate::proved::semver_ranges::grammar::{Form, Simple};
-use crate::proved::semver_ranges::partial::{LowerBounds, Partial};
+use crate::proved::semver_ranges::grammar::Simple;
+use crate::proved::semver_ranges::operator::Operator;
+use crate::proved::semver_ranges::partial::Partial;
 use crate::proved::semver_ranges::range_set::RangeError;
 use crate::proved::semver_ranges::term::RawTerm;
 use crate::proved::semver_texts::grammar::Grammar;
@@ -13,8 +14,8 @@ use crate::proved::semver_texts::grammar::Grammar;
 /// The next part of a range string.
 #[derive(Clone, Copy)]
 pub enum Event<'input> {
-    /// A term of the range. An empty range gives a bare wildcard, and a hyphen range gives `>=` its
-    /// left side and `<=` its right side.
+    /// A term of the range. An empty range gives a bare wildcard, and a hyphen range gives its left
+    /// side, and `<=` its right side.
     Simple(Simple<'input>),
     /// Two bars, after which the next range begins.
     NextRange,
@@ -26,18 +27,15 @@ pub struct Events<'input> {
     cursor: Cursor<'input>,
     /// The right side of a hyphen range, if it comes next.
     upper: Option<Simple<'input>>,
-    lower: LowerBounds,
 }
 
 impl<'input> Events<'input> {
-    /// Returns the events of a string in a dialect. `lower` says how the left side of a hyphen
-    /// range is written.
+    /// Returns the events of a string in a dialect.
     #[inline(always)]
-    pub fn new(text: &'input [u8], grammar: Grammar, lower: LowerBounds) -> Events<'input> {
+    pub fn new(text: &'input [u8], grammar: Grammar) -> Events<'input> {
         Events {
             cursor: Cursor::new(text, grammar),
             upper: None,
-            lower,
         }
     }
 
@@ -51,7 +49,7 @@ impl<'input> Events<'input> {
         }
         match self.cursor.next_in(grammar)? {
             Ok(event) => {
-                let (event, upper) = view(&event, self.lower, grammar);
+                let (event, upper) = view(&event, grammar);
                 self.upper = upper;
                 Some(Ok(event))
             }
@@ -64,12 +62,11 @@ impl<'input> Events<'input> {
 #[inline(always)]
 fn view<'input>(
     event: &cursor::Event<'input>,
-    lower: LowerBounds,
     grammar: Grammar,
 ) -> (Event<'input>, Option<Simple<'input>>) {
     match event {
         cursor::Event::Term(term) => {
-            let (first, upper) = simples(term, lower, grammar);
+            let (first, upper) = simples(term, grammar);
             (Event::Simple(first), upper)
         }
         cursor::Event::EmptyRange => (Event::Simple(Simple::wildcard()), None),
@@ -81,12 +78,11 @@ fn view<'input>(
 #[inline(always)]
 fn simples<'input>(
     term: &RawTerm<'input>,
-    lower: LowerBounds,
     grammar: Grammar,
 ) -> (Simple<'input>, Option<Simple<'input>>) {
     let simple = term.simple(grammar);
     match &term.upper {
-        Some(upper) => hyphen_sides(simple.partial, Partial::of(&upper.components), lower),
+        Some(upper) => hyphen_sides(simple, Partial::of(&upper.components)),
         None => (simple, None),
     }
 }
@@ -95,23 +91,18 @@ fn simples<'input>(
 /// except for the left one if neither side has a number.
 #[inline(always)]
 fn hyphen_sides<'input>(
-    left: Partial<'input>,
+    left: Simple<'input>,
     right: Partial<'input>,
-    lower: LowerBounds,
 ) -> (Simple<'input>, Option<Simple<'input>>) {
-    let lower = Simple {
-        form: Form::AtLeast,
-        partial: left.begun(lower),
-    };
     let upper = Simple {
-        form: Form::AtMost,
+        operator: Operator::LessOrEqual,
         partial: right,
     };
     if right.states_nothing() {
-        (lower, None)
-    } else if left.states_nothing() {
+        (left, None)
+    } else if left.partial.states_nothing() {
         (upper, None)
     } else {
-        (lower, Some(upper))
+        (left, Some(upper))
     }
 }

@@ -7,6 +7,7 @@
 use crate::rattle_std::prelude::*;
 use crate::proved::semver_ranges::cargo::{has_wildcard, named};
 use crate::proved::semver_ranges::npm_lengths::is_short_word;
+use crate::proved::semver_ranges::operator::Operator;
 use crate::proved::semver_ranges::partial::{Component, Components, Partial};
 use crate::proved::semver_ranges::term::{RawTerm, RawVersion};
 use crate::proved::semver_texts::decimals;
@@ -15,32 +16,11 @@ use crate::proved::semver_texts::grammar::Grammar;
 use crate::proved::semver_texts::npm_limits::MAX_SAFE_BUILD_LENGTH;
 use crate::proved::semver_texts::white_space::is_ascii_white_space;
 
-/// The operator before a partial, if there is one.
-#[derive(Clone, Copy, Debug)]
-pub enum Form {
-    /// No operator.
-    Bare,
-    /// `=`.
-    Equal,
-    /// `<`.
-    Less,
-    /// `<=`.
-    AtMost,
-    /// `>`.
-    Greater,
-    /// `>=`.
-    AtLeast,
-    /// `~` or `~>`.
-    Tilde,
-    /// `^`.
-    Caret,
-}
-
 /// What a word, which is a partial and its `v`, comes after.
 #[derive(Clone, Copy)]
 pub(crate) enum Role {
-    /// The operator of a term. For the left side of a hyphen range, no operator.
-    AfterForm(Form),
+    /// The operator of a term as it is written. For the left side of a hyphen range, none.
+    AfterOperator(Operator),
     /// The hyphen of a hyphen range.
     AfterHyphen,
 }
@@ -49,7 +29,7 @@ pub(crate) enum Role {
 #[derive(Clone, Copy, Debug)]
 pub struct Simple<'input> {
     /// The operator.
-    pub form: Form,
+    pub operator: Operator,
     /// The partial.
     pub partial: Partial<'input>,
 }
@@ -58,13 +38,13 @@ impl<'input> Simple<'input> {
     /// Returns a term with the operator that a grammar reads. In Cargo's, none means `^`, or `=` if
     /// there is a wildcard.
     #[inline(always)]
-    pub(crate) fn of(form: Form, written: &Components<'input>, grammar: Grammar) -> Simple<'input> {
-        let form = match grammar {
-            Grammar::Cargo => named(form, has_wildcard(written)),
-            Grammar::Crate | Grammar::Npm => form,
+    pub(crate) fn of(operator: Operator, written: &Components<'input>, grammar: Grammar) -> Simple<'input> {
+        let operator = match grammar {
+            Grammar::Cargo => named(operator, has_wildcard(written)),
+            Grammar::Crate | Grammar::Npm => operator,
         };
         Simple {
-            form,
+            operator,
             partial: Partial::of(written),
         }
     }
@@ -80,7 +60,7 @@ impl<'input> Simple<'input> {
             build: &[],
         };
         Simple {
-            form: Form::Bare,
+            operator: Operator::Bare,
             partial: Partial::of(&written),
         }
     }
@@ -105,11 +85,11 @@ pub(crate) fn read_right_side(after: &[u8], grammar: Grammar) -> Option<(RawVers
 /// returns `None` if there is no term. It doesn't look for the right side of a hyphen range.
 #[inline(always)]
 pub(crate) fn read_term(text: &[u8], grammar: Grammar) -> Option<(RawTerm<'_>, &[u8])> {
-    let (form, word) = read_operator(text, grammar);
-    let version = read_version(word, grammar, Role::AfterForm(form))?;
+    let (operator, word) = read_operator(text, grammar);
+    let version = read_version(word, grammar, Role::AfterOperator(operator))?;
     let term = RawTerm {
         from: text,
-        form,
+        operator,
         version,
         upper: None,
     };
@@ -118,19 +98,19 @@ pub(crate) fn read_term(text: &[u8], grammar: Grammar) -> Option<(RawTerm<'_>, &
 
 /// Returns the operator at the beginning of a string, and what follows it and its blanks.
 #[inline(always)]
-fn read_operator(text: &[u8], grammar: Grammar) -> (Form, &[u8]) {
-    let (form, rest) = match text {
-        [b'^', rest @ ..] => (Form::Caret, rest),
-        [b'>', b'=', rest @ ..] => (Form::AtLeast, rest),
-        [b'>', rest @ ..] => (Form::Greater, rest),
-        [b'<', b'=', rest @ ..] => (Form::AtMost, rest),
-        [b'<', rest @ ..] => (Form::Less, rest),
-        [b'~', b'>', rest @ ..] => (Form::Tilde, rest),
-        [b'~', rest @ ..] => (Form::Tilde, rest),
-        [b'=', rest @ ..] => (Form::Equal, rest),
-        _ => return (Form::Bare, text),
+fn read_operator(text: &[u8], grammar: Grammar) -> (Operator, &[u8]) {
+    let (operator, rest) = match text {
+        [b'^', rest @ ..] => (Operator::Caret, rest),
+        [b'>', b'=', rest @ ..] => (Operator::GreaterOrEqual, rest),
+        [b'>', rest @ ..] => (Operator::Greater, rest),
+        [b'<', b'=', rest @ ..] => (Operator::LessOrEqual, rest),
+        [b'<', rest @ ..] => (Operator::Less, rest),
+        [b'~', b'>', rest @ ..] => (Operator::Tilde, rest),
+        [b'~', rest @ ..] => (Operator::Tilde, rest),
+        [b'=', rest @ ..] => (Operator::Equal, rest),
+        _ => return (Operator::Bare, text),
     };
-    (form, after_blanks(rest, grammar))
+    (operator, after_blanks(rest, grammar))
 }
 
 /// Returns the version at the beginning of a string, which ends with its word.

@@ -17,6 +17,7 @@ mod desugaring;
 pub mod events;
 pub mod grammar;
 mod npm_lengths;
+pub mod operator;
 pub mod partial;
 mod range;
 mod range_set;

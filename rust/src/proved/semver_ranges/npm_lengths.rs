@@ -3,7 +3,8 @@
 //! little of this is run.
 
 use crate::rattle_std::prelude::*;
-use crate::proved::semver_ranges::grammar::{Form, Role, after_v, read_components};
+use crate::proved::semver_ranges::grammar::{Role, after_v, read_components};
+use crate::proved::semver_ranges::operator::Operator;
 use crate::proved::semver_ranges::partial::{Component, Components};
 use crate::proved::semver_texts::dotted::{marked_len, split_at_dot};
 use crate::proved::semver_texts::grammar::Grammar;
@@ -65,7 +66,7 @@ fn is_short_version(word: usize, version: usize, written: &Components<'_>, role:
 /// Returns whether node-semver keeps a word of three numbers with its `v` and its build metadata.
 fn is_taken_whole(written: &Components<'_>, role: Role) -> bool {
     match role {
-        Role::AfterForm(form) => !matches!(form, Form::Tilde | Form::Caret),
+        Role::AfterOperator(operator) => !matches!(operator, Operator::Tilde | Operator::Caret),
         Role::AfterHyphen => written.pre.is_empty(),
     }
 }

@@ -60,15 +60,6 @@ pub enum RaisedBounds {
     Exact,
 }
 
-/// How a lower bound that begins with a partial is written.
-#[derive(Clone, Copy, Debug)]
-pub enum LowerBounds {
-    /// As it is in the string, such as `>=1.2.0`.
-    Stated,
-    /// With the lowest pre-release if the partial names none, such as `>=1.2.0-0`.
-    Lowest,
-}
-
 /// The numbers of a partial, with zeros for the missing ones, and its pre-release after three
 /// numbers, as a slice of the string.
 #[derive(Clone, Copy, Debug)]
@@ -159,24 +150,6 @@ impl<'input> Partial<'input> {
             PartialKind::MajorMinorPatch if self.minor > 0 => Place::Minor,
             PartialKind::MajorMinorPatch => Place::Patch,
         }
-    }
-
-    /// Returns the same numbers with the lowest pre-release, which is `0`.
-    #[inline(always)]
-    pub(crate) fn lowest(self) -> Partial<'input> {
-        Partial { pre: b"0", ..self }
-    }
-
-    /// Returns the partial as the beginning of a lower bound.
-    #[inline(always)]
-    pub(crate) fn begun(self, lower: LowerBounds) -> Partial<'input> {
-        let LowerBounds::Lowest = lower else {
-            return self;
-        };
-        if self.states_three() && self.pre.is_empty() {
-            return self.lowest();
-        }
-        self
     }
 
     /// Returns whether the partial has three numbers.

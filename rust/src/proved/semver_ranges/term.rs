@@ -2,7 +2,8 @@
 //! A term of a range string as it is written, and where it is.
 
 use crate::rattle_std::prelude::*;
-use crate::proved::semver_ranges::grammar::{Form, Simple};
+use crate::proved::semver_ranges::grammar::Simple;
+use crate::proved::semver_ranges::operator::Operator;
 use crate::proved::semver_ranges::partial::Components;
 use crate::proved::semver_texts::grammar::Grammar;
 
@@ -22,8 +23,8 @@ pub struct RawVersion<'text> {
 pub struct RawTerm<'text> {
     /// The string from its first byte on.
     pub from: &'text [u8],
-    /// The operator before its version. A hyphen range has none.
-    pub form: Form,
+    /// Its operator.
+    pub operator: Operator,
     /// Its version; in a hyphen range, the one before the hyphen.
     pub version: RawVersion<'text>,
     /// The version after the hyphen of a hyphen range.
@@ -34,6 +35,6 @@ impl<'text> RawTerm<'text> {
     /// Returns the operator that a grammar reads, and the numbers of its version.
     #[inline(always)]
     pub(crate) fn simple(&self, grammar: Grammar) -> Simple<'text> {
-        Simple::of(self.form, &self.version.components, grammar)
+        Simple::of(self.operator, &self.version.components, grammar)
     }
 }

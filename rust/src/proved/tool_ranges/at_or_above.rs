@@ -4,7 +4,7 @@
 use crate::rattle_std::prelude::*;
 use crate::proved::tool_ranges::checked::Checked;
 use crate::proved::tool_ranges::dialect::Dialect;
-use crate::proved::tool_ranges::matching::{lower, matches_everything, takes_all};
+use crate::proved::tool_ranges::matching::{matches_everything, takes_all};
 use crate::proved::tool_ranges::meaning::Rules;
 use crate::proved::tool_ranges::sets::{is_by_default_of_npm, stated_numbers, with_term};
 use crate::proved::semver_ranges::RangeError;
@@ -29,7 +29,7 @@ pub fn has_at_or_above(
     meaning: Rules,
 ) -> Result<bool, RangeError> {
     let (dialect, rule) = (meaning.dialect, meaning.pre_releases);
-    let checked = Checked::new(range, dialect, lower(dialect, takes_all(rule)))?;
+    let checked = Checked::new(range, dialect)?;
     let version = version.read_by(dialect.grammar().digits());
     Ok(has_from(checked, &version, dialect, rule))
 }

@@ -4,8 +4,8 @@
 use crate::rattle_std::prelude::*;
 use crate::proved::tool_ranges::dialect::Dialect;
 use crate::proved::tool_ranges::rewriting;
-use crate::proved::semver_ranges::partial::LowerBounds;
 use crate::proved::semver_ranges::{Compat, RangeError, RangeSet};
+use crate::proved::version_sets::PreReleases;
 
 /// The maximum number of comparators in a requirement.
 const MOST_COMPARATORS: usize = 32;
@@ -34,7 +34,7 @@ pub fn rewrite(requirement: &str) -> Result<RangeSet, RangeError> {
         requirement,
         Dialect::Cargo,
         Compat::Cargo,
-        LowerBounds::Stated,
+        PreReleases::ByDialect,
     )
 }
 

@@ -11,7 +11,6 @@ use crate::proved::tool_ranges::table::fits;
 use crate::proved::semver_ranges::RangeError;
 use crate::proved::semver_ranges::events::{Event, Events};
 use crate::proved::semver_ranges::grammar::Simple;
-use crate::proved::semver_ranges::partial::LowerBounds;
 use crate::proved::semver_texts::grammar::Grammar;
 
 /// The terms of a range string that was checked. If there is only one, it isn't read again.
@@ -31,13 +30,9 @@ impl<'text> Checked<'text> {
     /// `NotARange` if the string isn't a range in the dialect, and `NumberTooLarge` if one of its
     /// numbers, or a number that is raised for one of its bounds, is above the limit.
     #[inline(always)]
-    pub(crate) fn new(
-        range: &'text str,
-        dialect: Dialect,
-        lower: LowerBounds,
-    ) -> Result<Checked<'text>, RangeError> {
+    pub(crate) fn new(range: &'text str, dialect: Dialect) -> Result<Checked<'text>, RangeError> {
         let grammar = dialect.grammar();
-        let begin = events_of(range, dialect, lower)?;
+        let begin = events_of(range, dialect)?;
         let mut events = begin;
         let Some(event) = events.next_in(grammar) else {
             return Err(RangeError::NotARange);
@@ -74,7 +69,7 @@ impl<'text> Checked<'text> {
 /// Checks a range string, with the errors of `Checked::new`.
 #[inline(always)]
 pub(crate) fn check(range: &str, dialect: Dialect) -> Result<(), RangeError> {
-    match Checked::new(range, dialect, LowerBounds::Stated) {
+    match Checked::new(range, dialect) {
         Ok(_) => Ok(()),
         Err(refusal) => Err(refusal),
     }

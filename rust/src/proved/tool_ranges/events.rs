@@ -7,23 +7,17 @@ use crate::proved::tool_ranges::dialect::Dialect;
 use crate::proved::tool_ranges::npm::may_stand;
 use crate::proved::semver_ranges::RangeError;
 use crate::proved::semver_ranges::events::Events;
-use crate::proved::semver_ranges::partial::LowerBounds;
 
-/// Returns the events of a range string. `lower` says how the left side of a hyphen range is
-/// written.
+/// Returns the events of a range string.
 ///
 /// # Errors
 ///
 /// `NotARange` if the string has a character that can't be in a range of npm, or more comparators
 /// than a requirement of Cargo may have.
 #[inline(always)]
-pub(crate) fn events_of(
-    text: &str,
-    dialect: Dialect,
-    lower: LowerBounds,
-) -> Result<Events<'_>, RangeError> {
+pub(crate) fn events_of(text: &str, dialect: Dialect) -> Result<Events<'_>, RangeError> {
     if may_be_a_range(text, dialect) {
-        Ok(Events::new(text.as_bytes(), dialect.grammar(), lower))
+        Ok(Events::new(text.as_bytes(), dialect.grammar()))
     } else {
         Err(RangeError::NotARange)
     }

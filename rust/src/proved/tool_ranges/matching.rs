@@ -7,8 +7,9 @@ use crate::proved::tool_ranges::events::events_of;
 use crate::proved::tool_ranges::table::{bounds, counted, fits, is_zero};
 use crate::proved::semver_ranges::RangeError;
 use crate::proved::semver_ranges::events::Event;
-use crate::proved::semver_ranges::grammar::{Form, Simple};
-use crate::proved::semver_ranges::partial::{LowerBounds, Partial};
+use crate::proved::semver_ranges::grammar::Simple;
+use crate::proved::semver_ranges::operator::Operator;
+use crate::proved::semver_ranges::partial::Partial;
 use crate::proved::semver_versions::version::VersionRef;
 use crate::proved::version_sets::{Interval, PreReleases};
 
@@ -119,7 +120,7 @@ fn matches(
 ) -> Result<Progress, RangeError> {
     let grammar = dialect.grammar();
     let counts = counts(version, takes_all);
-    let mut events = events_of(range, dialect, lower(dialect, takes_all))?;
+    let mut events = events_of(range, dialect)?;
     let mut fit = true;
     let mut progress = Progress::new(counts);
     while let Some(event) = events.next_in(grammar) {
@@ -141,15 +142,6 @@ fn matches(
 #[inline(always)]
 fn counts(version: &VersionRef<'_>, takes_all: bool) -> bool {
     takes_all || is_release(version)
-}
-
-/// Returns how the left side of a hyphen range begins in a dialect.
-#[inline(always)]
-pub(crate) fn lower(dialect: Dialect, takes_all: bool) -> LowerBounds {
-    match dialect {
-        Dialect::Npm if takes_all => LowerBounds::Lowest,
-        _ => LowerBounds::Stated,
-    }
 }
 
 /// Returns whether a version satisfies a term.
@@ -192,9 +184,9 @@ fn is_stated_by(version: &VersionRef<'_>, partial: &Partial<'_>) -> bool {
 /// Returns whether npm matches everything with a term.
 #[inline(always)]
 pub(crate) fn matches_everything(simple: &Simple<'_>) -> bool {
-    match simple.form {
-        Form::Less | Form::Greater => false,
-        Form::AtLeast => is_zero(&simple.partial),
+    match simple.operator {
+        Operator::Less | Operator::Greater => false,
+        Operator::GreaterOrEqual | Operator::Hyphen => is_zero(&simple.partial),
         _ => simple.partial.states_nothing(),
     }
 }

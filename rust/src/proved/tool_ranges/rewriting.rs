@@ -7,10 +7,10 @@ use crate::proved::tool_ranges::dialect::Dialect;
 use crate::proved::tool_ranges::table::{is_past, numbers, raised, sides};
 use crate::proved::semver_ranges::events::Event;
 use crate::proved::semver_ranges::grammar::Simple;
-use crate::proved::semver_ranges::partial::{LowerBounds, Partial, lowest_pre_release};
+use crate::proved::semver_ranges::partial::{Partial, lowest_pre_release};
 use crate::proved::semver_ranges::{Comparator, Compat, Op, Range, RangeError, RangeSet};
 use crate::rattle_std::AllocError;
-use crate::proved::version_sets::{Release, Side};
+use crate::proved::version_sets::{PreReleases, Release, Side};
 
 /// Rewrites a range into plain comparators. The text is checked first, so that an invalid one
 /// doesn't allocate.
@@ -19,10 +19,10 @@ pub(crate) fn rewrite(
     range: &str,
     dialect: Dialect,
     compat: Compat,
-    lower: LowerBounds,
+    rule: PreReleases,
 ) -> Result<RangeSet, RangeError> {
-    let checked = Checked::new(range, dialect, lower)?;
-    match ranges(checked, dialect, compat, lower) {
+    let checked = Checked::new(range, dialect)?;
+    match ranges(checked, dialect, compat, rule) {
         Ok(ranges) => Ok(RangeSet { ranges, compat }),
         Err(_) => Err(RangeError::OutOfMemory),
     }
@@ -34,14 +34,14 @@ fn ranges(
     mut checked: Checked<'_>,
     dialect: Dialect,
     compat: Compat,
-    lower: LowerBounds,
+    rule: PreReleases,
 ) -> Result<Vec<Range>, AllocError> {
     let grammar = dialect.grammar();
     let mut ranges = Vec::fallible_with_capacity(1)?;
     let mut comparator_set = Vec::fallible_with_capacity(4)?;
     while let Some(event) = checked.next(grammar) {
         match event {
-            Event::Simple(simple) => push(&simple, dialect, lower, &mut comparator_set)?,
+            Event::Simple(simple) => push(&simple, dialect, rule, &mut comparator_set)?,
             Event::NextRange => {
                 ranges.fallible_push(Range {
                     comparator_set,
@@ -63,7 +63,7 @@ fn ranges(
 fn push(
     simple: &Simple<'_>,
     dialect: Dialect,
-    lower: LowerBounds,
+    rule: PreReleases,
     comparators: &mut Vec<Comparator>,
 ) -> Result<(), AllocError> {
     let partial = &simple.partial;
@@ -73,7 +73,7 @@ fn push(
         return Ok(());
     }
     if let Some(side) = first {
-        comparators.fallible_push(lower_comparator(partial, side, lower)?)?;
+        comparators.fallible_push(lower_comparator(partial, side, rule)?)?;
     }
     if let Some(side) = last {
         comparators.fallible_push(upper_comparator(partial, side)?)?;
@@ -81,22 +81,22 @@ fn push(
     Ok(())
 }
 
-/// Returns the comparator of a lower side. If lower bounds are as stated, `Below` and `At` give the
-/// same one: then comparators are exact only for releases.
+/// Returns the comparator of a lower side. With `Included` it is right for all versions. Otherwise
+/// `Below` and `At` give the same one, which is right only for releases.
 #[inline(always)]
 fn lower_comparator(
     partial: &Partial<'_>,
     side: Side,
-    lower: LowerBounds,
+    rule: PreReleases,
 ) -> Result<Comparator, AllocError> {
-    match (side, lower) {
-        (Side::At, _) | (Side::Below, LowerBounds::Stated) => partial.as_comparator(Op::Gte),
-        (Side::Below, LowerBounds::Lowest) => lowest_with(Op::Gte, numbers(partial)),
+    match (side, rule) {
+        (Side::Below, PreReleases::Included) => lowest_with(Op::Gte, numbers(partial)),
+        (Side::At | Side::Below, _) => partial.as_comparator(Op::Gte),
         (Side::Past, _) => partial.as_comparator(Op::Gt),
-        (Side::Above(place), LowerBounds::Lowest) => {
+        (Side::Above(place), PreReleases::Included) => {
             lowest_with(Op::Gte, raised(partial, place))
         }
-        (Side::Above(place), LowerBounds::Stated) => {
+        (Side::Above(place), PreReleases::ByDialect | PreReleases::Excluded) => {
             let Release {
                 major,
                 minor,

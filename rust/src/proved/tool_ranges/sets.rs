@@ -4,7 +4,7 @@
 use crate::rattle_std::prelude::*;
 use crate::proved::tool_ranges::checked::Checked;
 use crate::proved::tool_ranges::dialect::Dialect;
-use crate::proved::tool_ranges::matching::{interval_of, lower, matches_everything, takes_all};
+use crate::proved::tool_ranges::matching::{interval_of, matches_everything, takes_all};
 use crate::proved::tool_ranges::table::{bounds, numbers};
 use crate::proved::semver_ranges::RangeError;
 use crate::proved::semver_ranges::events::Event;
@@ -21,7 +21,7 @@ pub(crate) fn read(
     dialect: Dialect,
     rule: PreReleases,
 ) -> Result<VersionSet, RangeError> {
-    let checked = Checked::new(range, dialect, lower(dialect, takes_all(rule)))?;
+    let checked = Checked::new(range, dialect)?;
     match set_of(checked, dialect, rule) {
         Ok(set) => Ok(set),
         Err(_) => Err(RangeError::OutOfMemory),

@@ -9,7 +9,8 @@
 
 use crate::rattle_std::prelude::*;
 use crate::proved::tool_ranges::dialect::Dialect;
-use crate::proved::semver_ranges::grammar::{Form, Simple};
+use crate::proved::semver_ranges::grammar::Simple;
+use crate::proved::semver_ranges::operator::Operator;
 use crate::proved::semver_ranges::partial::{Component, Components, Partial, PartialKind, Place};
 use crate::proved::semver_texts::npm_limits::MAX_SAFE_INTEGER;
 use crate::proved::version_sets::{Cut, Interval, Release, Side};
@@ -76,17 +77,17 @@ fn cargo_sides(simple: &Simple<'_>) -> (Option<Side>, Option<Side>) {
 /// numbers.
 #[inline(always)]
 fn sides_beside(simple: &Simple<'_>) -> (Option<Side>, Option<Side>) {
-    match simple.form {
-        Form::Caret | Form::Greater => sides(simple, Dialect::Cargo),
-        Form::AtLeast => {
+    match simple.operator {
+        Operator::Caret | Operator::Greater => sides(simple, Dialect::Cargo),
+        Operator::GreaterOrEqual | Operator::Hyphen => {
             let greater = Simple {
-                form: Form::Greater,
+                operator: Operator::Greater,
                 partial: simple.partial,
             };
             sides(&greater, Dialect::Cargo)
         }
-        Form::Less | Form::AtMost => (None, Some(Side::Below)),
-        Form::Bare | Form::Equal | Form::Tilde => (Some(Side::Below), Some(Side::Below)),
+        Operator::Less | Operator::LessOrEqual => (None, Some(Side::Below)),
+        _ => (Some(Side::Below), Some(Side::Below)),
     }
 }
 
@@ -162,8 +163,8 @@ pub(crate) fn fits(simple: &Simple<'_>, dialect: Dialect) -> bool {
 /// first number above the limit of the dialect, or if there is none, of the number that is raised
 /// for one of the sides and can't be. It is below 3.
 #[must_use]
-pub(crate) fn too_large(form: Form, written: &Components<'_>, dialect: Dialect) -> Option<usize> {
-    let simple = Simple::of(form, written, dialect.grammar());
+pub(crate) fn too_large(operator: Operator, written: &Components<'_>, dialect: Dialect) -> Option<usize> {
+    let simple = Simple::of(operator, written, dialect.grammar());
     if fits(&simple, dialect) {
         return None;
     }
@@ -265,34 +266,38 @@ pub(crate) fn sides(simple: &Simple<'_>, dialect: Dialect) -> (Option<Side>, Opt
     let first = beginning(simple, dialect);
     let partial = &simple.partial;
     let last = match partial.kind() {
-        PartialKind::XRangeOnly => return sides_of_nothing(simple.form, dialect, first),
+        PartialKind::XRangeOnly => return sides_of_nothing(simple.operator, dialect, first),
         PartialKind::MajorOnly => Side::Above(Place::Major),
         PartialKind::MajorMinor => Side::Above(Place::Minor),
         PartialKind::MajorMinorPatch => Side::Past,
     };
-    match (simple.form, dialect) {
-        (Form::Less, _) => (None, Some(first)),
-        (Form::AtMost, _) => (None, Some(last)),
-        (Form::AtLeast, _) => (Some(first), None),
-        (Form::Greater, Dialect::Cargo | Dialect::Npm) => (Some(last), None),
-        (Form::Greater, Dialect::CrateCargo | Dialect::CrateNpm) => (Some(Side::Past), None),
-        (Form::Tilde, _) if partial.states_three() => {
+    match (simple.operator, dialect) {
+        (Operator::Less, _) => (None, Some(first)),
+        (Operator::LessOrEqual, _) => (None, Some(last)),
+        (Operator::GreaterOrEqual | Operator::Hyphen, _) => (Some(first), None),
+        (Operator::Greater, Dialect::Cargo | Dialect::Npm) => (Some(last), None),
+        (Operator::Greater, Dialect::CrateCargo | Dialect::CrateNpm) => (Some(Side::Past), None),
+        (Operator::Tilde, _) if partial.states_three() => {
             (Some(first), Some(Side::Above(Place::Minor)))
         }
-        (Form::Bare, Dialect::Cargo | Dialect::CrateCargo) if partial.states_three() => {
+        (Operator::Bare, Dialect::Cargo | Dialect::CrateCargo) if partial.states_three() => {
             (Some(first), Some(Side::Above(partial.leading_place())))
         }
-        (Form::Caret, _) => (Some(first), Some(Side::Above(partial.leading_place()))),
-        (Form::Bare | Form::Equal | Form::Tilde, _) => (Some(first), Some(last)),
+        (Operator::Caret, _) => (Some(first), Some(Side::Above(partial.leading_place()))),
+        _ => (Some(first), Some(last)),
     }
 }
 
 /// Returns the sides for a term without a number. In Cargo's dialect such a term has no operator.
 #[inline(always)]
-fn sides_of_nothing(form: Form, dialect: Dialect, first: Side) -> (Option<Side>, Option<Side>) {
-    match (dialect, form) {
+fn sides_of_nothing(
+    operator: Operator,
+    dialect: Dialect,
+    first: Side,
+) -> (Option<Side>, Option<Side>) {
+    match (dialect, operator) {
         (Dialect::Cargo, _) => (Some(first), None),
-        (_, Form::Less | Form::Greater) => (None, Some(first)),
+        (_, Operator::Less | Operator::Greater) => (None, Some(first)),
         _ => (Some(first), None),
     }
 }
@@ -303,7 +308,7 @@ fn sides_of_nothing(form: Form, dialect: Dialect, first: Side) -> (Option<Side>,
 /// - For Cargo and npm, a block of fewer than three numbers begins below all pre-releases with
 ///   these numbers, except with Cargo's `<` and npm's `~`. A block of three numbers begins at the
 ///   version.
-/// - For npm, `^0.2.3` begins below all pre-releases of 0.2.3, too.
+/// - For npm, `^0.2.3` and `0.2.3 - 1` begin below all pre-releases of 0.2.3, too.
 #[inline(always)]
 fn beginning(simple: &Simple<'_>, dialect: Dialect) -> Side {
     let partial = &simple.partial;
@@ -312,16 +317,18 @@ fn beginning(simple: &Simple<'_>, dialect: Dialect) -> Side {
         (Dialect::Cargo, PartialKind::XRangeOnly) => true,
         (Dialect::Cargo, PartialKind::MajorMinorPatch) => false,
         (Dialect::Cargo, PartialKind::MajorOnly | PartialKind::MajorMinor) => !matches!(
-            simple.form,
-            Form::Less
+            simple.operator,
+            Operator::Less
         ),
         (Dialect::Npm, PartialKind::XRangeOnly) => true,
         (Dialect::Npm, PartialKind::MajorOnly | PartialKind::MajorMinor) => {
-            !matches!(simple.form, Form::Tilde)
+            !matches!(simple.operator, Operator::Tilde)
         }
-        (Dialect::Npm, PartialKind::MajorMinorPatch) => {
-            matches!(simple.form, Form::Caret) && !partial.has_pre_release() && partial.major() == 0
-        }
+        (Dialect::Npm, PartialKind::MajorMinorPatch) => match simple.operator {
+            Operator::Caret => !partial.has_pre_release() && partial.major() == 0,
+            Operator::Hyphen => !partial.has_pre_release(),
+            _ => false,
+        },
     };
     if is_below { Side::Below } else { Side::At }
 }

@@ -11,11 +11,11 @@ returns c =
     let short = operator_shorter d t in
     record {
       version = _;
-      simple = simple_found d t c.read_operator-form.result.1.now c.in_ok-version.version.after.now c.after_blanks.result.now _ found.0
-          c.read_operator-form.ensures found.1 c.after_blanks.ensures;
-      word = rw (← c.read_operator-form.ensures, found.1) refl;
+      simple = simple_found d t c.read_operator-operator.result.1.now c.in_ok-version.version.after.now c.after_blanks.result.now _ found.0
+          c.read_operator-operator.ensures found.1 c.after_blanks.ensures;
+      word = rw (← c.read_operator-operator.ensures, found.1) refl;
       from = refl;
       is = found.2;
-      within = omega (arith, short, ap (λ f. length f.1) c.read_operator-form.ensures);
+      within = omega (arith, short, ap (λ f. length f.1) c.read_operator-operator.ensures);
       upper = refl;
     }

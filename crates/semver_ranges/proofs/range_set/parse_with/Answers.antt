@@ -1,6 +1,5 @@
 use Rattle.std.proofs.Common.{◌∷◌, [], ◌∙◌, map, refl, subst, sym}
 use Rattle.semver_texts.specs.declared.grammar.Grammar.TheVariants.{Crate}
-use Rattle.semver_ranges.specs.declared.partial.LowerBounds.TheVariants.{Stated}
 use Rattle.semver_ranges.specs.RangeTree.{simples}
 use Rattle.semver_ranges.specs.RewritingTable.{simple_fits, written_set, written_simple}
 use Rattle.semver_ranges.specs.Steps.Answers.{IsAnswer, IsAnswerBy}
@@ -33,8 +32,8 @@ returns-in_default c =
     let pre = pre_of c.args.raised in
     let mode = c.args.compat in
     subst (λ t. IsAnswer pre t mode c.read_in_two_runs.result) c.as_bytes-text.ensures.value
-    (answered_by (written_simple pre mode) mode Stated (port_table pre mode) (written_set pre mode)
+    (answered_by (written_simple pre mode) mode (port_table pre mode) (written_set pre mode)
     (λ tree i. record { ranges = map (λ r. range_made (port_table pre mode) mode r i) tree; compat = mode })
     Crate c.as_bytes-text.result.now _ c.read_in_two_runs.result refl
     (subst (λ o. IsAnswerBy o (simple_fits mode) (written_simple pre mode) mode c.read_in_two_runs.result)
-    (sym (begin_left Crate Stated c.as_bytes-text.result.now _ refl)) c.read_in_two_runs.ensures))
+    (sym (begin_left Crate c.as_bytes-text.result.now _ refl)) c.read_in_two_runs.ensures))

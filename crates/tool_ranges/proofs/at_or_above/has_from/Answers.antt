@@ -7,7 +7,7 @@ use Rattle.semver_texts.specs.declared.grammar.Grammar.{Grammar}
 use Rattle.tool_ranges.specs.Dialects.{grammar_of}
 use Rattle.tool_ranges.specs.Steps.Checked.{GivesEvent, HasEvents, IsCheckedAs}
 use Rattle.tool_ranges.specs.Steps.TextEvents.{events_in, ranges_of}
-use Rattle.tool_ranges.specs.Steps.Matching.{after, begun, counts, ended, lower_of, taken, takes_all, term_met}
+use Rattle.tool_ranges.specs.Steps.Matching.{after, begun, counts, ended, taken, takes_all, term_met}
 use Rattle.tool_ranges.specs.Steps.Reaching.{states_some}
 use Rattle.tool_ranges.proofs.LeftEvents.{FirstFits, first_fits, next_first}
 use Rattle.tool_ranges.proofs.MatchedEvents.{ranges_fit}
@@ -21,8 +21,8 @@ pub loop-event-init : goal.loop-event-init
 loop-event-init c = λ t read.
     let d = c.args.dialect in
     let all = takes_all c.args.rule in
-    let events = events_in (ranges_of (lower_of d all) d read.0) in
-    let fit = ranges_fit (lower_of d all) d t read.0 read.1 ∙ read.2 in (
+    let events = events_in (ranges_of d read.0) in
+    let fit = ranges_fit d t read.0 read.1 ∙ read.2 in (
       read.0,
       events,
       λ v. begun (counts all v),
@@ -34,7 +34,7 @@ loop-event-init c = λ t read.
     )
 
 abbrev Checks : In-Simple → Text → Type 0
-Checks c t = IsCheckedAs (lower_of c.args.dialect (takes_all c.args.rule)) c.args.dialect t c.args.checked
+Checks c t = IsCheckedAs c.args.dialect t c.args.checked
 
 first : (c : In-Simple) (t : Text) (is : Checks c t)
     → FirstFits (grammar_of c.args.dialect) c.args.dialect (c.loop-event.invariant t is).1 c.next.new.self (c.loop-event.invariant t is).5 c.in-Simple.simple

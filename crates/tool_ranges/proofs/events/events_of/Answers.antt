@@ -8,8 +8,8 @@ pub returns-then-may_be_a_range : goal.returns-then-may_be_a_range
 returns-then-may_be_a_range c =
     let t = c.args.text.now in
     rw (← c.grammar.ensures.grammar) (subst (HasLeft c.grammar.result c.new.result)
-    (ap (λ t. events c.grammar.result c.args.lower t) c.as_bytes.ensures.value ∙ ap (λ g. events g c.args.lower t) c.grammar.ensures.grammar
-    ∙ events_as c.args.lower t c.args.dialect (sym c.may_be_a_range.ensures ∙ c.if-may_be_a_range.true))
+    (ap (λ t. events c.grammar.result t) c.as_bytes.ensures.value ∙ ap (λ g. events g t) c.grammar.ensures.grammar
+    ∙ events_as t c.args.dialect (sym c.may_be_a_range.ensures ∙ c.if-may_be_a_range.true))
     c.new.ensures.0)
 
 pub returns-else-may_be_a_range : goal.returns-else-may_be_a_range

@@ -2,7 +2,6 @@ use Rattle.std.proofs.Common.{◌≡◌, ap, ◌∙◌}
 use Rattle.std.specs.Prelude.{IfOk, Result, Ok, Err}
 use Rattle.semver_texts.specs.Texts.{Text}
 use Rattle.semver_texts.specs.Versions.{PlainVersion}
-use Rattle.semver_ranges.specs.declared.partial.LowerBounds.TheVariants.{Lowest}
 use Rattle.semver_ranges.specs.declared.range.Compat.TheVariants.{Npm}
 use Rattle.semver_ranges.specs.declared.range_set.RangeError.{RangeError}
 use Rattle.semver_ranges.specs.declared.range_set.RangeSet.{RangeSet}
@@ -22,7 +21,7 @@ use Rattle.tool_ranges.proofs.npm.rewrite_included.Goals as goal
 
 module _ (t : Text) where
   abbrev Printed : Result RangeSet RangeError → Type 0
-  Printed r = IfOk r (λ set. IsPrintedAs Lowest dialect.Npm Npm t (set_of set))
+  Printed r = IfOk r (λ set. IsPrintedAs Included dialect.Npm Npm t (set_of set))
 
   as_rewritten : (r : Result RangeSet RangeError) → Printed r
       → IfOk r (λ set. (tree : SetTree) → SpellsNpmRange tree t → set_of set ≡ rewritten_included tree)

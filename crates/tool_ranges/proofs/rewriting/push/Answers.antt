@@ -25,12 +25,12 @@ returns-then-is_some-is_past c = λ s is fit.
     let one : (is_some lower && ends_past upper) ≡ true = (λ i. (some_value c.sides-first.result.0 ∙ sym c.is_some.ensures) i && sym c.is_past.ensures i)
     ∙ c.if-is_some-is_past.true in
     pushed old _ c.in_ok-as_comparator.field-0 _ c.in_ok-push.ensures.items c.in_ok-as_comparator.ensures.value
-    ∙ ap (λ cs. map comparator_of old ++ cs) (both_sides c.args.lower lower upper (version_of c.args.simple.now.partial) one
-    ∙ printed_so c.args.dialect s c.args.simple.now is fit c.args.lower lower upper c.sides-first.ensures.lower c.sides-first.ensures.upper)
+    ∙ ap (λ cs. map comparator_of old ++ cs) (both_sides c.args.rule lower upper (version_of c.args.simple.now.partial) one
+    ∙ printed_so c.args.dialect s c.args.simple.now is fit c.args.rule lower upper c.sides-first.ensures.lower c.sides-first.ensures.upper)
 
 lower_pushed : (c : Joined-first) (s : Simple) → IsSimpleOf s c.args.simple.now → term_fits c.args.dialect s ≡ true
     → map comparator_of c.match-first.comparators.items ≡ map comparator_of c.args.comparators.now.items
-    ++ at_side (lower_comparator c.args.lower) (option_map side_value c.sides-first.result.0) (version_of c.args.simple.now.partial)
+    ++ at_side (lower_comparator c.args.rule) (option_map side_value c.sides-first.result.0) (version_of c.args.simple.now.partial)
 lower_pushed c s is fit =
     let old = c.args.comparators.now.items in
     let z = version_of c.args.simple.now.partial in
@@ -40,10 +40,10 @@ lower_pushed c s is fit =
           ap (λ cs. map comparator_of cs.items) w.comparators-is
           ∙ pushed old _ w.in_ok-lower_comparator.field-0 _ w.in_ok-push-2.ensures.items (w.in_ok-lower_comparator.ensures
           (lower_rises c.args.dialect s c.args.simple.now is fit (Some (side_value w.in-Some.side)) (sym lower ∙ c.sides-first.ensures.lower)))
-          ∙ ap (λ o. map comparator_of old ++ at_side (lower_comparator c.args.lower) o z) (sym lower)
+          ∙ ap (λ o. map comparator_of old ++ at_side (lower_comparator c.args.rule) o z) (sym lower)
       | in_default w ↦
           ap (λ cs. map comparator_of cs.items) w.comparators-is ∙ sym (append-nil (map comparator_of old))
-          ∙ ap (λ o. map comparator_of old ++ at_side (lower_comparator c.args.lower) o z) (sym (ap (option_map side_value) w.in_default.is))
+          ∙ ap (λ o. map comparator_of old ++ at_side (lower_comparator c.args.rule) o z) (sym (ap (option_map side_value) w.in_default.is))
     ]
 
 -- if the comparators of the lower side were pushed, those of the upper side complete the term's
@@ -51,7 +51,7 @@ lower_pushed c s is fit =
 both_pushed : (c : Joined-first) (s : Simple) → IsSimpleOf s c.args.simple.now → term_fits c.args.dialect s ≡ true
     → map comparator_of c.match-first.comparators.items
     ++ at_side upper_comparator (option_map side_value c.sides-first.result.1) (version_of c.args.simple.now.partial)
-    ≡ map comparator_of c.args.comparators.now.items ++ printed_term c.args.lower c.args.dialect s
+    ≡ map comparator_of c.args.comparators.now.items ++ printed_term c.args.rule c.args.dialect s
 both_pushed c s is fit =
     let old = map comparator_of c.args.comparators.now.items in
     let z = version_of c.args.simple.now.partial in
@@ -60,9 +60,9 @@ both_pushed c s is fit =
     let apart : (is_some lower && ends_past upper) ≡ false =
     (λ i. (some_value c.sides-first.result.0 ∙ sym c.is_some.ensures) i && sym c.is_past.ensures i) ∙ c.if-is_some-is_past.false in
     ap (λ cs. cs ++ at_side upper_comparator upper z) (lower_pushed c s is fit)
-    ∙ append_assoc old (at_side (lower_comparator c.args.lower) lower z) (at_side upper_comparator upper z)
-    ∙ ap (λ cs. old ++ cs) (apart_sides c.args.lower lower upper z apart
-    ∙ printed_so c.args.dialect s c.args.simple.now is fit c.args.lower lower upper c.sides-first.ensures.lower c.sides-first.ensures.upper)
+    ∙ append_assoc old (at_side (lower_comparator c.args.rule) lower z) (at_side upper_comparator upper z)
+    ∙ ap (λ cs. old ++ cs) (apart_sides c.args.rule lower upper z apart
+    ∙ printed_so c.args.dialect s c.args.simple.now is fit c.args.rule lower upper c.sides-first.ensures.lower c.sides-first.ensures.upper)
 
 pub returns-in_ok-push-3 : goal.returns-in_ok-push-3
 returns-in_ok-push-3 c = λ s is fit.

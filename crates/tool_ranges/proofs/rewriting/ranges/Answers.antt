@@ -20,20 +20,20 @@ pub loop-event-init : goal.loop-event-init
 loop-event-init c = λ t read.
     let d = c.args.dialect in
     let tree = read.0 in
-    let all = events_in (ranges_of c.args.lower d tree) in
+    let all = events_in (ranges_of d tree) in
     let spelled = sound_as d t tree read.1 in (
       tree,
       all,
       spelled,
       read.3,
-      ranges_fit c.args.lower d t tree read.1 ∙ read.2,
-      printed_events c.args.lower d c.args.compat t tree spelled
+      ranges_fit d t tree read.1 ∙ read.2,
+      printed_events c.args.rule d c.args.compat t tree spelled
           ∙ (λ i. map range_of (sym c.in_ok-ranges.ensures.items i)
-          ++ ranges_by (printed_term c.args.lower d) c.args.compat (map comparator_of (sym c.in_ok-comparator_set.ensures.items i)) all),
+          ++ ranges_by (printed_term c.args.rule d) c.args.compat (map comparator_of (sym c.in_ok-comparator_set.ensures.items i)) all),
     )
 
 abbrev Checks : In-Simple → Text → Type 0
-Checks c t = IsCheckedAs c.args.lower c.args.dialect t c.args.checked
+Checks c t = IsCheckedAs c.args.dialect t c.args.checked
 
 first : (c : In-Simple) (t : Text) (is : Checks c t)
     → FirstFits (grammar_of c.args.dialect) c.args.dialect (c.loop-event.invariant t is).1 c.next.new.self (c.loop-event.invariant t is).4 c.in-Simple.simple
@@ -58,8 +58,8 @@ loop-event-preserved-in-Continue-branch-3 c = λ t is.
       so_far.2,
       here.has,
       here.others_fit,
-      so_far.5 ∙ ap (λ es. before ++ ranges_by (printed_term c.args.lower d) c.args.compat (map comparator_of c.loop-event.comparator_set.items) es) here.whole
-          ∙ ap (λ cs. before ++ ranges_by (printed_term c.args.lower d) c.args.compat cs here.others) (sym (c.in_ok-push-in-Simple.ensures here.s here.is here.fits)),
+      so_far.5 ∙ ap (λ es. before ++ ranges_by (printed_term c.args.rule d) c.args.compat (map comparator_of c.loop-event.comparator_set.items) es) here.whole
+          ∙ ap (λ cs. before ++ ranges_by (printed_term c.args.rule d) c.args.compat cs here.others) (sym (c.in_ok-push-in-Simple.ensures here.s here.is here.fits)),
     )
 
 pub loop-event-preserved : goal.loop-event-preserved
@@ -75,7 +75,7 @@ loop-event-preserved c = λ t is.
       here.1,
       here.2,
       so_far.5
-          ∙ range_ended (printed_term c.args.lower d) c.args.compat c.loop-event.ranges.items c.push-in-NextRange.new.self.items c.loop-event.comparator_set.items _
+          ∙ range_ended (printed_term c.args.rule d) c.args.compat c.loop-event.ranges.items c.push-in-NextRange.new.self.items c.loop-event.comparator_set.items _
           c.in_ok-push-in-NextRange.ensures.items refl c.in_ok-comparator_set-in-NextRange.comparator_set.items so_far.1 here.0
           c.in_ok-comparator_set-in-NextRange.ensures.items here.3,
     )
@@ -85,7 +85,7 @@ returns c = λ t is tree spelled.
     let so_far = c.loop-event.invariant t is in
     let d = c.args.dialect in
     let gives : (left : List Event) → HasEvents (grammar_of d) c.loop-event.checked left → left ≡ [] = search rules in
-    text_ended (printed_term c.args.lower d) c.args.compat c.loop-event.ranges.items c.push-2.new.self.items c.loop-event.comparator_set.items _
+    text_ended (printed_term c.args.rule d) c.args.compat c.loop-event.ranges.items c.push-2.new.self.items c.loop-event.comparator_set.items _
     c.in_ok-push.ensures.items refl so_far.1 (gives so_far.1 so_far.3)
     ∙ sym so_far.5
-    ∙ ap (printed_ranges c.args.lower d c.args.compat) (one_tree d so_far.0 tree t so_far.2 spelled)
+    ∙ ap (printed_ranges c.args.rule d c.args.compat) (one_tree d so_far.0 tree t so_far.2 spelled)

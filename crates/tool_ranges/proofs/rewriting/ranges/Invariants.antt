@@ -13,11 +13,11 @@ use Rattle.tool_ranges.specs.TermComparators.{printed_term}
 use Rattle.tool_ranges.proofs.rewriting.ranges.Given as goal
 
 abbrev pub invariant-loop-event : goal.invariant-loop-event
-invariant-loop-event l = (t : Text) → IsCheckedAs l.lower l.dialect t l.fn.checked
+invariant-loop-event l = (t : Text) → IsCheckedAs l.dialect t l.fn.checked
     → (tree : SetTree) × (left : List Event) × SpellsAs l.dialect tree t
     × HasEvents (grammar_of l.dialect) l.checked left × (list_all (event_fits (term_fits l.dialect)) left ≡ true)
-    × (printed_ranges l.lower l.dialect l.compat tree
-    ≡ map range_of l.ranges.items ++ ranges_by (printed_term l.lower l.dialect) l.compat (map comparator_of l.comparator_set.items) left)
+    × (printed_ranges l.rule l.dialect l.compat tree
+    ≡ map range_of l.ranges.items ++ ranges_by (printed_term l.rule l.dialect) l.compat (map comparator_of l.comparator_set.items) left)
 
 abbrev pub decreases-loop-event : goal.decreases-loop-event
 decreases-loop-event l = size_after l.checked

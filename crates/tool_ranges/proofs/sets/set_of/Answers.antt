@@ -1,4 +1,4 @@
-use Rattle.std.proofs.Common.{◌≡◌, true, Some, List, [], refl, sym, ap, ◌∙◌, subst, rules}
+use Rattle.std.proofs.Common.{◌≡◌, true, Some, List, [], refl, sym, ap, ◌∙◌, rules}
 use Rattle.semver_texts.specs.Texts.{Text}
 use Rattle.semver_texts.specs.Versions.{PlainVersion, without_build}
 use Rattle.semver_ranges.specs.Steps.RangeEvents.{Event}
@@ -6,7 +6,7 @@ use Rattle.tool_ranges.specs.Dialects.{grammar_of}
 use Rattle.tool_ranges.specs.Steps.Matching as matching
 use Rattle.tool_ranges.specs.Steps.Checked.{GivesEvent, HasEvents, IsCheckedAs}
 use Rattle.tool_ranges.specs.Steps.TextEvents.{events_in, ranges_of}
-use Rattle.tool_ranges.specs.Steps.Matching.{after, begun, counts, lower_of, takes_all}
+use Rattle.tool_ranges.specs.Steps.Matching.{after, counts, takes_all}
 use Rattle.tool_ranges.proofs.LeftEvents.{FirstFits, first_fits, next_first}
 use Rattle.tool_ranges.proofs.MatchedEvents.{ranges_fit, says_so}
 use Rattle.tool_ranges.proofs.MatchedMeanings.{same_plain}
@@ -15,7 +15,7 @@ use Rattle.tool_ranges.proofs.ReadingLaws.{one_tree}
 use Rattle.tool_ranges.proofs.ReadTrees.{sound_as}
 use Rattle.std.proofs.lemmas.Result.{IfOk-weaker}
 use Rattle.tool_ranges.proofs.sets.set_of.Goals as goal
-use Rattle.tool_ranges.proofs.sets.set_of.Goals.{After-into_set, In-Simple}
+use Rattle.tool_ranges.proofs.sets.set_of.Goals.{In-Simple}
 use Rattle.version_sets.specs.PreReleaseRules.{numbers_fit}
 use Rattle.version_sets.specs.VersionSets.{Fits}
 use Rattle.tool_ranges.specs.Meanings.{meant_by}
@@ -27,17 +27,17 @@ loop-event-init c =
     let all = c.takes_all-all.result in (
       λ t read. (
         read.0,
-        events_in (ranges_of (lower_of d all) d read.0),
+        events_in (ranges_of d read.0),
         sound_as d t read.0 read.1,
-        subst (λ all. HasEvents (grammar_of d) c.args.checked (events_in (ranges_of (lower_of d all) d read.0))) (sym c.takes_all-all.ensures) read.3,
-        ranges_fit (lower_of d all) d t read.0 read.1 ∙ read.2,
-        λ v small. ap (λ p. after d all v p (events_in (ranges_of (lower_of d all) d read.0))) (sym (c.new-building.ensures.known all v small)),
+        read.3,
+        ranges_fit d t read.0 read.1 ∙ read.2,
+        λ v small. ap (λ p. after d all v p (events_in (ranges_of d read.0))) (sym (c.new-building.ensures.known all v small)),
       ),
       c.new-building.ensures.prints _,
     )
 
 abbrev Checks : In-Simple → Text → Type 0
-Checks c t = IsCheckedAs (lower_of c.args.dialect (takes_all c.args.rule)) c.args.dialect t c.args.checked
+Checks c t = IsCheckedAs c.args.dialect t c.args.checked
 
 first : (c : In-Simple) (t : Text) (is : Checks c t)
     → FirstFits (grammar_of c.args.dialect) c.args.dialect (c.loop-event.invariant.0 t is).1 c.next.new.self (c.loop-event.invariant.0 t is).4 c.in-Simple.simple

@@ -10,16 +10,16 @@ use Rattle.tool_ranges.specs.Dialects.{SpellsAs, grammar_of}
 use Rattle.tool_ranges.specs.Steps.Building.{known, Prints}
 use Rattle.tool_ranges.specs.Steps.Checked.{HasEvents, IsCheckedAs, size_after}
 use Rattle.tool_ranges.specs.Steps.TextEvents.{events_in, ranges_of}
-use Rattle.tool_ranges.specs.Steps.Matching.{after, begun, counts, lower_of, takes_all}
+use Rattle.tool_ranges.specs.Steps.Matching.{after, begun, counts}
 use Rattle.tool_ranges.specs.Sides.{term_fits}
 use Rattle.tool_ranges.proofs.sets.set_of.Given as goal
 
 abbrev pub invariant-loop-event : goal.invariant-loop-event
-invariant-loop-event l = ((t : Text) → IsCheckedAs (lower_of l.dialect (takes_all l.rule)) l.dialect t l.fn.checked
+invariant-loop-event l = ((t : Text) → IsCheckedAs l.dialect t l.fn.checked
     → (tree : SetTree) × (left : List Event) × SpellsAs l.dialect tree t
     × HasEvents (grammar_of l.dialect) l.checked left × (list_all (event_fits (term_fits l.dialect)) left ≡ true)
     × ((v : PlainVersion) → Fits v
-    → after l.dialect l.all v (begun (counts l.all v)) (events_in (ranges_of (lower_of l.dialect l.all) l.dialect tree))
+    → after l.dialect l.all v (begun (counts l.all v)) (events_in (ranges_of l.dialect tree))
     ≡ after l.dialect l.all v (known l.all v l.building) left))
     × Prints (digits_in (grammar_of l.dialect)) l.building
 

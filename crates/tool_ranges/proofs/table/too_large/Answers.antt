@@ -11,12 +11,12 @@ use Rattle.tool_ranges.proofs.TooLargeNumbers.{all_within, raised_large, same_re
 use Rattle.tool_ranges.proofs.table.too_large.Goals as goal
 
 pub returns-in-None-clause-value : goal.returns-in-None-clause-value
-returns-in-None-clause-value c = λ s form are.
+returns-in-None-clause-value c = λ s operator are.
     let d = c.args.dialect in
     let r : Simple = read_in d s in
     let simple = c.of-simple.result in
     let is : IsSimpleOf r simple = subst (λ s. IsSimpleOf s simple) (ap (λ g. read_as_in g s) c.grammar.ensures.grammar ∙ same_read_in d s)
-    (c.of-simple.ensures s form are) in
+    (c.of-simple.ensures s operator are) in
     let none : Path (Option _) None (first_above (limit d) (stated s.partial)) =
     sym c.in-None.is ∙ c.first_above.ensures.value s.partial are ∙ ap (λ most. first_above most (stated s.partial)) c.limit.ensures in
     raised_large d r none (sym (c.fits.ensures ∙ read_fits r simple is d) ∙ c.if-fits.false) c.raised_index.result
@@ -24,10 +24,10 @@ returns-in-None-clause-value c = λ s form are.
     ∙ read_raised r simple is d (all_within d r none))
 
 pub returns-then-fits-clause-value : goal.returns-then-fits-clause-value
-returns-then-fits-clause-value c = λ s form are.
+returns-then-fits-clause-value c = λ s operator are.
     let d = c.args.dialect in
     let r : Simple = read_in d s in
     let simple = c.of-simple.result in
     let is : IsSimpleOf r simple = subst (λ s. IsSimpleOf s simple) (ap (λ g. read_as_in g s) c.grammar.ensures.grammar ∙ same_read_in d s)
-    (c.of-simple.ensures s form are) in
+    (c.of-simple.ensures s operator are) in
     rw (sym (c.fits.ensures ∙ read_fits r simple is d) ∙ c.if-fits.true) refl

@@ -21,8 +21,8 @@ returns c =
       is = tt;
       whole = left_next d false t (Some (two_bars, rest))
           (rw (c.requires.ranges, c.requires.ends, c.in_ok-after_bars.ensures, c.after_blanks-self.ensures) refl);
-      left = λ lower. rw c.requires.ranges (bars_left d lower t (Some u) c.requires.some c.requires.ends c.in_ok-after_bars.ensures
-          ∙ ap (put next_range) (begin_left d lower u rest c.after_blanks-self.ensures));
+      left = rw c.requires.ranges (bars_left d t (Some u) c.requires.some c.requires.ends c.in_ok-after_bars.ensures
+          ∙ ap (put next_range) (begin_left d u rest c.after_blanks-self.ensures));
       fewer = omega (arith, short, less);
       shorter = omega (arith, short, less);
     }

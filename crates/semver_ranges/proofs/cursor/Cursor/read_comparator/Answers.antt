@@ -16,7 +16,7 @@ returns c =
       x = one_term x;
       is = (is, within);
       whole = left_next Cargo c.args.is_first t (Some (one_term x, u)) found;
-      left = λ lower. events_next lower c.args.is_first t x u found (some_left c.args.is_first t c.requires.some) upper;
+      left = events_next c.args.is_first t x u found (some_left c.args.is_first t c.requires.some) upper;
       fewer = omega (arith, less.0);
       shorter = omega (arith, less.0);
     })
@@ -27,6 +27,6 @@ returns-in_err-term c =
     let none = c.in_err-term.ensures in
     rw c.from_residual.ensures (record {
       found = none;
-      left = λ lower. no_events lower c.args.is_first t none (some_left c.args.is_first t c.requires.some);
+      left = no_events c.args.is_first t none (some_left c.args.is_first t c.requires.some);
       begins_after = c.requires.begun;
     })

@@ -15,7 +15,7 @@ returns c =
       x = empty_range;
       is = tt;
       whole = left_next c.args.grammar true t (Some (empty_range, t)) (rw (c.requires.ranges, ends) refl);
-      left = λ lower. rw c.requires.ranges (empty_left c.args.grammar lower t ends);
+      left = rw c.requires.ranges (empty_left c.args.grammar t ends);
       fewer = omega arith;
       shorter = omega arith;
     })

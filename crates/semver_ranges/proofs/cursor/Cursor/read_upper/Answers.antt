@@ -1,8 +1,8 @@
 use Rattle.std.proofs.Common.{◌≡◌, ◌∷◌, ◌≤◌, ◌<◌, length, true, refl, sym, ap, ◌∙◌, arith, Some}
 use Rattle.semver_texts.specs.Texts.{Text}
-use Rattle.semver_ranges.specs.RangeTree.{Simple, RangeTree, bare, hyphen}
+use Rattle.semver_ranges.specs.declared.operator.Operator.TheVariants.{Bare, Hyphen}
+use Rattle.semver_ranges.specs.RangeTree.{Simple, RangeTree, hyphen}
 use Rattle.semver_ranges.specs.Steps.Reading.{with_right}
-use Rattle.semver_ranges.specs.Steps.CursorViews.{form_of}
 use Rattle.semver_ranges.specs.TextItems.{FoundTerm, one_term}
 use Rattle.semver_ranges.specs.Steps.RangeEvents.{yielded, put_simples}
 use Rattle.semver_ranges.proofs.ReadingSteps.{shorter_simple, shorter_right, right_ends}
@@ -18,19 +18,19 @@ returns c =
     let t : Text = c.args.self.now.rest.now in
     let w : Text = c.args.after.now in
     let v : Text = c.in_ok-upper.rest.now in
-    let form : form_of c.args.left.form ≡ bare = ap form_of c.in-Bare.is in
-    let s : Simple = record { form = form_of c.args.left.form; partial = here.version.partial } in
+    let operator : c.args.left.operator ≡ Bare = c.in-Bare.is in
+    let s : Simple = record { operator = c.args.left.operator; partial = here.version.partial } in
     let x : RangeTree = hyphen here.version.partial right.x.partial in
-    let both = ap (with_right s) right.side ∙ rw form refl in
+    let both = ap (with_right s) right.side ∙ rw operator refl in
     let less : length (45 ∷ w) < length t = shorter_simple d t (45 ∷ w) s here.simple in
     let short : length v ≤ length (45 ∷ w) = shorter_right d s (45 ∷ w) v x both in
-    let y : FoundTerm = record { from = t; form = bare; version = here.version; upper = Some right.x } in
+    let y : FoundTerm = record { from = t; operator = Hyphen; version = here.version; upper = Some right.x } in
     rw c.requires.begun (record {
       x = one_term y;
       is = (
         record {
           from = here.from;
-          form = form;
+          operator = refl;
           version = here.is;
           within = here.within;
           upper = (right.is, omega (arith, less, right.within));
@@ -38,8 +38,8 @@ returns c =
         omega arith,
       );
       whole = left_next d true t (Some (one_term y, v)) (rw (c.requires.ranges, c.requires.goes_on, here.simple, here.word, both, right.word) refl);
-      left = λ lower. rw c.requires.ranges (hyphen_left d lower t (45 ∷ w) w v s x c.requires.goes_on here.simple refl both
-          ∙ ap (put_simples (yielded lower x)) (sym (end_left d lower v (right_ends d s (45 ∷ w) v x both))));
+      left = rw c.requires.ranges (hyphen_left d t (45 ∷ w) w v s x c.requires.goes_on here.simple refl both
+          ∙ ap (put_simples (yielded x)) (sym (end_left d v (right_ends d s (45 ∷ w) v x both))));
       fewer = omega (arith, less, short);
       shorter = omega (arith, less, short);
     })

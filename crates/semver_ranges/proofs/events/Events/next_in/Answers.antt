@@ -8,10 +8,9 @@ view-requires c = let taken = rw c.in-Ok.is at c.in_ok-event.ensures in (c.args.
 pub returns-in-Ok-clause-gives : goal.returns-in-Ok-clause-gives
 returns-in-Ok-clause-gives c = λ o has.
     let taken = rw c.in-Ok.is at c.in_ok-event.ensures in
-    let lower = c.args.self.now.lower in
     let after = c.next_in.new.self in
-    let viewed = (c.view.ensures c.args.grammar _ taken.x taken.is).0 (events_left c.args.grammar lower after.begins_range after.rest.now) in
-    (viewed.0, viewed.1, viewed.2, viewed.3, (rw c.in_default.is at has) ∙ taken.left lower ∙ viewed.4)
+    let viewed = (c.view.ensures c.args.grammar _ taken.x taken.is).0 (events_left c.args.grammar after.begins_range after.rest.now) in
+    (viewed.0, viewed.1, viewed.2, viewed.3, (rw c.in_default.is at has) ∙ taken.left ∙ viewed.4)
 
 pub returns-in-Err-clause-fewer : goal.returns-in-Err-clause-fewer
 returns-in-Err-clause-fewer c =
