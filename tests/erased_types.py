@@ -71,11 +71,13 @@ KNOWN = {
     '[]': '''as_slice copy_from_slice escape_ascii first get get_mut is_empty iter last len
         partition_point reverse sort_unstable_by split_at split_first split_last starts_with
         strip_prefix''',
-    '[] as Index': 'index', '[] as IndexMut': 'index_mut', '[] as IntoIterator': 'into_iter',
+    '[] as Hash': 'hash', '[] as Index': 'index', '[] as IndexMut': 'index_mut',
+    '[] as IntoIterator': 'into_iter',
     '[] as Ord': 'cmp', '[] as PartialEq': 'eq',
     'bool': 'then_some', 'char': 'encode_utf8 is_ascii', 'char as From': 'from',
-    'own as IntoIterator': 'into_iter', 'own as Iterator': 'any by_ref next', 'own as Ord': 'cmp',
-    'own as PartialEq': 'eq ne', 'own as Write': 'write write_fmt',
+    'own as Hash': 'hash', 'own as IntoIterator': 'into_iter',
+    'own as Iterator': 'any by_ref next', 'own as Ord': 'cmp', 'own as PartialEq': 'eq ne',
+    'own as Write': 'write write_fmt',
     'rattle_std': '''args eprintln fallible_clone fallible_extend_from_slice fallible_from_elem
         fallible_from_slice fallible_from_str fallible_push fallible_push_str fallible_reserve_exact
         fallible_to_string fallible_with_capacity new open println push_reserved reader stderr stdin
@@ -86,7 +88,7 @@ KNOWN = {
     'u128 as From': 'from', 'u32': 'saturating_add saturating_mul wrapping_add',
     'u32 as From': 'from',
     'u64': 'checked_add checked_ilog10 checked_mul saturating_add saturating_sub',
-    'u64 as From': 'from', 'u64 as Ord': 'cmp min',
+    'u64 as From': 'from', 'u64 as Hash': 'hash', 'u64 as Ord': 'cmp min',
     'u8': 'is_ascii_alphabetic is_ascii_alphanumeric is_ascii_digit',
     'u8 as Sub': 'sub', 'usize': 'saturating_add saturating_mul saturating_sub',
     'usize as From': 'from', 'usize as Ord': 'cmp min'}

@@ -17,9 +17,11 @@ UNKNOWN = {'unsafe', 'extern', 'static', 'macro_rules', 'async', 'await', 'isize
 # Imports from crates that aren't in this repository.
 IMPORTS = set('''
     std::alloc::AllocError std::alloc::Global std::cmp::Ordering std::env std::fmt
-    std::fmt::Display std::fmt::Formatter std::fmt::Write std::fs std::io std::io::BufRead
+    std::fmt::Display std::fmt::Formatter std::fmt::Write std::fs std::hash::Hash
+    std::hash::Hasher std::io std::io::BufRead
     std::io::BufReader std::io::BufWriter std::io::ErrorKind std::io::IsTerminal std::io::Read
-    std::io::Write std::marker::Model std::mem std::process::ExitCode std::rt::Env thiserror::Error
+    std::io::Write std::marker::Model std::mem std::process::ExitCode
+    std::rt::Env thiserror::Error
 '''.split())
 
 # Crates that have only laws, and aren't erased.
@@ -63,7 +65,8 @@ IMPLEMENTATIONS = {
 
 # The functions of the traits of std that the sources implement, and the types that implement
 # `Write`: Rust may pass a text on in other pieces than Rattle.
-TRAITS = {'Display': {'fmt'}, 'Eq': set(), 'From': {'from'}, 'Iterator': {'next'}, 'Model': set(),
+TRAITS = {'Debug': {'fmt'}, 'Display': {'fmt'}, 'Eq': set(),
+          'From': {'from'}, 'Hash': {'hash'}, 'Iterator': {'next'}, 'Model': set(),
           'Ord': {'cmp'}, 'PartialEq': {'eq'}, 'PartialOrd': {'partial_cmp'},
           'Write': {'flush', 'write', 'write_str'}}
 WRITERS = {'Checksum', 'Fixed', 'Limited'}

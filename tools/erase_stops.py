@@ -8,8 +8,8 @@ from rattle_source import OPEN, begins_item
 OWNERS = set('Vec String Box Rc Option Result Iterator str mem io env fs iter slice char'.split())
 # What is imported of std, besides modules.
 IMPORTS = set('''AllocError BufRead BufReader BufWriter Display Env ErrorKind ExitCode Formatter
-    Global IsTerminal Model Ordering Read Write'''.split())
-MODULES = set('alloc as cmp env fmt fs io iter marker mem process rt self str'.split())
+    Global Hash Hasher IsTerminal Model Ordering Read Write'''.split())
+MODULES = set('alloc as cmp env fmt fs hash io iter marker mem process rt self str'.split())
 SAME_MACROS = {'matches', 'unreachable', 'write'}
 SAME_ATTRIBUTES = {'cold', 'derive', 'inline', 'must_use', 'non_exhaustive'}
 DERIVES = set('Clone Copy Debug Drop Eq Error Hash Ord PartialEq PartialOrd'.split())
@@ -25,8 +25,9 @@ PRIMITIVES = set('bool char i32 str u8 u16 u32 u64 u128 usize'.split())
 CAST_TO = {'u8', 'u32', 'u64'}
 # The functions of the traits of std that the sources implement. `Write` only for these types: Rust
 # may pass a text on in other pieces than Rattle.
-TRAITS = {'Display': {'fmt'}, 'Eq': set(), 'From': {'from'}, 'Iterator': {'next'},
-          'Ord': {'cmp'}, 'PartialEq': {'eq'}, 'PartialOrd': {'partial_cmp'},
+TRAITS = {'Debug': {'fmt'}, 'Display': {'fmt'}, 'Eq': set(), 'From': {'from'},
+          'Hash': {'hash'}, 'Iterator': {'next'}, 'Ord': {'cmp'}, 'PartialEq': {'eq'},
+          'PartialOrd': {'partial_cmp'},
           'Write': {'flush', 'write', 'write_str'}, 'Model': set()}
 WRITERS = {'Checksum', 'Fixed', 'Limited'}
 # Formats of a value in a text. Files with `{:?}`, which prints a text otherwise than in Rattle: the

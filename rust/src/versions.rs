@@ -7,8 +7,6 @@ use crate::proved::semver_versions::version::read_ref_in;
 use crate::{version, Dialect, Error, Version, VersionRef};
 use alloc::string::String;
 use alloc::vec::Vec;
-use core::fmt::{self, Debug, Formatter};
-use core::hash::{Hash, Hasher};
 use core::str::FromStr;
 
 impl Version {
@@ -103,30 +101,6 @@ impl<'t> VersionRef<'t> {
     #[must_use]
     pub fn to_version(&self) -> Version {
         self.owned().unwrap_or_else(|_| out_of_memory())
-    }
-}
-
-impl Hash for VersionRef<'_> {
-    fn hash<H: Hasher>(&self, state: &mut H) {
-        (self.major, self.minor, self.patch, self.pre, self.build).hash(state);
-    }
-}
-
-impl Hash for Version {
-    fn hash<H: Hasher>(&self, state: &mut H) {
-        self.as_version_ref().hash(state);
-    }
-}
-
-impl Debug for VersionRef<'_> {
-    fn fmt(&self, f: &mut Formatter<'_>) -> fmt::Result {
-        write!(f, "\"{self}\"")
-    }
-}
-
-impl Debug for Version {
-    fn fmt(&self, f: &mut Formatter<'_>) -> fmt::Result {
-        self.as_version_ref().fmt(f)
     }
 }
 

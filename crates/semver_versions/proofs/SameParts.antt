@@ -1,41 +1,18 @@
 -- Two versions are equal in their order if and only if they have the same parts.
 use Rattle.std.proofs.Common.{◌≡◌, ◌↔◌, Bool, true, false, map, refl, sym, ap, ◌∙◌}
 use Rattle.std.specs.Cmp.Lexicographic.{slice_cmp}
-use Rattle.std.specs.FinMap.{nat_cmp-IsAntisymmetric, slice_cmp-IsAntisymmetric}
 use Rattle.std.specs.Ordering.{eq_by_cmp, is_eq, nat_cmp, ordering_then}
 use Rattle.std.specs.declared.cmp.Ordering.{Ordering}
 use Rattle.std.specs.declared.cmp.Ordering.TheVariants.{Less, Equal, Greater}
 use Rattle.std.proofs.lemmas.Cmp.{tied_itself}
 use Rattle.semver_texts.specs.Digits.{identifiers_by}
 use Rattle.semver_texts.specs.Precedence.{precedence}
-use Rattle.semver_texts.specs.Steps.PrecedenceLaws.{precedence-same}
 use Rattle.semver_texts.specs.Texts.{cut_at_dots}
 use Rattle.semver_texts.specs.declared.grammar.Digits.TheVariants.{AnySize}
 use Rattle.semver_versions.specs.Steps.OrderLaws.{order_total}
+use Rattle.semver_versions.specs.Steps.SameParts.{is_tie, to_parts}
 use Rattle.semver_versions.specs.VersionOrder.{HaveSameParts, order, semver_of}
 use Rattle.semver_versions.specs.VersionRefs.{VersionRefValue, identifier_of}
-
-first : (r s : Ordering) → ordering_then r s ≡ Equal → r ≡ Equal
-first Less s e = cc
-first Equal s e = refl
-first Greater s e = cc
-
-second : (r s : Ordering) → ordering_then r s ≡ Equal → s ≡ Equal
-second Less s e = cc
-second Equal s e = e
-second Greater s e = cc
-
-pub to_parts : (a b : VersionRefValue) → order a b ≡ Equal → HaveSameParts a b
-to_parts a b e =
-    let plain : semver_of a ≡ semver_of b = precedence-same _ _ (first (precedence (semver_of a) (semver_of b)) _ e) in
-    let rest = second (precedence (semver_of a) (semver_of b)) _ e in
-    record {
-      major = ap (λ v. v.major) plain;
-      minor = ap (λ v. v.minor) plain;
-      patch = ap (λ v. v.patch) plain;
-      pre = slice_cmp-IsAntisymmetric nat_cmp-IsAntisymmetric a.pre b.pre (first (slice_cmp nat_cmp a.pre b.pre) _ rest);
-      build = slice_cmp-IsAntisymmetric nat_cmp-IsAntisymmetric a.build b.build (second (slice_cmp nat_cmp a.pre b.pre) _ rest);
-    }
 
 pub from_parts : (a b : VersionRefValue) → HaveSameParts a b → order a b ≡ Equal
 from_parts a b h =
@@ -48,11 +25,6 @@ from_parts a b h =
     let same : order a b ≡ order b b = λ i. ordering_then (precedence (plain i) (semver_of b))
     (ordering_then (slice_cmp nat_cmp (h.pre i) b.pre) (slice_cmp nat_cmp (h.build i) b.build)) in
     same ∙ tied_itself order_total b
-
-is_tie : (o : Ordering) → is_eq o ≡ true → o ≡ Equal
-is_tie Less e = cc
-is_tie Equal e = refl
-is_tie Greater e = cc
 
 ties : (o : Ordering) → o ≡ Equal → true ≡ is_eq o
 ties o e = ap is_eq (sym e)

@@ -1,6 +1,8 @@
 -- The order of borrowed versions, and how one is printed.
 use Prim.Native.Char.{code}
 use Rattle.std.specs.Prelude.{◌≡◌, ◌++◌, [], ◌∷◌, map, decimal, codes}
+use Rattle.std.specs.Hash as fed
+use Rattle.std.specs.Hash.{HashWrites}
 use Rattle.std.specs.List.{join_with_byte}
 use Rattle.std.specs.Ordering.{nat_cmp, on, then_cmp}
 use Rattle.std.specs.Cmp.Lexicographic.{slice_cmp}
@@ -41,3 +43,13 @@ abbrev pub ref_text : VersionRefValue → Text
 ref_text o =
     join_with_byte (code ".") (map decimal (numbers (semver_of o)))
     ++ (part_text (codes "-") o.pre ++ part_text (codes "+") o.build)
+
+-- that text in quotation marks
+abbrev pub quoted_text : VersionRefValue → Text
+quoted_text o = codes "\"" ++ (ref_text o ++ codes "\"")
+
+-- what `hash` writes: the numbers, and the two texts
+abbrev pub hashed_parts : VersionRefValue → HashWrites
+hashed_parts o =
+    fed.u64 o.major ++ (fed.u64 o.minor ++ (fed.u64 o.patch
+    ++ (fed.slice fed.u8 o.pre ++ fed.slice fed.u8 o.build)))

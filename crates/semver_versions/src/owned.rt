@@ -13,6 +13,7 @@ use semver_texts::grammar::Digits;
 use std::alloc::{AllocError, Global};
 use std::cmp::Ordering;
 use std::fmt;
+use std::hash::{Hash, Hasher};
 use std::marker::Model;
 
 /// A version with strings of its own. Conversions from strings read SemVer 2.0.0, as Cargo does;
@@ -347,5 +348,30 @@ impl fmt::Display for Version {
     fn fmt<W: fmt::Write>(&self, f: &mut fmt::Formatter<W>) -> fmt::Result {
         let version = self.as_version_ref();
         write!(f, "{version}")
+    }
+}
+
+impl fmt::Debug for Version {
+    ghost use Rattle.semver_versions.specs.VersionOrder.{quoted_text};
+
+    ghost debug_output = { λ version. Some (quoted_text version) };
+
+    /// Writes what `Display` writes, in quotation marks.
+    fn fmt<W: fmt::Write>(&self, f: &mut fmt::Formatter<W>) -> fmt::Result {
+        write!(f, "\"{self}\"")
+    }
+}
+
+impl Hash for Version {
+    ghost use Rattle.semver_versions.specs.Steps.SameParts.{same_parts_hash_alike};
+    ghost use Rattle.semver_versions.specs.VersionOrder.{hashed_parts};
+
+    ghost hash_input = { hashed_parts };
+
+    ghost respects_eq = { same_parts_hash_alike };
+
+    /// Hashes what `Hash` of [`VersionRef`] hashes.
+    fn hash<H: Hasher>(&self, state: &mut H) {
+        self.as_version_ref().hash(state);
     }
 }

@@ -15,6 +15,7 @@ use semver_texts::precedence::compare;
 use semver_texts::version::Version;
 use std::cmp::Ordering;
 use std::fmt;
+use std::hash::{Hash, Hasher};
 
 impl<'t> VersionRef<'t> {
     // Determined by: equation.
@@ -141,6 +142,24 @@ impl<'t> PartialOrd for VersionRef<'t> {
     }
 }
 
+impl<'t> Hash for VersionRef<'t> {
+    ghost use Rattle.semver_versions.specs.Steps.SameParts.{same_parts_hash_alike};
+    ghost use Rattle.semver_versions.specs.VersionOrder.{hashed_parts};
+
+    ghost hash_input = { hashed_parts };
+
+    ghost respects_eq = { same_parts_hash_alike };
+
+    /// Hashes the numbers, the pre-release and the build metadata, which `==` compares.
+    fn hash<H: Hasher>(&self, state: &mut H) {
+        self.major.hash(state);
+        self.minor.hash(state);
+        self.patch.hash(state);
+        self.pre.hash(state);
+        self.build.hash(state);
+    }
+}
+
 // Determined by: equation.
 /// Compares two versions by precedence, where numeric identifiers of both are read as `digits`
 /// says. It does not allocate.
@@ -171,6 +190,17 @@ impl<'t> fmt::Display for VersionRef<'t> {
         write!(f, "{major}.{minor}.{patch}")?;
         write_part(f, "-", self.pre())?;
         write_part(f, "+", self.build())
+    }
+}
+
+impl<'t> fmt::Debug for VersionRef<'t> {
+    ghost use Rattle.semver_versions.specs.VersionOrder.{quoted_text};
+
+    ghost debug_output = { λ version. Some (quoted_text version) };
+
+    /// Writes what `Display` writes, in quotation marks.
+    fn fmt<W: fmt::Write>(&self, f: &mut fmt::Formatter<W>) -> fmt::Result {
+        write!(f, "\"{self}\"")
     }
 }
 

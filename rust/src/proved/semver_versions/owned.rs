@@ -7,6 +7,7 @@ use crate::proved::semver_texts::grammar::Digits;
 use crate::rattle_std::AllocError;
 use crate::rattle_std::cmp::Ordering;
 use crate::rattle_std::fmt;
+use crate::rattle_std::hash::{Hash, Hasher};
 
 /// A version with strings of its own. Conversions from strings read SemVer 2.0.0, as Cargo does;
 /// [`Version::parse`] reads any dialect. To read many versions, [`VersionRef`] doesn't allocate.
@@ -231,5 +232,19 @@ impl fmt::Display for Version {
     fn fmt(&self, f: &mut fmt::Formatter<'_>) -> fmt::Result {
         let version = self.as_version_ref();
         write!(f, "{version}")
+    }
+}
+
+impl fmt::Debug for Version {
+    /// Writes what `Display` writes, in quotation marks.
+    fn fmt(&self, f: &mut fmt::Formatter<'_>) -> fmt::Result {
+        write!(f, "\"{self}\"")
+    }
+}
+
+impl Hash for Version {
+    /// Hashes what `Hash` of [`VersionRef`] hashes.
+    fn hash<H: Hasher>(&self, state: &mut H) {
+        self.as_version_ref().hash(state);
     }
 }

@@ -9,6 +9,7 @@ use crate::proved::semver_texts::precedence::compare;
 use crate::proved::semver_texts::version::Version;
 use crate::rattle_std::cmp::Ordering;
 use crate::rattle_std::fmt;
+use crate::rattle_std::hash::{Hash, Hasher};
 
 impl<'t> VersionRef<'t> {
     /// Compares two borrowed versions by precedence (SemVer 2.0.0, section 11). Build metadata is
@@ -91,6 +92,17 @@ impl<'t> PartialOrd for VersionRef<'t> {
     }
 }
 
+impl<'t> Hash for VersionRef<'t> {
+    /// Hashes the numbers, the pre-release and the build metadata, which `==` compares.
+    fn hash<H: Hasher>(&self, state: &mut H) {
+        self.major.hash(state);
+        self.minor.hash(state);
+        self.patch.hash(state);
+        self.pre.hash(state);
+        self.build.hash(state);
+    }
+}
+
 /// Compares two versions by precedence, where numeric identifiers of both are read as `digits`
 /// says. It does not allocate.
 #[must_use]
@@ -112,6 +124,13 @@ impl<'t> fmt::Display for VersionRef<'t> {
         write!(f, "{major}.{minor}.{patch}")?;
         write_part(f, "-", self.pre())?;
         write_part(f, "+", self.build())
+    }
+}
+
+impl<'t> fmt::Debug for VersionRef<'t> {
+    /// Writes what `Display` writes, in quotation marks.
+    fn fmt(&self, f: &mut fmt::Formatter<'_>) -> fmt::Result {
+        write!(f, "\"{self}\"")
     }
 }
 

@@ -1,4 +1,5 @@
-use Rattle.semver_versions.proofs.SameParts.{from_parts, to_parts}
+use Rattle.semver_versions.specs.Steps.SameParts.{to_parts}
+use Rattle.semver_versions.proofs.SameParts.{from_parts}
 use Rattle.semver_versions.proofs.laws.order_is_total.Goals as goal
 use Rattle.semver_versions.specs.Steps.OrderLaws.{order_total}
 
