@@ -72,8 +72,9 @@ TRAITS = {'Debug': {'fmt'}, 'Display': {'fmt'}, 'Eq': set(),
 WRITERS = {'Checksum', 'Fixed', 'Limited'}
 
 # Files with `{:?}`, which prints a text otherwise than in Rattle: the messages that are as in
-# 0.10.3, which nothing reads again, and tests.
+# 0.10.3, which nothing reads again, the `Debug` of a range, which prints no text by it, and tests.
 WITH_DEBUG = set('''
     library_tests/made.rt replayed_cases/lexing.rt replayed_cases/parsing.rt
     replayed_cases/ranges.rt semver_tokens/parser.rt small_inputs/versions.rt
+    tool_ranges/version_range.rt
 '''.split())

@@ -31,11 +31,13 @@ TRAITS = {'Debug': {'fmt'}, 'Display': {'fmt'}, 'Eq': set(), 'From': {'from'},
           'Write': {'flush', 'write', 'write_str'}, 'Model': set()}
 WRITERS = {'Checksum', 'Fixed', 'Limited'}
 # Formats of a value in a text. Files with `{:?}`, which prints a text otherwise than in Rattle: the
-# messages that are as in 0.10.3, which nothing reads again, and tests.
+# messages that are as in 0.10.3, which nothing reads again, the `Debug` of a range, which prints no
+# text by it, and tests.
 FORMAT = re.compile(r'\{\w*(?::(\?|04x|x)?)?\}')
 WITH_DEBUG = {f'{crate}/{module}' for crate, modules in {
     'library_tests': 'made', 'replayed_cases': 'lexing parsing ranges',
-    'semver_tokens': 'parser', 'small_inputs': 'versions'}.items()
+    'semver_tokens': 'parser', 'small_inputs': 'versions',
+    'tool_ranges': 'version_range'}.items()
               for module in modules.split()}
 ITEMS = {'const', 'enum', 'fn', 'mod', 'struct', 'trait', 'type'}
 # Rule 12: the prefix of a function that returns a `Result` because it allocates.

@@ -119,10 +119,11 @@ pub use proved::semver_versions::owned::Version;
 pub use proved::semver_versions::version::VersionRef;
 pub use proved::tool_ranges::dialect::Dialect;
 pub use proved::tool_ranges::meaning::Rules;
+pub use proved::tool_ranges::version_range::VersionRange;
 pub use proved::version_sets::PreReleases;
 pub use terms::terms;
 pub use upgrade::upgrade;
-pub use version_range::{comparators, satisfies, VersionRange};
+pub use version_range::{comparators, satisfies};
 
 // Of semver-parser 0.10.
 pub use proved::semver_parser::{lexer, parser};

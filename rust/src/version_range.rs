@@ -3,13 +3,11 @@
 use crate::original::out_of_memory;
 use crate::proved::tool_ranges::highest::Extreme;
 use crate::proved::tool_ranges::satisfying;
-use crate::proved::tool_ranges::version_range as proved;
 use crate::proved::requirements::requirement::requirement;
 use crate::proved::tool_ranges::dialect::rewrite;
 use crate::proved::version_sets::{Combination, Release};
-use crate::{AsVersion, Dialect, Error, ErrorKind, RangeSet, Rules, Version};
+use crate::{AsVersion, Dialect, Error, ErrorKind, RangeSet, Rules, Version, VersionRange};
 use alloc::string::String;
-use core::fmt::{self, Debug, Display, Formatter};
 use core::hash::{Hash, Hasher};
 use core::ops::{BitAnd, BitOr, Sub};
 
@@ -64,21 +62,6 @@ pub fn comparators(range: &str, dialect: Dialect) -> Result<RangeSet, Error> {
     rewrite(dialect, range).map_err(|error| Error::from_range(error, range, dialect))
 }
 
-/// A range that was read: the versions that it contains, and the rules by which it was read. Two
-/// ranges are equal if both of these are.
-///
-/// ```
-/// use semver_parser::{Dialect, VersionRange};
-///
-/// let old = VersionRange::parse("^1.2", Dialect::Cargo)?;
-/// let new = VersionRange::parse(">=1.2.1, <1.9", Dialect::Cargo)?;
-/// assert!(new.is_subset(&old)? && old.contains("1.2.0")?);
-/// assert_eq!((&old - &new).to_string(), "=1.2.0 || >=1.9.0, <2.0.0");
-/// # Ok::<(), semver_parser::Error>(())
-/// ```
-#[derive(Clone, PartialEq, Eq)]
-pub struct VersionRange(pub(crate) proved::VersionRange);
-
 impl VersionRange {
     /// Reads a range string in a [`Dialect`], or by [`Rules`], which also say which pre-releases
     /// count.
@@ -99,22 +82,8 @@ impl VersionRange {
     /// ```
     pub fn parse(range: &str, rules: impl Into<Rules>) -> Result<VersionRange, Error> {
         let rules = rules.into();
-        let read = proved::VersionRange::try_parse(range, rules).map(VersionRange);
-        read.map_err(|error| Error::from_range(error, range, rules.dialect))
-    }
-
-    /// Returns the rules by which the range was read.
-    ///
-    /// ```
-    /// use semver_parser::{Dialect, PreReleases, VersionRange};
-    ///
-    /// let range = VersionRange::parse("^1.2", Dialect::Npm)?;
-    /// assert_eq!(range.rules(), Dialect::Npm.with(PreReleases::ByDialect));
-    /// # Ok::<(), semver_parser::Error>(())
-    /// ```
-    #[must_use]
-    pub fn rules(&self) -> Rules {
-        self.0.meaning()
+        VersionRange::try_parse(range, rules)
+            .map_err(|error| Error::from_range(error, range, rules.dialect))
     }
 
     /// Returns whether the range contains a version. Build metadata is ignored.
@@ -185,21 +154,8 @@ impl VersionRange {
     /// ```
     #[must_use]
     pub fn min_version(&self) -> Option<Version> {
-        let lowest = self.0.try_lowest_version().unwrap_or_else(|_| out_of_memory());
+        let lowest = self.try_lowest_version().unwrap_or_else(|_| out_of_memory());
         lowest.as_ref().map(Version::without_build)
-    }
-
-    /// Returns whether the range contains no version.
-    ///
-    /// ```
-    /// use semver_parser::{Dialect, VersionRange};
-    ///
-    /// assert!(VersionRange::parse(">2.0.0 <1.0.0", Dialect::Npm)?.is_empty());
-    /// # Ok::<(), semver_parser::Error>(())
-    /// ```
-    #[must_use]
-    pub fn is_empty(&self) -> bool {
-        self.0.is_empty()
     }
 
     /// Returns whether the other range contains every version that this one does. One may have been
@@ -219,7 +175,7 @@ impl VersionRange {
     /// # Ok::<(), semver_parser::Error>(())
     /// ```
     pub fn is_subset(&self, other: &VersionRange) -> Result<bool, Error> {
-        self.0.is_subset(&other.0).map_err(Error::from_operation)
+        self.is_subset_of(other).map_err(Error::from_operation)
     }
 
     /// Returns whether no version is in both ranges.
@@ -236,7 +192,7 @@ impl VersionRange {
     /// # Ok::<(), semver_parser::Error>(())
     /// ```
     pub fn is_disjoint(&self, other: &VersionRange) -> Result<bool, Error> {
-        self.0.is_disjoint(&other.0).map_err(Error::from_operation)
+        self.is_disjoint_from(other).map_err(Error::from_operation)
     }
 
     /// Returns the range of the versions that are in either range; also `&a | &b`.
@@ -254,7 +210,7 @@ impl VersionRange {
     /// # Ok::<(), semver_parser::Error>(())
     /// ```
     pub fn union(&self, other: &VersionRange) -> Result<VersionRange, Error> {
-        self.combined(Combination::Union, other)
+        self.combined(Combination::Union, other).map_err(Error::from_operation)
     }
 
     /// Returns the range of the versions that are in both ranges; also `&a & &b`.
@@ -272,7 +228,7 @@ impl VersionRange {
     /// # Ok::<(), semver_parser::Error>(())
     /// ```
     pub fn intersection(&self, other: &VersionRange) -> Result<VersionRange, Error> {
-        self.combined(Combination::Intersection, other)
+        self.combined(Combination::Intersection, other).map_err(Error::from_operation)
     }
 
     /// Returns the range of the versions that are in this range, but not in the other; also
@@ -291,11 +247,7 @@ impl VersionRange {
     /// # Ok::<(), semver_parser::Error>(())
     /// ```
     pub fn difference(&self, other: &VersionRange) -> Result<VersionRange, Error> {
-        self.combined(Combination::Difference, other)
-    }
-
-    fn combined(&self, how: Combination, other: &VersionRange) -> Result<VersionRange, Error> {
-        self.0.combined(how, &other.0).map(VersionRange).map_err(Error::from_operation)
+        self.combined(Combination::Difference, other).map_err(Error::from_operation)
     }
 
     /// Returns the releases of the range as intervals, in ascending order. Each is a
@@ -310,7 +262,7 @@ impl VersionRange {
     /// ```
     #[must_use]
     pub fn releases(&self) -> RangeSet {
-        self.0.versions().release_ranges().unwrap_or_else(|_| out_of_memory()).range_set
+        self.versions().release_ranges().unwrap_or_else(|_| out_of_memory()).range_set
     }
 
     /// Returns the pre-releases of the range as intervals by precedence. They are otherwise like
@@ -325,7 +277,7 @@ impl VersionRange {
     /// ```
     #[must_use]
     pub fn pre_releases(&self) -> RangeSet {
-        self.0.versions().pre_release_ranges().unwrap_or_else(|_| out_of_memory()).range_set
+        self.versions().pre_release_ranges().unwrap_or_else(|_| out_of_memory()).range_set
     }
 
     /// Returns the range as it can be written into a `Cargo.toml` or a `package.json`: a string that
@@ -344,39 +296,7 @@ impl VersionRange {
     /// ```
     #[must_use]
     pub fn to_requirement(&self) -> Option<String> {
-        requirement(&self.0).unwrap_or_else(|_| out_of_memory())
-    }
-}
-
-impl Display for VersionRange {
-    /// Writes the range in the syntax of its dialect: a comma separates the comparators of Cargo's,
-    /// and a space those of the others. First come the releases that it contains, or `<0.0.0-0` if
-    /// it contains no version. If it contains pre-releases, they follow after `, pre-releases `, as
-    /// a range that is to be compared by precedence. If it contains only pre-releases, the first
-    /// comma is missing.
-    ///
-    /// This is for people. It doesn't read back if the range contains pre-releases, or if there is
-    /// `||` in Cargo's dialect. To write a range into a manifest, use
-    /// [`to_requirement`](VersionRange::to_requirement).
-    ///
-    /// ```
-    /// use semver_parser::{Dialect, VersionRange};
-    ///
-    /// let shown = |range| VersionRange::parse(range, Dialect::Npm).unwrap().to_string();
-    /// assert_eq!(shown("1.2.0 || ~1.9"), "=1.2.0 || >=1.9.0 <1.10.0");
-    /// assert_eq!(shown("^1.2.3-b"), ">=1.2.3 <2.0.0, pre-releases >=1.2.3-b <1.2.3");
-    /// let cargo = VersionRange::parse("1.2", Dialect::Cargo)?;
-    /// assert_eq!(cargo.to_string(), ">=1.2.0, <2.0.0");
-    /// # Ok::<(), semver_parser::Error>(())
-    /// ```
-    fn fmt(&self, f: &mut Formatter<'_>) -> fmt::Result {
-        Display::fmt(&self.0, f)
-    }
-}
-
-impl Debug for VersionRange {
-    fn fmt(&self, f: &mut Formatter<'_>) -> fmt::Result {
-        write!(f, "VersionRange({self}, {:?})", self.rules())
+        requirement(self).unwrap_or_else(|_| out_of_memory())
     }
 }
 
@@ -385,8 +305,8 @@ impl Hash for VersionRange {
     /// pre-releases. Equal ranges have the same boundaries.
     fn hash<H: Hasher>(&self, state: &mut H) {
         self.rules().hash(state);
-        self.0.versions().releases.hash(state);
-        for boundary in &self.0.versions().pre_releases {
+        self.versions().releases.hash(state);
+        for boundary in &self.versions().pre_releases {
             Release::from_version(&boundary.version).hash(state);
         }
     }

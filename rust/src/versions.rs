@@ -47,9 +47,8 @@ impl Version {
     /// the first hyphen is the pre-release.
     pub(crate) fn without_build(version: &version::Version) -> Version {
         let printed = printed(version);
-        let parts: Vec<u8> = printed.split_once('-').map_or("", |(_, pre)| pre).into();
-        let pre_len = parts.len();
-        Version { parts, pre_len, ..Version::new(version.major, version.minor, version.patch) }
+        let pre = printed.split_once('-').map_or("", |(_, pre)| pre).as_bytes();
+        VersionRef { pre, ..VersionRef::new(version.major, version.minor, version.patch) }.to_version()
     }
 }
 

@@ -257,6 +257,15 @@ fn a_dialect_alone_means_its_own_rule() -> Result {
 }
 
 #[test]
+fn debug_of_a_range_has_the_range_and_its_rules() -> Result {
+    let range = VersionRange::parse("^1.2", Dialect::Cargo)?;
+    let rules = "Rules { dialect: Cargo, pre_releases: ByDialect }";
+    assert_eq!(format!("{range:?}"), format!("VersionRange(>=1.2.0, <2.0.0, {rules})"));
+    assert_eq!(format!("{range:#?}"), format!("{range:?}"));
+    Ok(())
+}
+
+#[test]
 fn an_operator_panics_if_rules_differ() {
     let [cargo, npm] = [Dialect::Cargo, Dialect::Npm].map(|it| VersionRange::parse("1", it).unwrap());
     for call in [|a: &_, b: &_| a | b, |a: &VersionRange, b: &_| a & b, |a: &_, b: &_| a - b] {

@@ -273,8 +273,8 @@ fn of_two(
 /// Returns whether there is a change for which the status is 1.
 fn is_changed(question: &Question, range: &VersionRange, new: &VersionRange) -> bool {
     match question.options.fails_on {
-        Some(Change::Lost) => range.is_subset(new) != Ok(true),
-        Some(Change::Gained) => new.is_subset(range) != Ok(true),
+        Some(Change::Lost) => range.is_subset_of(new) != Ok(true),
+        Some(Change::Gained) => new.is_subset_of(range) != Ok(true),
         Some(Change::Any) | None => range.versions() != new.versions(),
     }
 }

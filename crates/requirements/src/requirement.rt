@@ -76,14 +76,14 @@ fn written(
         Way::Paired => paired(alloc, releases, pre_releases)?,
         Way::Nothing => Vec::new(alloc),
     };
-    write(alloc, all.as_slice(), range.meaning().dialect.joint())
+    write(alloc, all.as_slice(), range.rules().dialect.joint())
 }
 
 /// Returns whether a string reads back as a range that contains the same versions.
 fn reads_back(alloc: Global, range: &VersionRange, text: &str) -> Result<bool, AllocError>
     ensures { IfOk result (λ same. same ≡ true → IsRequirementOf range.now text.now) }
 {
-    match VersionRange::parse(alloc, text, range.meaning()) {
+    match VersionRange::parse(alloc, text, range.rules()) {
         Ok(read) => Ok(*read.versions() == *range.versions()),
         Err(RangeError::OutOfMemory) => Err(AllocError),
         Err(RangeError::NotARange | RangeError::NumberTooLarge) => Ok(false),

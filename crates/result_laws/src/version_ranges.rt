@@ -8,6 +8,7 @@ ghost use Rattle.result_laws.specs.SameSets.{AreAlikeRanges};
 use semver_parser::laws::precedence_is_total;
 use semver_parser::version::Version;
 use semver_ranges::RangeError;
+use semver_versions::placed::PlacedVersion;
 use std::alloc::{AllocError, Global};
 use tool_ranges::highest::Extreme;
 use tool_ranges::laws::ranges_read_digits;
@@ -89,6 +90,17 @@ pub fn one_extreme_index(
         range.extreme_index(which, versions),
         range.extreme_index(which, versions),
     )
+}
+
+/// `VersionRange::member` has only one permitted result.
+pub fn one_member(
+    range: &VersionRange,
+    version: &str,
+) -> (Option<PlacedVersion>, Option<PlacedVersion>)
+    ensures one { result.0 ≡ result.1 }
+{
+    semver_versions::laws::one_version_in();
+    (range.member(version), range.member(version))
 }
 
 /// `VersionRange::combined` has only one permitted result.

@@ -6,6 +6,7 @@ pub mod comparing;
 pub mod identifiers;
 pub mod laws;
 pub mod owned;
+pub mod placed;
 pub mod read_version;
 mod reader;
 pub mod version;

@@ -39,3 +39,4 @@ mod RewrittenSets
 -- the highest and the lowest of many versions
 mod HighestMembers
 pub mod OneHighest
+pub mod OneMember

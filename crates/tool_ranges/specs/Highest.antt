@@ -9,6 +9,11 @@ use Rattle.semver_texts.specs.Precedence.{precedence}
 use Rattle.semver_texts.specs.Texts.{Text}
 use Rattle.semver_texts.specs.ToolVersions.{SpellsIn}
 use Rattle.semver_texts.specs.Versions.{PlainVersion, VersionValue}
+use Rattle.semver_versions.specs.declared.placed.PlacedVersion.{PlacedVersion}
+use Rattle.semver_versions.specs.PlacedVersions.{placed_of}
+use Rattle.semver_versions.specs.Steps.Reading.{ArePartTexts}
+use Rattle.semver_versions.specs.VersionRefs.{IsVersionRefIn, StandsAt, VersionRefValue}
+use Rattle.semver_versions.specs.VersionRefs.{version_of}
 use Rattle.version_sets.specs.VersionSets.{SetValue, contains}
 use Rattle.tool_ranges.specs.declared.highest.Extreme.{Extreme}
 use Rattle.tool_ranges.specs.declared.highest.Extreme.TheVariants.{Highest, Lowest}
@@ -16,6 +21,17 @@ use Rattle.tool_ranges.specs.declared.highest.Extreme.TheVariants.{Highest, Lowe
 -- the text is a version that is in the set
 abbrev pub IsMemberText : Grammar → SetValue → Text → Type 0
 IsMemberText g set text = (v : VersionValue) × SpellsIn g v text × (contains set v.plain ≡ true)
+
+-- the text is a version that is in the set, and this is that version without its text
+pub record IsPlacedMember (g : Grammar) (set : SetValue) (text : Text) (placed : PlacedVersion)
+    : Type 0 where
+  pub version : VersionRefValue
+  pub read : IsVersionRefIn g text version
+  pub spells : SpellsIn g (version_of version) text
+  pub is_in : contains set (version_of version).plain ≡ true
+  pub is : placed ≡ placed_of version
+  pub place : StandsAt version.pre_offset version.pre text
+  pub parts : ArePartTexts version.pre
 
 -- the text at an index is a version that is in the set
 pub record IsMember (g : Grammar) (set : SetValue) (texts : List (Bor Text)) (k : ℕ)

@@ -56,7 +56,7 @@ impl VersionRange {
     /// Only `DifferentDigits`, if one range is in a dialect of the crate `semver-parser` and the
     /// other in Cargo's or npm's: a version with a numeric identifier above 2^64 - 1 isn't the same
     /// to both.
-    pub fn is_subset(&self, other: &VersionRange) -> Result<bool, OperationError>
+    pub fn is_subset_of(&self, other: &VersionRange) -> Result<bool, OperationError>
         ensures refused { (result ≡ Err OperationError.DifferentDigits)
             ↔ (self.now.versions.digits ≢ other.now.versions.digits) }
         ensures any_meaning { result ≢ Err OperationError.DifferentMeanings }
@@ -76,16 +76,8 @@ impl VersionRange {
     ///
     /// # Errors
     ///
-    /// The errors of [`VersionRange::is_subset`].
-    ///
-    /// ```
-    /// use semver_parser::{Dialect, VersionRange};
-    ///
-    /// let range = VersionRange::parse("^1.2", Dialect::Npm)?;
-    /// assert_eq!(range.is_disjoint(&VersionRange::parse(">=2.0.0", Dialect::Npm)?), Ok(true));
-    /// # Ok::<(), semver_parser::Error>(())
-    /// ```
-    pub fn is_disjoint(&self, other: &VersionRange) -> Result<bool, OperationError>
+    /// The errors of [`VersionRange::is_subset_of`].
+    pub fn is_disjoint_from(&self, other: &VersionRange) -> Result<bool, OperationError>
         ensures refused { (result ≡ Err OperationError.DifferentDigits)
             ↔ (self.now.versions.digits ≢ other.now.versions.digits) }
         ensures any_meaning { result ≢ Err OperationError.DifferentMeanings }

@@ -24,21 +24,19 @@ use std::fmt;
 use std::marker::Model;
 use version_sets::{OperationError, VersionSet};
 
-/// A range that was read once: the versions that it contains, its dialect, and which pre-releases
-/// count. Any number of versions can be checked against it, and it can be combined with other
-/// ranges of the same meaning.
+/// A range that was read: the versions that it contains, and the rules by which it was read. Two
+/// ranges are equal if both of these are.
 ///
 /// ```
 /// use semver_parser::{Dialect, VersionRange};
 ///
 /// let old = VersionRange::parse("^1.2", Dialect::Cargo)?;
 /// let new = VersionRange::parse(">=1.2.1, <1.9", Dialect::Cargo)?;
+/// assert!(new.is_subset(&old)? && old.contains("1.2.0")?);
 /// assert_eq!((&old - &new).to_string(), "=1.2.0 || >=1.9.0, <2.0.0");
-/// assert_eq!(new.is_subset(&old), Ok(true));
-/// assert_eq!(old.contains("1.2.0"), Ok(true));
 /// # Ok::<(), semver_parser::Error>(())
 /// ```
-#[derive(Debug, Drop)]
+#[derive(Drop)]
 pub struct VersionRange {
     pub(crate) versions: VersionSet,
     pub(crate) meaning: Rules,
@@ -133,10 +131,18 @@ impl VersionRange {
     }
 
     // Determined by: equation.
-    /// Returns the meaning of the range: its dialect, and which pre-releases count.
+    /// Returns the rules by which the range was read.
+    ///
+    /// ```
+    /// use semver_parser::{Dialect, PreReleases, VersionRange};
+    ///
+    /// let range = VersionRange::parse("^1.2", Dialect::Npm)?;
+    /// assert_eq!(range.rules(), Dialect::Npm.with(PreReleases::ByDialect));
+    /// # Ok::<(), semver_parser::Error>(())
+    /// ```
     #[must_use]
     #[inline(always)]
-    pub fn meaning(&self) -> Rules
+    pub fn rules(&self) -> Rules
         ensures { result ≡ self.now.meaning }
     {
         self.meaning
@@ -226,8 +232,11 @@ impl fmt::Display for VersionRange {
     /// and a space those of the others. First come the releases that it contains, or `<0.0.0-0` if
     /// it contains no version. If it contains pre-releases, they follow after `, pre-releases `, as
     /// a range that is to be compared by precedence. If it contains only pre-releases, the first
-    /// comma is missing. Not every such string can be read again: Cargo has no `||`, for example.
-    /// It does not allocate, and its only error is the writer's.
+    /// comma is missing. It does not allocate, and its only error is the writer's.
+    ///
+    /// This is for people. It doesn't read back if the range contains pre-releases, or if there is
+    /// `||` in Cargo's dialect. To write a range into a manifest, use
+    /// [`VersionRange::to_requirement`].
     ///
     /// ```
     /// use semver_parser::{Dialect, VersionRange};
@@ -241,5 +250,13 @@ impl fmt::Display for VersionRange {
     /// ```
     fn fmt<W: fmt::Write>(&self, f: &mut fmt::Formatter<W>) -> fmt::Result {
         self.versions.write_joined(f, self.meaning.dialect.joint())
+    }
+}
+
+impl fmt::Debug for VersionRange {
+    /// Writes what `Display` writes, and the rules.
+    fn fmt<W: fmt::Write>(&self, f: &mut fmt::Formatter<W>) -> fmt::Result {
+        let rules = self.meaning;
+        write!(f, "VersionRange({self}, {rules:?})")
     }
 }

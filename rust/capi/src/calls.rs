@@ -125,7 +125,7 @@ pub fn parse_range(range: &[u8], options: Options) -> Answer<'_, *mut VersionRan
 
 #[inline(always)]
 pub fn contains<'a>(range: &VersionRange, bytes: &'a [u8], index: usize) -> Answer<'a, bool> {
-    let dialect = range.meaning().dialect;
+    let dialect = range.rules().dialect;
     range.try_contains_bytes(bytes).map_err(|_| Problem::Version { bytes, dialect, index })
 }
 
@@ -174,7 +174,7 @@ pub fn outermost<'a>(
     which: Extreme,
 ) -> Answer<'a, usize> {
     for (at, string) in strings.iter().enumerate().filter(|_| !skip_invalid) {
-        version(string.bytes(), range.meaning().dialect, at)?;
+        version(string.bytes(), range.rules().dialect, at)?;
     }
     let (mut found, mut index): (&[u8], usize) = (b"", strings.len());
     for (chunk, next) in strings.chunks(AT_ONCE).enumerate() {
@@ -194,7 +194,7 @@ pub fn compare<'a>(
     other: &'a VersionRange,
     compared: impl Fn(&VersionRange, &VersionRange) -> Result<bool, OperationError>,
 ) -> Answer<'a, bool> {
-    if range.meaning() != other.meaning() {
+    if range.rules() != other.rules() {
         return Err(different(range, other));
     }
     compared(range, other).map_err(|_| different(range, other))
@@ -214,7 +214,7 @@ pub fn combine<'a>(
 
 /// Returns how two ranges differ: in their dialects, or otherwise in which pre-releases count.
 fn different<'a>(range: &VersionRange, other: &VersionRange) -> Problem<'a> {
-    if range.meaning().dialect != other.meaning().dialect {
+    if range.rules().dialect != other.rules().dialect {
         return Problem::Dialects;
     }
     Problem::PreReleases

@@ -119,7 +119,7 @@ functions! {
         -> range: *mut Range, error = calls::parse_range;
     semver_parser_range_free(range: *mut Range) = heap::free_value;
     semver_parser_range_options(range: &Range) => Options
-        = |range: &Range| Options::of(range.meaning());
+        = |range: &Range| Options::of(range.rules());
     semver_parser_range_contains(range: &Range, version: StringView)
         -> contains: bool, error = |range, version| calls::contains(range, version, 0);
     semver_parser_range_highest_of(
@@ -139,9 +139,9 @@ functions! {
     semver_parser_range_equal(range: &Range, other: &Range) -> equal: bool, error
         = |range, other| calls::compare(range, other, |one, two| Ok(one == two));
     semver_parser_range_is_subset(range: &Range, other: &Range) -> is_subset: bool, error
-        = |range, other| calls::compare(range, other, Range::is_subset);
+        = |range, other| calls::compare(range, other, Range::is_subset_of);
     semver_parser_range_is_disjoint(range: &Range, other: &Range) -> is_disjoint: bool, error
-        = |range, other| calls::compare(range, other, Range::is_disjoint);
+        = |range, other| calls::compare(range, other, Range::is_disjoint_from);
     semver_parser_range_is_empty(range: &Range) => bool = Range::is_empty;
     semver_parser_range_lowest_version(range: &Range)
         -> version: *mut c_char = calls::lowest_version;

@@ -255,14 +255,14 @@ pub extern "C" fn range_is_empty(range: &Range) -> i32 {
 /// can't be compared.
 #[no_mangle]
 pub extern "C" fn range_is_within(range: &Range, other: &Range) -> i32 {
-    range.is_subset(other).map_or(status::INVALID_RANGE, i32::from)
+    range.is_subset_of(other).map_or(status::INVALID_RANGE, i32::from)
 }
 
 /// Returns 1 if no version is in both ranges, 0 if one is, and a status if their dialects can't be
 /// compared.
 #[no_mangle]
 pub extern "C" fn range_is_apart(range: &Range, other: &Range) -> i32 {
-    range.is_disjoint(other).map_or(status::INVALID_RANGE, i32::from)
+    range.is_disjoint_from(other).map_or(status::INVALID_RANGE, i32::from)
 }
 
 /// Returns the versions that are in a range and not in the other, as a range with the meaning of
@@ -273,7 +273,7 @@ pub extern "C" fn range_difference(range: &Range, other: &Range) -> *mut Range {
     let Ok(versions) = range.versions().combined(Combination::Difference, other.versions()) else {
         return null_mut();
     };
-    Range::from_versions(versions, range.meaning()).map_or(null_mut(), kept)
+    Range::from_versions(versions, range.rules()).map_or(null_mut(), kept)
 }
 
 /// Outputs the lowest version in a range as a string, which is empty if there is none. Returns 0,

@@ -62,7 +62,7 @@ impl Judge {
         let Some(rest) = text_after(prefix, text) else {
             return Judged::NotAVersion(text);
         };
-        let Some(version) = read_ref_in(rest, self.range.meaning().dialect.grammar()) else {
+        let Some(version) = read_ref_in(rest, self.range.rules().dialect.grammar()) else {
             return Judged::NotAVersion(text);
         };
         if self.range.contains_ref(&version) {

@@ -69,12 +69,12 @@ fn written(
         Way::Paired => paired(releases, pre_releases)?,
         Way::Nothing => Vec::new(),
     };
-    write(all.as_slice(), range.meaning().dialect.joint())
+    write(all.as_slice(), range.rules().dialect.joint())
 }
 
 /// Returns whether a string reads back as a range that contains the same versions.
 fn reads_back(range: &VersionRange, text: &str) -> Result<bool, AllocError> {
-    match VersionRange::try_parse(text, range.meaning()) {
+    match VersionRange::try_parse(text, range.rules()) {
         Ok(read) => Ok(*read.versions() == *range.versions()),
         Err(RangeError::OutOfMemory) => Err(AllocError),
         Err(RangeError::NotARange | RangeError::NumberTooLarge) => Ok(false),

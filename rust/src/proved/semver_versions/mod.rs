@@ -6,6 +6,7 @@ use crate::rattle_std::prelude::*;
 pub mod comparing;
 pub mod identifiers;
 pub mod owned;
+pub mod placed;
 pub mod read_version;
 mod reader;
 pub mod version;

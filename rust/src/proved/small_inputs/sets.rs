@@ -217,8 +217,8 @@ fn add_pair(
         add_range(&range.combined(how, other), sum)?;
     }
     add_range(&other.combined(Combination::Difference, range), sum)?;
-    add_relation(range.is_subset(other), sum)?;
-    add_relation(range.is_disjoint(other), sum)?;
+    add_relation(range.is_subset_of(other), sum)?;
+    add_relation(range.is_disjoint_from(other), sum)?;
     if let Ok(found) = range.versions().compare(other.versions()) {
         add_version(&found.lost, sum)?;
         add_version(&found.gained, sum)?;

@@ -12,7 +12,7 @@ impl VersionRange {
     ///
     /// `DifferentMeanings` if the ranges differ in their dialects, or in which pre-releases count;
     /// `OutOfMemory` if an allocation failed.
-    pub fn combined(
+    pub(crate) fn combined(
         &self,
         how: Combination,
         other: &VersionRange,
@@ -35,7 +35,7 @@ impl VersionRange {
     /// Only `DifferentDigits`, if one range is in a dialect of the crate `semver-parser` and the
     /// other in Cargo's or npm's: a version with a numeric identifier above 2^64 - 1 isn't the same
     /// to both.
-    pub fn is_subset(&self, other: &VersionRange) -> Result<bool, OperationError> {
+    pub(crate) fn is_subset_of(&self, other: &VersionRange) -> Result<bool, OperationError> {
         self.versions.is_subset(&other.versions)
     }
 
@@ -44,16 +44,8 @@ impl VersionRange {
     ///
     /// # Errors
     ///
-    /// The errors of [`VersionRange::is_subset`].
-    ///
-    /// ```
-    /// use semver_parser::{Dialect, VersionRange};
-    ///
-    /// let range = VersionRange::parse("^1.2", Dialect::Npm)?;
-    /// assert_eq!(range.is_disjoint(&VersionRange::parse(">=2.0.0", Dialect::Npm)?), Ok(true));
-    /// # Ok::<(), semver_parser::Error>(())
-    /// ```
-    pub fn is_disjoint(&self, other: &VersionRange) -> Result<bool, OperationError> {
+    /// The errors of [`VersionRange::is_subset_of`].
+    pub(crate) fn is_disjoint_from(&self, other: &VersionRange) -> Result<bool, OperationError> {
         self.versions.is_disjoint(&other.versions)
     }
 }

@@ -11,21 +11,18 @@ use crate::rattle_std::AllocError;
 use crate::rattle_std::fmt;
 use crate::proved::version_sets::{OperationError, VersionSet};
 
-/// A range that was read once: the versions that it contains, its dialect, and which pre-releases
-/// count. Any number of versions can be checked against it, and it can be combined with other
-/// ranges of the same meaning.
+/// A range that was read: the versions that it contains, and the rules by which it was read. Two
+/// ranges are equal if both of these are.
 ///
 /// ```
 /// use semver_parser::{Dialect, VersionRange};
 ///
 /// let old = VersionRange::parse("^1.2", Dialect::Cargo)?;
 /// let new = VersionRange::parse(">=1.2.1, <1.9", Dialect::Cargo)?;
+/// assert!(new.is_subset(&old)? && old.contains("1.2.0")?);
 /// assert_eq!((&old - &new).to_string(), "=1.2.0 || >=1.9.0, <2.0.0");
-/// assert_eq!(new.is_subset(&old), Ok(true));
-/// assert_eq!(old.contains("1.2.0"), Ok(true));
 /// # Ok::<(), semver_parser::Error>(())
 /// ```
-#[derive(Debug)]
 #[derive(Clone)]
 pub struct VersionRange {
     pub(crate) versions: VersionSet,
@@ -43,7 +40,7 @@ impl VersionRange {
     /// - `OutOfMemory` if an allocation failed. The first two errors are returned without
     ///   allocating.
     #[inline(always)]
-    pub fn try_parse(range: &str, meaning: Rules) -> Result<VersionRange, RangeError> {
+    pub(crate) fn try_parse(range: &str, meaning: Rules) -> Result<VersionRange, RangeError> {
         let versions = meaning::read(meaning, range)?;
         Ok(VersionRange { versions, meaning })
     }
@@ -53,7 +50,7 @@ impl VersionRange {
     /// 2^53 - 1, so the lowest one in `>1.2.9007199254740991` is 1.3.0.
     ///
     /// It allocates only if the result is a pre-release. `Err` means out of memory.
-    pub fn try_lowest_version(&self) -> Result<Option<Version>, AllocError> {
+    pub(crate) fn try_lowest_version(&self) -> Result<Option<Version>, AllocError> {
         self.versions
             .lowest_within(limit(self.meaning.dialect))
     }
@@ -63,7 +60,7 @@ impl VersionRange {
     /// # Errors
     ///
     /// Only `DifferentDigits`, if the set reads numeric identifiers differently than the dialect.
-    pub fn from_versions(
+    pub(crate) fn from_versions(
         versions: VersionSet,
         meaning: Rules,
     ) -> Result<VersionRange, OperationError> {
@@ -73,17 +70,25 @@ impl VersionRange {
         Ok(VersionRange { versions, meaning })
     }
 
-    /// Returns the meaning of the range: its dialect, and which pre-releases count.
+    /// Returns the rules by which the range was read.
+    ///
+    /// ```
+    /// use semver_parser::{Dialect, PreReleases, VersionRange};
+    ///
+    /// let range = VersionRange::parse("^1.2", Dialect::Npm)?;
+    /// assert_eq!(range.rules(), Dialect::Npm.with(PreReleases::ByDialect));
+    /// # Ok::<(), semver_parser::Error>(())
+    /// ```
     #[must_use]
     #[inline(always)]
-    pub fn meaning(&self) -> Rules {
+    pub fn rules(&self) -> Rules {
         self.meaning
     }
 
     /// Returns the set of the versions that the range contains.
     #[must_use]
     #[inline(always)]
-    pub fn versions(&self) -> &VersionSet {
+    pub(crate) fn versions(&self) -> &VersionSet {
         &self.versions
     }
 
@@ -94,7 +99,7 @@ impl VersionRange {
     ///
     /// `InvalidVersion` if the version is invalid in the dialect.
     #[inline(always)]
-    pub fn try_contains_bytes(&self, version: &[u8]) -> Result<bool, SatisfiesError> {
+    pub(crate) fn try_contains_bytes(&self, version: &[u8]) -> Result<bool, SatisfiesError> {
         match read_ref_in(version, self.meaning.dialect.grammar()) {
             Some(borrowed) => Ok(self.contains_ref(&borrowed)),
             None => Err(SatisfiesError::InvalidVersion),
@@ -105,7 +110,7 @@ impl VersionRange {
     /// in the range's dialect. It does not allocate.
     #[must_use]
     #[inline(always)]
-    pub fn contains_ref(&self, version: &VersionRef<'_>) -> bool {
+    pub(crate) fn contains_ref(&self, version: &VersionRef<'_>) -> bool {
         self.versions.contains_ref(version)
     }
 
@@ -113,7 +118,7 @@ impl VersionRange {
     /// numeric identifier above 2^64 - 1 as a string; in Cargo's and npm's dialects it is compared
     /// as a number. It does not allocate.
     #[must_use]
-    pub fn contains_version(&self, version: &Version) -> bool {
+    pub(crate) fn contains_version(&self, version: &Version) -> bool {
         self.versions.contains(version)
     }
 
@@ -136,8 +141,11 @@ impl fmt::Display for VersionRange {
     /// and a space those of the others. First come the releases that it contains, or `<0.0.0-0` if
     /// it contains no version. If it contains pre-releases, they follow after `, pre-releases `, as
     /// a range that is to be compared by precedence. If it contains only pre-releases, the first
-    /// comma is missing. Not every such string can be read again: Cargo has no `||`, for example.
-    /// It does not allocate, and its only error is the writer's.
+    /// comma is missing. It does not allocate, and its only error is the writer's.
+    ///
+    /// This is for people. It doesn't read back if the range contains pre-releases, or if there is
+    /// `||` in Cargo's dialect. To write a range into a manifest, use
+    /// [`VersionRange::to_requirement`].
     ///
     /// ```
     /// use semver_parser::{Dialect, VersionRange};
@@ -151,5 +159,13 @@ impl fmt::Display for VersionRange {
     /// ```
     fn fmt(&self, f: &mut fmt::Formatter<'_>) -> fmt::Result {
         self.versions.write_joined(f, self.meaning.dialect.joint())
+    }
+}
+
+impl fmt::Debug for VersionRange {
+    /// Writes what `Display` writes, and the rules.
+    fn fmt(&self, f: &mut fmt::Formatter<'_>) -> fmt::Result {
+        let rules = self.meaning;
+        write!(f, "VersionRange({self}, {rules:?})")
     }
 }

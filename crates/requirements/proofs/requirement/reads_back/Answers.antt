@@ -8,6 +8,6 @@ returns-in-Ok c = λ e.
     let means = c.in-Ok.ensures.contains in
     let same = sym c.versions.ensures ∙ c.eq.ensures.one_form.0 e ∙ c.versions-in-Ok.ensures in
     record {
-      set = rw c.meaning.ensures at set;
-      means = subst (MeansAs c.args.range.now.meaning c.args.text.now) same (rw c.meaning.ensures at means);
+      set = rw c.rules.ensures at set;
+      means = subst (MeansAs c.args.range.now.meaning c.args.text.now) same (rw c.rules.ensures at means);
     }

@@ -30,4 +30,7 @@ returns c =
       in_its_grammar (λ g. SpellsIn g (version_of borrowed) text) _ _ _ c.range.view_is c.grammar.ensures.grammar
           c.in_ok-borrowed.ensures.version,
       sym said ∙ c.if-not-contains_ref.false,
+      in_its_grammar (λ g. IsVersionRefIn g text borrowed) _ _ _ c.range.view_is c.grammar.ensures.grammar
+          ((c.in_ok-borrowed.ensures.borrowed borrowed).0 refl),
+      c.in_ok-borrowed.ensures.places.0,
     )

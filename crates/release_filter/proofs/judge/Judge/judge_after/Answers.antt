@@ -12,7 +12,7 @@ use Rattle.release_filter.proofs.judge.Judge.judge_after.Goals as goal
 pub returns-in_default-read_ref_in : goal.returns-in_default-read_ref_in
 returns-in_default-read_ref_in c =
     let rest = c.in-Some.rest.now in
-    let is = c.grammar.ensures.grammar ∙ ap (λ (m : Rules). grammar_of m.dialect) c.meaning.ensures in
+    let is = c.grammar.ensures.grammar ∙ ap (λ (m : Rules). grammar_of m.dialect) c.rules.ensures in
     let none = subst (λ (g : Grammar). ¬ (IsVersionTextIn g rest)) is (c.read_ref_in.ensures.none.0 c.in_default-read_ref_in.is) in
     (none_spelled (versions_grammar c.args.self.now.range) c.args.prefix.now c.args.text.now rest c.in-Some.ensures none, refl)
 
@@ -21,7 +21,7 @@ returns-then-contains_ref c =
     let range = c.args.self.now.range in
     let rest = c.in-Some.rest.now in
     let o = c.in-Some-read_ref_in.version in
-    let is = c.grammar.ensures.grammar ∙ ap (λ (m : Rules). grammar_of m.dialect) c.meaning.ensures in
+    let is = c.grammar.ensures.grammar ∙ ap (λ (m : Rules). grammar_of m.dialect) c.rules.ensures in
     let borrowed = subst (λ (g : Grammar). IsVersionRefIn g rest o) is ((c.read_ref_in.ensures.borrowed o).0 c.in-Some-read_ref_in.is) in
     let spells = subst (λ (g : Grammar). SpellsIn g (version_of o) rest) is c.in-Some-read_ref_in.ensures.version in
     let matches = matched range o _ (spelled_fits (versions_grammar range) (version_of o) rest spells)
@@ -39,7 +39,7 @@ returns-else-contains_ref c =
     let range = c.args.self.now.range in
     let rest = c.in-Some.rest.now in
     let o = c.in-Some-read_ref_in.version in
-    let is = c.grammar.ensures.grammar ∙ ap (λ (m : Rules). grammar_of m.dialect) c.meaning.ensures in
+    let is = c.grammar.ensures.grammar ∙ ap (λ (m : Rules). grammar_of m.dialect) c.rules.ensures in
     let borrowed = subst (λ (g : Grammar). IsVersionRefIn g rest o) is ((c.read_ref_in.ensures.borrowed o).0 c.in-Some-read_ref_in.is) in
     let spells = subst (λ (g : Grammar). SpellsIn g (version_of o) rest) is c.in-Some-read_ref_in.ensures.version in
     let matches = matched range o _ (spelled_fits (versions_grammar range) (version_of o) rest spells)
