@@ -1,7 +1,7 @@
 //! What [`Error`] has in Rust only: the end of the process if memory runs out, and conversions.
 
 use crate::original::{out_of_memory, printed};
-use crate::{lexer, parser, Error, RangeError};
+use crate::{parser, Error};
 use alloc::string::String;
 
 impl Error {
@@ -25,27 +25,11 @@ impl Error {
     }
 }
 
-impl From<RangeError> for Error {
-    /// Converts the error of [`RangeSet::try_parse`](crate::RangeSet::try_parse), which doesn't
-    /// have the string.
-    fn from(error: RangeError) -> Error {
-        Error::from_range_set(error)
-    }
-}
-
 impl From<parser::Error<'_>> for Error {
     /// Converts the error of [`version::parse`](crate::version::parse), which doesn't have the
     /// string.
     fn from(error: parser::Error<'_>) -> Error {
         Error::from_parser(&error)
-    }
-}
-
-impl From<lexer::Error> for Error {
-    /// Converts the error of [`lexer::Lexer`], which doesn't have the string.
-    fn from(error: lexer::Error) -> Error {
-        let lexer::Error::UnexpectedChar(character) = error;
-        Error::from_character(character)
     }
 }
 

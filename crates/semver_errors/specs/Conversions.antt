@@ -1,6 +1,5 @@
 -- The errors of other calls, as errors with their texts.
-use Rattle.std.specs.Prelude.{◌≡◌, ◌++◌, ℕ, IfSome, codes}
-use Rattle.invalid_strings.specs.Escaping.{escaped_character}
+use Rattle.std.specs.Prelude.{◌≡◌, IfSome, codes}
 use Rattle.repaired_strings.specs.Errors.{IsValid}
 use Rattle.repaired_strings.specs.declared.errors.Expected.TheVariants.{Range, Version}
 use Rattle.range_upgrades.specs.declared.upgrade.UpgradeError.{UpgradeError}
@@ -9,6 +8,8 @@ use Rattle.semver_ranges.specs.declared.range_set.RangeError.{RangeError}
 use Rattle.semver_ranges.specs.declared.range_set.RangeError.TheVariants as range
 use Rattle.semver_texts.specs.Texts.{Text}
 use Rattle.semver_tokens.specs.ParserViews.{fixed_text}
+use Rattle.semver_tokens.specs.declared.lexer.Error.{Error as LexerError}
+use Rattle.semver_tokens.specs.declared.lexer.Error.TheVariants.{UnexpectedChar}
 use Rattle.semver_tokens.specs.declared.parser.Error.{Error}
 use Rattle.semver_tokens.specs.declared.parser.Error.TheVariants as parser
 use Rattle.tool_ranges.specs.declared.dialect.Dialect.{Dialect}
@@ -18,6 +19,7 @@ use Rattle.version_sets.specs.declared.set_operations.OperationError.{OperationE
 use Rattle.version_sets.specs.declared.set_operations.OperationError.TheVariants as operation
 use Rattle.semver_errors.specs.ErrorValues.{CannotUpgrade, Converted, DifferentRules, ErrorValue}
 use Rattle.semver_errors.specs.ErrorValues.{IsErrorOf, IsOrOutOfMemory, OutOfMemory}
+use Rattle.semver_errors.specs.ErrorValues.{unexpected_character_text}
 
 -- what the error of a range says about its text: that it is invalid, unless memory ran out
 abbrev pub RejectsRange : Dialect → Text → RangeError → Type 0
@@ -61,11 +63,14 @@ operation_error operation.DifferentDigits = DifferentRules
 operation_error operation.OutOfMemory = OutOfMemory
 
 -- the error of a range of `semver-parser` 0.10, which doesn't have the text
-abbrev pub IsConvertedRange : RangeError → ErrorValue → Type 0
-IsConvertedRange range.NotARange x = IsOrOutOfMemory x (Converted Range (codes "not a range"))
-IsConvertedRange range.NumberTooLarge x =
-    IsOrOutOfMemory x (Converted Range (codes "number too large"))
-IsConvertedRange range.OutOfMemory x = x ≡ OutOfMemory
+abbrev pub converted_range : RangeError → ErrorValue
+converted_range range.NotARange = Converted Range (codes "not a range")
+converted_range range.NumberTooLarge = Converted Range (codes "number too large")
+converted_range range.OutOfMemory = OutOfMemory
+
+-- the error of a character that begins no token of a version
+abbrev pub converted_lexer : LexerError → ErrorValue
+converted_lexer (UnexpectedChar c) = Converted Version (unexpected_character_text c)
 
 -- the error says of a version what the sentence of a parser's error says
 abbrev pub IsSentenceOf : Error → ErrorValue → Type 0
@@ -77,8 +82,3 @@ IsSentenceOf e _ = ⊥
 abbrev pub IsConvertedParser : Error → ErrorValue → Type 0
 IsConvertedParser parser.OutOfMemory x = x ≡ OutOfMemory
 IsConvertedParser e x = IsSentenceOf e x
-
--- the sentence of a lexer's error
-abbrev pub unexpected_character_text : (character : ℕ) → Text
-unexpected_character_text c =
-    codes "unexpected character '" ++ (escaped_character c ++ codes "'")

@@ -1,7 +1,8 @@
 -- What an error says.
-use Rattle.std.specs.Prelude.{◌≡◌, ◌≤◌, ◌⊎◌, ℕ, Option, Some, None, [], string_bytes}
+use Rattle.std.specs.Prelude.{◌≡◌, ◌≤◌, ◌++◌, ◌⊎◌, ℕ, Option, Some, None, [], codes, string_bytes}
 use Rattle.std.specs.Str.{IsCharBoundary}
 use Rattle.semver_texts.specs.Texts.{Text}
+use Rattle.invalid_strings.specs.Escaping.{escaped_character}
 use Rattle.invalid_strings.specs.declared.reasons.Reason.{Reason}
 use Rattle.range_terms.specs.declared.term.Span.{Span}
 use Rattle.repaired_strings.specs.Errors.{IsErrorAt, IsValid}
@@ -36,6 +37,11 @@ pub data ErrorValue : Type 0 where
   -- an allocation failed
   OutOfMemory : ErrorValue
 
+-- the sentence about a character that begins no token of a version
+abbrev pub unexpected_character_text : (character : ℕ) → Text
+unexpected_character_text c =
+    codes "unexpected character '" ++ (escaped_character c ++ codes "'")
+
 -- the value of an error
 abbrev pub value_of : Cause → ErrorValue
 value_of (cause.Invalid e d t offset reason span) =
@@ -44,6 +50,9 @@ value_of (cause.CannotUpgrade t) = CannotUpgrade (string_bytes t)
 value_of (cause.UnknownName name known) = UnknownName (string_bytes name) known.now
 value_of cause.DifferentRules = DifferentRules
 value_of (cause.Converted e sentence) = Converted e (string_bytes sentence)
+value_of (cause.Fixed e sentence) = Converted e sentence.now
+value_of (cause.UnexpectedCharacter c) =
+    Converted expected.Version (unexpected_character_text c)
 value_of cause.OutOfMemory = OutOfMemory
 
 -- the span is between characters of the text

@@ -3,13 +3,13 @@
 ghost use Rattle.std.specs.Prelude.{◌≡◌, IfErr, IfOk, string_bytes};
 ghost use Rattle.std.specs.Fmt.{WritesStyledOnOk};
 ghost use Rattle.repaired_strings.specs.declared.errors.Expected.TheVariants.{Version};
-ghost use Rattle.semver_errors.specs.Conversions.{IsConvertedParser, IsConvertedRange};
+ghost use Rattle.semver_errors.specs.Conversions.{IsConvertedParser};
 ghost use Rattle.semver_errors.specs.Conversions.{IsRangeError, IsSatisfiesError};
 ghost use Rattle.semver_errors.specs.Conversions.{IsUpgradeError, RejectsRange};
 ghost use Rattle.semver_errors.specs.Conversions.{SatisfiesRejects, UpgradeRejects};
-ghost use Rattle.semver_errors.specs.Conversions.{operation_error, unexpected_character_text};
+ghost use Rattle.semver_errors.specs.Conversions.{operation_error};
 ghost use Rattle.semver_errors.specs.ErrorValues as values;
-ghost use Rattle.semver_errors.specs.ErrorValues.{IsOrOutOfMemory};
+ghost use Rattle.semver_errors.specs.ErrorValues.{IsOrOutOfMemory, unexpected_character_text};
 
 use crate::error::{Cause, Error};
 use invalid_strings::escaped::write_character;
@@ -107,20 +107,6 @@ impl Error {
         }
     }
 
-    // Determined by: equation.
-    /// Returns the error of a range that `RangeSet::try_parse` can't read. It doesn't have the
-    /// string.
-    pub fn from_range_set(alloc: Global, error: RangeError) -> Error
-        ensures { IsConvertedRange error result }
-    {
-        let sentence = match error {
-            RangeError::NotARange => String::from_str(alloc, "not a range"),
-            RangeError::NumberTooLarge => String::from_str(alloc, "number too large"),
-            RangeError::OutOfMemory => Err(AllocError),
-        };
-        Error::converted(Expected::Range, sentence)
-    }
-
     // Determined by: free, debug text in some sentences: ../../rust/tests/interface.rs.
     /// Returns the error of a version that `version::parse` can't read. It doesn't have the string.
     pub fn from_parser(alloc: Global, error: &parser::Error<'_>) -> Error
@@ -132,16 +118,13 @@ impl Error {
         }
     }
 
-    // Determined by: equation.
-    /// Returns the error of a character that begins no token of a version.
-    pub fn from_character(alloc: Global, character: char) -> Error
-        ensures { IsOrOutOfMemory result
-            (values.Converted Version (unexpected_character_text character)) }
+    /// Returns an error with a sentence that is always the same one.
+    fn fixed(expected: Expected, sentence: &'static str) -> Error
+        ensures { result ≡ values.Converted expected sentence.now }
     {
-        Error::converted(
-            Expected::Version,
-            format!(in alloc; "{}", UnexpectedCharacter { character }),
-        )
+        Error {
+            cause: Cause::Fixed(expected, sentence),
+        }
     }
 
     /// Returns an error with the sentence of another one, which doesn't have the string.
@@ -159,6 +142,39 @@ impl Error {
     }
 }
 
+// Determined by: equation.
+impl From<RangeError> for Error {
+    ghost use Rattle.std.specs.Prelude.{◌≡◌};
+    ghost use Rattle.semver_errors.specs.Conversions.{converted_range};
+
+    ghost from_gives = { λ error result. result ≡ converted_range error };
+
+    /// Converts the error of `RangeSet::try_parse`, which doesn't have the string.
+    fn from(error: RangeError) -> Error {
+        match error {
+            RangeError::NotARange => Error::fixed(Expected::Range, "not a range"),
+            RangeError::NumberTooLarge => Error::fixed(Expected::Range, "number too large"),
+            RangeError::OutOfMemory => Error::out_of_memory(),
+        }
+    }
+}
+
+// Determined by: equation.
+impl From<lexer::Error> for Error {
+    ghost use Rattle.std.specs.Prelude.{◌≡◌};
+    ghost use Rattle.semver_errors.specs.Conversions.{converted_lexer};
+
+    ghost from_gives = { λ error result. result ≡ converted_lexer error };
+
+    /// Converts the error of `lexer::Lexer`, which doesn't have the string.
+    fn from(error: lexer::Error) -> Error {
+        let lexer::Error::UnexpectedChar(character) = error;
+        Error {
+            cause: Cause::UnexpectedCharacter(character),
+        }
+    }
+}
+
 /// The sentence about a character that begins no token of a version.
 #[derive(Clone, Copy)]
 pub struct UnexpectedCharacter {
@@ -169,13 +185,24 @@ pub struct UnexpectedCharacter {
 // Determined by: equation.
 impl fmt::Display for UnexpectedCharacter {
     ghost use Rattle.std.specs.Prelude.{Some};
-    ghost use Rattle.semver_errors.specs.Conversions.{unexpected_character_text};
+    ghost use Rattle.semver_errors.specs.ErrorValues.{unexpected_character_text};
 
     ghost output = { λ shown. Some (unexpected_character_text shown.character) };
 
     fn fmt<W: fmt::Write>(&self, f: &mut fmt::Formatter<W>) -> fmt::Result {
-        f.write_str("unexpected character '")?;
-        write_character(f, self.character)?;
-        f.write_str("'")
+        write_unexpected(f, self.character)
     }
+}
+
+/// Writes the sentence about a character that begins no token of a version.
+pub(crate) fn write_unexpected<W: fmt::Write>(
+    f: &mut fmt::Formatter<W>,
+    character: char,
+) -> fmt::Result
+    ensures { WritesStyledOnOk W.write_str_gives f.old result
+        (unexpected_character_text character) f.new }
+{
+    f.write_str("unexpected character '")?;
+    write_character(f, character)?;
+    f.write_str("'")
 }

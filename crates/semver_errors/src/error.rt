@@ -91,6 +91,10 @@ pub(crate) enum Cause {
     DifferentRules,
     /// Another error, which doesn't have the string, says so in a sentence.
     Converted(Expected, String),
+    /// The same, in a sentence that is always the same one.
+    Fixed(Expected, &'static str),
+    /// This character begins no token of a version.
+    UnexpectedCharacter(char),
     /// An allocation failed.
     OutOfMemory,
 }
@@ -115,6 +119,8 @@ impl Error {
             Cause::UnknownName(_, _) => Kind::UnknownName,
             Cause::DifferentRules => Kind::DifferentRules,
             Cause::Converted(expected, _) => invalid_kind(expected),
+            Cause::Fixed(expected, _) => invalid_kind(expected),
+            Cause::UnexpectedCharacter(_) => Kind::InvalidVersion,
             Cause::OutOfMemory => Kind::OutOfMemory,
         }
     }

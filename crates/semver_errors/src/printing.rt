@@ -7,6 +7,7 @@ ghost use Rattle.semver_errors.specs.ErrorTexts.{caret_line, kind_text, line_of,
 ghost use Rattle.semver_errors.specs.ErrorTexts.{marked_text, reason_lines};
 ghost use Rattle.semver_errors.specs.ErrorValues.{HasSpan, IsBetweenCharacters, place_of, value_of};
 
+use crate::conversions::write_unexpected;
 use crate::error::{Cause, Error, Kind, invalid_kind};
 use invalid_strings::escaped::{Escaped, write_escaped, write_marks};
 use invalid_strings::reasons::Reason;
@@ -119,6 +120,16 @@ fn write_without_place<W: fmt::Write>(f: &mut fmt::Formatter<W>, cause: &Cause) 
             f.write_str(kind_text(invalid_kind(*expected)))?;
             f.write_str(": ")?;
             f.write_str(sentence.as_str())
+        }
+        Cause::Fixed(expected, sentence) => {
+            f.write_str(kind_text(invalid_kind(*expected)))?;
+            f.write_str(": ")?;
+            f.write_str(sentence)
+        }
+        Cause::UnexpectedCharacter(character) => {
+            f.write_str(kind_text(Kind::InvalidVersion))?;
+            f.write_str(": ")?;
+            write_unexpected(f, *character)
         }
         Cause::OutOfMemory => f.write_str(kind_text(Kind::OutOfMemory)),
     }

@@ -78,17 +78,6 @@ impl Error {
         }
     }
 
-    /// Returns the error of a range that `RangeSet::try_parse` can't read. It doesn't have the
-    /// string.
-    pub(crate) fn from_range_set(error: RangeError) -> Error {
-        let sentence = match error {
-            RangeError::NotARange => String::fallible_from_str("not a range"),
-            RangeError::NumberTooLarge => String::fallible_from_str("number too large"),
-            RangeError::OutOfMemory => Err(AllocError),
-        };
-        Error::converted(Expected::Range, sentence)
-    }
-
     /// Returns the error of a version that `version::parse` can't read. It doesn't have the string.
     pub(crate) fn from_parser(error: &parser::Error<'_>) -> Error {
         match error {
@@ -97,12 +86,11 @@ impl Error {
         }
     }
 
-    /// Returns the error of a character that begins no token of a version.
-    pub(crate) fn from_character(character: char) -> Error {
-        Error::converted(
-            Expected::Version,
-            crate::rattle_std::fallible_format!("{}", UnexpectedCharacter { character }),
-        )
+    /// Returns an error with a sentence that is always the same one.
+    fn fixed(expected: Expected, sentence: &'static str) -> Error {
+        Error {
+            cause: Cause::Fixed(expected, sentence),
+        }
     }
 
     /// Returns an error with the sentence of another one, which doesn't have the string.
@@ -116,6 +104,27 @@ impl Error {
     }
 }
 
+impl From<RangeError> for Error {
+    /// Converts the error of `RangeSet::try_parse`, which doesn't have the string.
+    fn from(error: RangeError) -> Error {
+        match error {
+            RangeError::NotARange => Error::fixed(Expected::Range, "not a range"),
+            RangeError::NumberTooLarge => Error::fixed(Expected::Range, "number too large"),
+            RangeError::OutOfMemory => Error::out_of_memory(),
+        }
+    }
+}
+
+impl From<lexer::Error> for Error {
+    /// Converts the error of `lexer::Lexer`, which doesn't have the string.
+    fn from(error: lexer::Error) -> Error {
+        let lexer::Error::UnexpectedChar(character) = error;
+        Error {
+            cause: Cause::UnexpectedCharacter(character),
+        }
+    }
+}
+
 /// The sentence about a character that begins no token of a version.
 #[derive(Clone, Copy)]
 pub struct UnexpectedCharacter {
@@ -125,8 +134,16 @@ pub struct UnexpectedCharacter {
 
 impl fmt::Display for UnexpectedCharacter {
     fn fmt(&self, f: &mut fmt::Formatter<'_>) -> fmt::Result {
-        f.write_str("unexpected character '")?;
-        write_character(f, self.character)?;
-        f.write_str("'")
+        write_unexpected(f, self.character)
     }
+}
+
+/// Writes the sentence about a character that begins no token of a version.
+pub(crate) fn write_unexpected(
+    f: &mut fmt::Formatter<'_>,
+    character: char,
+) -> fmt::Result {
+    f.write_str("unexpected character '")?;
+    write_character(f, character)?;
+    f.write_str("'")
 }

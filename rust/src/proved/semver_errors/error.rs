@@ -94,6 +94,10 @@ pub(crate) enum Cause {
     DifferentRules,
     /// Another error, which doesn't have the string, says so in a sentence.
     Converted(Expected, String),
+    /// The same, in a sentence that is always the same one.
+    Fixed(Expected, &'static str),
+    /// This character begins no token of a version.
+    UnexpectedCharacter(char),
     /// An allocation failed.
     OutOfMemory,
 }
@@ -106,6 +110,8 @@ impl crate::rattle_std::FallibleClone for Cause {
             Cause::UnknownName(_0, _1) => Ok(Cause::UnknownName(_0.fallible_clone()?, *_1)),
             Cause::DifferentRules => Ok(Cause::DifferentRules),
             Cause::Converted(_0, _1) => Ok(Cause::Converted(*_0, _1.fallible_clone()?)),
+            Cause::Fixed(_0, _1) => Ok(Cause::Fixed(*_0, *_1)),
+            Cause::UnexpectedCharacter(_0) => Ok(Cause::UnexpectedCharacter(*_0)),
             Cause::OutOfMemory => Ok(Cause::OutOfMemory),
         }
     }
@@ -128,6 +134,8 @@ impl Error {
             Cause::UnknownName(_, _) => Kind::UnknownName,
             Cause::DifferentRules => Kind::DifferentRules,
             Cause::Converted(expected, _) => invalid_kind(expected),
+            Cause::Fixed(expected, _) => invalid_kind(expected),
+            Cause::UnexpectedCharacter(_) => Kind::InvalidVersion,
             Cause::OutOfMemory => Kind::OutOfMemory,
         }
     }

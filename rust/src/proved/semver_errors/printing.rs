@@ -2,6 +2,7 @@
 //! What an error prints.
 
 use crate::rattle_std::prelude::*;
+use crate::proved::semver_errors::conversions::write_unexpected;
 use crate::proved::semver_errors::error::{Cause, Error, Kind, invalid_kind};
 use crate::proved::invalid_strings::escaped::{Escaped, write_escaped, write_marks};
 use crate::proved::invalid_strings::reasons::Reason;
@@ -90,6 +91,16 @@ fn write_without_place(f: &mut fmt::Formatter<'_>, cause: &Cause) -> fmt::Result
             f.write_str(kind_text(invalid_kind(*expected)))?;
             f.write_str(": ")?;
             f.write_str(sentence.as_str())
+        }
+        Cause::Fixed(expected, sentence) => {
+            f.write_str(kind_text(invalid_kind(*expected)))?;
+            f.write_str(": ")?;
+            f.write_str(sentence)
+        }
+        Cause::UnexpectedCharacter(character) => {
+            f.write_str(kind_text(Kind::InvalidVersion))?;
+            f.write_str(": ")?;
+            write_unexpected(f, *character)
         }
         Cause::OutOfMemory => f.write_str(kind_text(Kind::OutOfMemory)),
     }

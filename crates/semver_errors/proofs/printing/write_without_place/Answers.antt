@@ -24,3 +24,21 @@ returns-in_ok-write_str-in-Converted-2 g c = λ none flush ok.
     let all = has_written_styled_append _ _ _ _ _ _ kind (has_written_styled_append _ _ _ _ _ _ colon rest) in
     let told = rw (c.kind_text-in-Converted.ensures, c.invalid_kind.ensures, c.as_str-in-Converted.ensures.value) at all in
     has_written_styled_of_eq _ _ _ _ _ (ap (λ x. line_of (value_of x)) (sym c.in-Converted.is)) told
+
+pub returns-in_ok-write_str-in-Fixed-2 : goal.returns-in_ok-write_str-in-Fixed-2
+returns-in_ok-write_str-in-Fixed-2 g c = λ none flush ok.
+    let kind = c.in_ok-write_str-in-Fixed.ensures.styled flush refl in
+    let colon = c.in_ok-write_str-in-Fixed-2.ensures.styled kind.flush refl in
+    let rest = c.write_str-in-Fixed-3.ensures.styled colon.flush ok in
+    let all = has_written_styled_append _ _ _ _ _ _ kind (has_written_styled_append _ _ _ _ _ _ colon rest) in
+    let told = rw (c.kind_text-in-Fixed.ensures, c.invalid_kind-in-Fixed.ensures) at all in
+    has_written_styled_of_eq _ _ _ _ _ (ap (λ x. line_of (value_of x)) (sym c.in-Fixed.is)) told
+
+pub returns-in_ok-write_str-in-UnexpectedCharacter-2 : goal.returns-in_ok-write_str-in-UnexpectedCharacter-2
+returns-in_ok-write_str-in-UnexpectedCharacter-2 g c = λ none flush ok.
+    let kind = c.in_ok-write_str-in-UnexpectedCharacter.ensures.styled flush refl in
+    let colon = c.in_ok-write_str-in-UnexpectedCharacter-2.ensures.styled kind.flush refl in
+    let rest = c.write_unexpected.ensures colon.flush ok in
+    let all = has_written_styled_append _ _ _ _ _ _ kind (has_written_styled_append _ _ _ _ _ _ colon rest) in
+    let told = rw c.kind_text-in-UnexpectedCharacter.ensures at all in
+    has_written_styled_of_eq _ _ _ _ _ (ap (λ x. line_of (value_of x)) (sym c.in-UnexpectedCharacter.is)) told
