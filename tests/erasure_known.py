@@ -65,7 +65,7 @@ IMPLEMENTATIONS = {
 
 # The functions of the traits of std that the sources implement, and the types that implement
 # `Write`: Rust may pass a text on in other pieces than Rattle.
-TRAITS = {'Debug': {'fmt'}, 'Display': {'fmt'}, 'Eq': set(),
+TRAITS = {'Debug': {'fmt'}, 'Default': {'default'}, 'Display': {'fmt'}, 'Eq': set(),
           'From': {'from'}, 'Hash': {'hash'}, 'Iterator': {'next'}, 'Model': set(),
           'Ord': {'cmp'}, 'PartialEq': {'eq'}, 'PartialOrd': {'partial_cmp'},
           'Write': {'flush', 'write', 'write_str'}}

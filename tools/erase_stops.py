@@ -18,16 +18,16 @@ SLICE = ['&', "'a", '[', 'T', ']']
 # Words that have no meaning in Rust: none may be left.
 LEFT = set('ghost requires ensures tactic alloc _alloc Global Model unsafe Drop prove laws'.split())
 # Words of Rust that no source needs.
-UNKNOWN = set("""async await box default do dyn extern f32 f64 final gen i128 i16 i64 i8 isize
+UNKNOWN = set("""async await box do dyn extern f32 f64 final gen i128 i16 i64 i8 isize
     macro macro_rules move raw ref static try u16 where yield""".split())
 PRIMITIVES = set('bool char i32 str u8 u16 u32 u64 u128 usize'.split())
 # Casts to these types lose nothing, wherever they are: Rattle proves that the value fits.
 CAST_TO = {'u8', 'u32', 'u64'}
 # The functions of the traits of std that the sources implement. `Write` only for these types: Rust
 # may pass a text on in other pieces than Rattle.
-TRAITS = {'Debug': {'fmt'}, 'Display': {'fmt'}, 'Eq': set(), 'From': {'from'},
-          'Hash': {'hash'}, 'Iterator': {'next'}, 'Ord': {'cmp'}, 'PartialEq': {'eq'},
-          'PartialOrd': {'partial_cmp'},
+TRAITS = {'Debug': {'fmt'}, 'Default': {'default'}, 'Display': {'fmt'}, 'Eq': set(),
+          'From': {'from'}, 'Hash': {'hash'}, 'Iterator': {'next'}, 'Ord': {'cmp'},
+          'PartialEq': {'eq'}, 'PartialOrd': {'partial_cmp'},
           'Write': {'flush', 'write', 'write_str'}, 'Model': set()}
 WRITERS = {'Checksum', 'Fixed', 'Limited'}
 # Formats of a value in a text. Files with `{:?}`, which prints a text otherwise than in Rattle: the

@@ -35,13 +35,6 @@ impl Dialect {
     }
 }
 
-impl Default for PreReleases {
-    /// Returns [`PreReleases::ByDialect`].
-    fn default() -> PreReleases {
-        PreReleases::ByDialect
-    }
-}
-
 impl FromStr for Dialect {
     type Err = Error;
 

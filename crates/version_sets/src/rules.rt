@@ -30,6 +30,18 @@ pub enum PreReleases {
     Included,
 }
 
+impl Default for PreReleases {
+    ghost use Rattle.std.specs.Prelude.{◌≡◌};
+    ghost use Rattle.version_sets.specs.declared.rules.PreReleases.TheVariants.{ByDialect};
+
+    ghost is_default = { λ rule. rule ≡ ByDialect };
+
+    /// Returns [`PreReleases::ByDialect`].
+    fn default() -> PreReleases {
+        PreReleases::ByDialect
+    }
+}
+
 impl PreReleases {
     // Determined by: equation.
     /// Returns the number of the rule in C, Python and JavaScript.

@@ -28,6 +28,13 @@ pub enum PreReleases {
     Included,
 }
 
+impl Default for PreReleases {
+    /// Returns [`PreReleases::ByDialect`].
+    fn default() -> PreReleases {
+        PreReleases::ByDialect
+    }
+}
+
 impl PreReleases {
     /// Returns the number of the rule in C, Python and JavaScript.
     #[must_use]
