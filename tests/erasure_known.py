@@ -20,7 +20,7 @@ IMPORTS = set('''
     std::fmt::Display std::fmt::Formatter std::fmt::Write std::fs std::hash::Hash
     std::hash::Hasher std::io std::io::BufRead
     std::io::BufReader std::io::BufWriter std::io::ErrorKind std::io::IsTerminal std::io::Read
-    std::io::Write std::marker::Model std::mem std::process::ExitCode
+    std::io::Write std::marker::Model std::mem std::ops::Range std::process::ExitCode
     std::rt::Env thiserror::Error
 '''.split())
 

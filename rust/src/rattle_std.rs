@@ -4,7 +4,7 @@
 //! `try_reserve`.
 
 pub use alloc::vec;
-pub use core::{cmp, fmt, hash, mem, str};
+pub use core::{cmp, fmt, hash, mem, ops, str};
 #[cfg(feature = "std")]
 pub use std::{error::Error, process};
 

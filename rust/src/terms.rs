@@ -31,20 +31,6 @@ pub fn terms(range: &str, dialect: Dialect) -> Result<Terms<'_>, Error> {
 
 impl FusedIterator for Terms<'_> {}
 
-impl Span {
-    /// Returns the span as a range of indices: `&string[span.range()]` is the part of the string.
-    ///
-    /// ```
-    /// use semver_parser::Span;
-    ///
-    /// assert_eq!(&"^1.2"[Span { start: 1, end: 4 }.range()], "1.2");
-    /// ```
-    #[must_use]
-    pub fn range(self) -> Range<usize> {
-        self.start..self.end
-    }
-}
-
 impl From<Span> for Range<usize> {
     fn from(span: Span) -> Range<usize> {
         span.range()

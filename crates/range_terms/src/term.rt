@@ -9,6 +9,7 @@ ghost use Rattle.range_terms.specs.WrittenTexts.{dot_text, part_text};
 use semver_ranges::operator::Operator;
 use semver_versions::version::VersionRef;
 use std::fmt;
+use std::ops::Range;
 
 /// A part of a partial version.
 ///
@@ -63,6 +64,24 @@ pub struct Span {
     pub start: usize,
     /// The offset of the byte after it.
     pub end: usize,
+}
+
+impl Span {
+    // Determined by: equation.
+    /// Returns the span as a range of indices: `&string[span.range()]` is the part of the string.
+    ///
+    /// ```
+    /// use semver_parser::Span;
+    ///
+    /// assert_eq!(&"^1.2"[Span { start: 1, end: 4 }.range()], "1.2");
+    /// ```
+    #[must_use]
+    pub fn range(self) -> Range<usize>
+        ensures start { result.start ≡ self.start }
+        ensures end { result.end ≡ self.end }
+    {
+        self.start..self.end
+    }
 }
 
 /// The version of a term, with one to three components.

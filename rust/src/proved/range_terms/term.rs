@@ -5,6 +5,7 @@ use crate::rattle_std::prelude::*;
 use crate::proved::semver_ranges::operator::Operator;
 use crate::proved::semver_versions::version::VersionRef;
 use crate::rattle_std::fmt;
+use crate::rattle_std::ops::Range;
 
 /// A part of a partial version.
 ///
@@ -53,6 +54,20 @@ pub struct Span {
     pub start: usize,
     /// The offset of the byte after it.
     pub end: usize,
+}
+
+impl Span {
+    /// Returns the span as a range of indices: `&string[span.range()]` is the part of the string.
+    ///
+    /// ```
+    /// use semver_parser::Span;
+    ///
+    /// assert_eq!(&"^1.2"[Span { start: 1, end: 4 }.range()], "1.2");
+    /// ```
+    #[must_use]
+    pub fn range(self) -> Range<usize> {
+        self.start..self.end
+    }
 }
 
 /// The version of a term, with one to three components.
