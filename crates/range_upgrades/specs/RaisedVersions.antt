@@ -43,7 +43,7 @@ takes_three dialect Tilde written = is_some written.minor
 takes_three dialect Bare written = is_cargo dialect
 takes_three dialect _ written = false
 
--- whether a term means the same if its version has three numbers instead of fewer
+-- whether a term with fewer than three numbers may have three of them when it is raised
 abbrev pub has_full_form : Dialect → Operator → WrittenVersion → Bool
 has_full_form dialect operator written =
     not (has_wildcard written) && takes_three dialect operator written

@@ -15,7 +15,7 @@ use crate::term::RawTerm;
 use semver_texts::dotted::strip_mark;
 use semver_texts::grammar::Grammar;
 
-/// The next part of a range string.
+/// The next part of a range string, as it is written.
 #[derive(Clone, Copy)]
 pub enum Event<'text> {
     /// A term of the range.

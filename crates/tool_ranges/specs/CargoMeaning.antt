@@ -48,8 +48,8 @@ abbrev pub is_below_some : PreReleases → List ℕ → PlainVersion → PlainVe
 is_below_some Included s z v = is_lt (precedence v z)
 is_below_some _ s z v = is_lt (against s v)
 
--- whether a version satisfies a comparator with one or two stated numbers. No comparator has
--- `before_hyphen`, since Cargo has no hyphen ranges
+-- whether a version satisfies a comparator with one or two stated numbers. No comparator has the
+-- operator `Hyphen`, since Cargo has no hyphen ranges
 abbrev pub meets_some_stated : PreReleases → Operator → List ℕ → PlainVersion → PlainVersion → Bool
 meets_some_stated rule Less s z v = is_below_some rule s z v
 meets_some_stated rule Greater s z v = is_gt (against s v)

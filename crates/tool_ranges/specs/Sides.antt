@@ -43,7 +43,7 @@ abbrev pub block_ends : List ℕ → SideValue
 block_ends (a ∷ b ∷ c ∷ rest) = past
 block_ends s = above (length s)
 
--- the sides if nothing is stated; in Cargo's dialect there is no operator then
+-- the sides if nothing is stated; in Cargo's dialect no operator is written then
 abbrev pub sides_of_nothing : Dialect → Operator → SideValue → Option SideValue × Option SideValue
 sides_of_nothing Cargo operator first = (Some first, None)
 sides_of_nothing dialect Less first = (None, Some first)

@@ -93,7 +93,7 @@ pub(crate) fn check(range: &str, dialect: Dialect) -> Result<(), RangeError>
 }
 
 /// Checks the rest of a range string, where `fit` says whether the terms before it fit. Returns
-/// whether nothing is left.
+/// whether there was nothing to check.
 #[inline(always)]
 fn survey(events: &mut Events<'_>, fit: bool, dialect: Dialect) -> Result<bool, RangeError>
     ensures { (o : Option (List SomeEvent)) → HasLeft (grammar_of dialect) events.old o

@@ -1,5 +1,5 @@
-//! Ranges as Cargo and npm themselves read them, which differs from the two modes of the crate
-//! `semver-parser`.
+//! Ranges as Cargo and npm themselves read them, and as the two modes of the crate `semver-parser`
+//! do, which differs from both.
 #![tactic(auto)]
 
 pub mod at_or_above;

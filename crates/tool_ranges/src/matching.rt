@@ -1,4 +1,4 @@
-//! Decides whether a string is a range, and whether a version satisfies it. Nothing here allocates.
+//! Decides whether a version satisfies a range string. Nothing here allocates.
 
 ghost use Rattle.std.specs.Prelude.{◌≡◌, ◌≢◌, ◌&&◌, ◌||◌, not, true, if◌then◌else◌, Err, IfOk};
 ghost use Rattle.std.specs.Prelude.{Bool, MatchResult};

@@ -1,4 +1,4 @@
-//! A range text as plain comparators with exact bounds: those of the intervals of its terms.
+//! A range string as plain comparators with exact bounds: those of the intervals of its terms.
 
 ghost use Rattle.std.specs.Prelude.{◌≡◌, ◌++◌, ◌^◌, ◌-◌, Some, IfOk, map, true};
 ghost use Rattle.semver_texts.specs.Texts.{Text};
@@ -28,7 +28,7 @@ use semver_ranges::{Comparator, Compat, Op, Range, RangeError, RangeSet};
 use std::alloc::{AllocError, Global};
 use version_sets::{PreReleases, Release, Side};
 
-/// Rewrites a range into plain comparators. The text is checked first, so that an invalid one
+/// Rewrites a range into plain comparators. The string is checked first, so that an invalid one
 /// doesn't allocate.
 #[inline(always)]
 pub(crate) fn rewrite(
@@ -48,7 +48,7 @@ pub(crate) fn rewrite(
     }
 }
 
-/// Returns the ranges of a text that was checked. `Err` is out of memory.
+/// Returns the ranges of a string that was checked. `Err` means out of memory.
 #[inline(always)]
 fn ranges(
     alloc: Global,

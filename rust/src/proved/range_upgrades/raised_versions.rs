@@ -36,7 +36,7 @@ pub(crate) fn raised_version<'v>(
     Some(written.with_version(version))
 }
 
-/// Returns whether a term means the same if its version has three numbers instead of fewer.
+/// Returns whether a term with fewer than three numbers may have three of them when it is raised.
 fn has_full_form(dialect: Dialect, operator: Operator, written: &PartialVersion<'_>) -> bool {
     if has_wildcard(written) {
         return false;

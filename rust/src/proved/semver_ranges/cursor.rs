@@ -12,7 +12,7 @@ use crate::proved::semver_ranges::term::RawTerm;
 use crate::proved::semver_texts::dotted::strip_mark;
 use crate::proved::semver_texts::grammar::Grammar;
 
-/// The next part of a range string.
+/// The next part of a range string, as it is written.
 #[derive(Clone, Copy)]
 pub enum Event<'text> {
     /// A term of the range.

@@ -1,5 +1,5 @@
 // Made by tools/erase.py from crates/tool_ranges/src/matching.rt; not edited by hand.
-//! Decides whether a string is a range, and whether a version satisfies it. Nothing here allocates.
+//! Decides whether a version satisfies a range string. Nothing here allocates.
 
 use crate::rattle_std::prelude::*;
 use crate::proved::tool_ranges::dialect::Dialect;

@@ -1,6 +1,6 @@
 // Made by tools/erase.py from crates/tool_ranges/src/lib.rt; not edited by hand.
-//! Ranges as Cargo and npm themselves read them, which differs from the two modes of the crate
-//! `semver-parser`.
+//! Ranges as Cargo and npm themselves read them, and as the two modes of the crate `semver-parser`
+//! do, which differs from both.
 
 use crate::rattle_std::prelude::*;
 pub mod at_or_above;

@@ -12,8 +12,8 @@ use crate::proved::version_sets::PreReleases;
 ///
 /// The string is one or more ranges separated by `||`. The page `docs::grammar` has the grammar,
 /// and `docs::meaning` defines which versions satisfy each range in npm. The result has the ranges
-/// in the order of the string, in Npm mode. A range with which npm matches everything, such as `*`,
-/// becomes `>=0.0.0`.
+/// in the order of the string, in Npm mode. Each term of a range with which npm matches everything,
+/// such as `*`, becomes `>=0.0.0`.
 ///
 /// `>1.2` gives `>=1.3.0`, `<2` gives `<2.0.0-0`, `v1.2.3` gives `=1.2.3`, and `^1.2 || 3.x` gives
 /// `>=1.2.0 <2.0.0-0 || >=3.0.0 <4.0.0-0`.
@@ -44,7 +44,7 @@ pub fn rewrite(range: &str) -> Result<RangeSet, RangeError> {
 ///
 /// A version satisfies the result, compared by precedence, if and only if it satisfies the range
 /// and pre-releases are included. The result has the ranges in the order of the string, in Npm
-/// mode, and is `>=0.0.0-0` if npm matches everything.
+/// mode. `*` becomes `>=0.0.0-0`.
 ///
 /// # Errors
 ///

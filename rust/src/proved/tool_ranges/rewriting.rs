@@ -1,5 +1,5 @@
 // Made by tools/erase.py from crates/tool_ranges/src/rewriting.rt; not edited by hand.
-//! A range text as plain comparators with exact bounds: those of the intervals of its terms.
+//! A range string as plain comparators with exact bounds: those of the intervals of its terms.
 
 use crate::rattle_std::prelude::*;
 use crate::proved::tool_ranges::checked::Checked;
@@ -12,7 +12,7 @@ use crate::proved::semver_ranges::{Comparator, Compat, Op, Range, RangeError, Ra
 use crate::rattle_std::AllocError;
 use crate::proved::version_sets::{PreReleases, Release, Side};
 
-/// Rewrites a range into plain comparators. The text is checked first, so that an invalid one
+/// Rewrites a range into plain comparators. The string is checked first, so that an invalid one
 /// doesn't allocate.
 #[inline(always)]
 pub(crate) fn rewrite(
@@ -28,7 +28,7 @@ pub(crate) fn rewrite(
     }
 }
 
-/// Returns the ranges of a text that was checked. `Err` is out of memory.
+/// Returns the ranges of a string that was checked. `Err` means out of memory.
 #[inline(always)]
 fn ranges(
     mut checked: Checked<'_>,

@@ -1,11 +1,13 @@
 // Made by tools/erase.py from crates/tool_ranges/src/table.rt; not edited by hand.
 //! The table with the interval of each term, in each dialect.
 //!
-//! The numbers of a term have a block of versions: all versions with these numbers. `<` contains
-//! the versions below the block, and `<=` those that aren't above it. `>=` contains the versions
-//! that aren't below it, and `>` those above it. `=` contains the block itself. `~` and `^` contain
-//! the versions from the beginning of the block to the end of a larger block, that of fewer
-//! numbers.
+//! The numbers of a term have a block of versions: if there are one or two, all versions with these
+//! numbers, and if there are three, only that version. `<` contains the versions below the block,
+//! and `<=` those that aren't above it. `>=`, and the left side of a hyphen range, contain the
+//! versions that aren't below it. `>` contains those above it, or in the dialects of the crate those
+//! above its first version. `=` contains the block itself. `~` and `^` contain the versions from the
+//! beginning of the block to the last one that begins with the same one, two or three numbers. A
+//! term without an operator is read like `=` or like `^`.
 
 use crate::rattle_std::prelude::*;
 use crate::proved::tool_ranges::dialect::Dialect;
@@ -93,8 +95,8 @@ fn sides_beside(simple: &Simple<'_>) -> (Option<Side>, Option<Side>) {
 
 /// Returns the interval for pre-releases by default in npm's dialect. It begins at the version of
 /// the term, or at the release that is raised above it, even if the interval for all versions
-/// begins below all pre-releases of these numbers. If that version is 0.0.0, there is no lower
-/// bound, except for `=0.0.0`.
+/// begins below all pre-releases of these numbers. If it begins at 0.0.0, there is no lower bound,
+/// except for `=0.0.0`.
 #[inline(always)]
 fn from_release<'t>(simple: &Simple<'t>) -> Interval<'t> {
     let (lower, upper) = sides(simple, Dialect::Npm);
@@ -288,7 +290,8 @@ pub(crate) fn sides(simple: &Simple<'_>, dialect: Dialect) -> (Option<Side>, Opt
     }
 }
 
-/// Returns the sides for a term without a number. In Cargo's dialect such a term has no operator.
+/// Returns the sides for a term without a number. In Cargo's dialect such a term is written without
+/// an operator.
 #[inline(always)]
 fn sides_of_nothing(
     operator: Operator,
