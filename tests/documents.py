@@ -480,7 +480,7 @@ EDITS = [
     ('rust/docs/MEANING.md', '## Terms', '## Words'),
     ('docs/ERASURE.md', 'tests/erased.py', 'tests/erases.py'),
     ('rust/src/terms.rs', 'use crate::', 'use core::fmt;\nuse crate::'),
-    ('docs/ERASURE.md', 'these are 437 lines', 'these are 438 lines'),
+    ('docs/ERASURE.md', f'these are {MOST_BY_HAND} lines', f'these are {MOST_BY_HAND + 1} lines'),
     ('rust/docs/MEANING.md', ': RANGES.md#pre-releases', ': RANGES.md#prereleases'),
     ('rust/docs/MEANING.md', '][written terms]', '][terms as written]'),
     ('docs/manual/release-filter.1.md', '](../../rust/docs/RANGES.md)', '](../../rust/docs/RANGE.md)'),
