@@ -16,8 +16,8 @@ use Rattle.command_line.specs.declared.error.ArgumentError.{ArgumentError}
 use Rattle.command_line.specs.declared.error.ArgumentError.TheVariants.{NoDialect}
 use Rattle.command_line.specs.declared.error.ArgumentError.TheVariants.{GivenTwice, Contradiction}
 use Rattle.command_line.specs.declared.error.ArgumentError.TheVariants.{UnknownDialect, OutOfMemory}
-use Rattle.command_line.specs.declared.error.ArgumentError.TheVariants.{NeedlessValue, UnknownOption}
-use Rattle.command_line.specs.declared.error.ArgumentError.TheVariants.{NotUtf8}
+use Rattle.command_line.specs.declared.error.ArgumentError.TheVariants.{NeedlessValue, NotUtf8}
+use Rattle.command_line.specs.declared.error.ArgumentError.TheVariants.{UnknownOption}
 
 -- the options that were taken: the dialect and the rule for pre-releases, each with the option that
 -- requested it, and whether the next argument is the name of the dialect

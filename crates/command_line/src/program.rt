@@ -77,7 +77,8 @@ impl Program {
     }
 
     // Determined by: equation.
-    /// Writes the error of an invalid version, with the string and the offset, and returns status 2.
+    /// Writes the error of an invalid version, with the string and the offset, and returns status
+    /// 2.
     pub fn refuse_version(self, rt: &HostRuntime, dialect: Dialect, version: &str) -> ExitCode
         ensures status { exit_status result ≡ 2 }
     {

@@ -5,8 +5,8 @@ use Rattle.semver_texts.specs.declared.grammar.Grammar.TheVariants as grammar
 use Rattle.semver_ranges.specs.Partials.{states_nothing}
 use Rattle.semver_ranges.specs.declared.operator.Operator.{Operator}
 use Rattle.semver_ranges.specs.declared.operator.Operator.TheVariants.{Bare, Hyphen}
-use Rattle.semver_ranges.specs.RangeTree.{PartialTree, Role, SpellsPartial, SpellsWord, after_operator}
-use Rattle.semver_ranges.specs.RangeTree.{after_hyphen}
+use Rattle.semver_ranges.specs.RangeTree.{PartialTree, Role, SpellsPartial, SpellsWord}
+use Rattle.semver_ranges.specs.RangeTree.{after_hyphen, after_operator}
 use Rattle.semver_ranges.specs.CargoGrammar.{is_partial_of_cargo}
 use Rattle.tool_ranges.specs.Dialects.{IsTextAs}
 use Rattle.tool_ranges.specs.declared.dialect.Dialect.{Dialect}

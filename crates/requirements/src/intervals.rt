@@ -114,8 +114,8 @@ fn have_same_numbers(one: &Comparator, other: &Comparator) -> bool {
     one.major == other.major && one.minor == other.minor && one.patch == other.patch
 }
 
-/// Returns the intervals of pre-releases, each with those bounds of the interval of releases with the
-/// same index that are at another place.
+/// Returns the intervals of pre-releases, each with those bounds of the interval of releases with
+/// the same index that are at another place.
 pub(crate) fn paired<'set>(
     alloc: Global,
     releases: &'set [Range],

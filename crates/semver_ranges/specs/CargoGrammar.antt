@@ -44,8 +44,8 @@ is_accepted s = is_partial_of_cargo s.partial && (is_every s || not (states_noth
 abbrev pub is_of_cargo : Simple → Bool
 is_of_cargo s = is_of_term s.operator && is_accepted s
 
--- a comparator's text: the sign of its operator and its partial version, with any number of spaces before, between
--- and after them
+-- a comparator's text: the sign of its operator and its partial version, with any number of spaces
+-- before, between and after them
 pub record SpellsComparator (s : Simple) (t : Text) : Type 0 where
   pub before : Text
   pub gap : Text

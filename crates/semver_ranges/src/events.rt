@@ -8,7 +8,8 @@ ghost use Rattle.semver_ranges.specs.Steps.PartialViews.{IsPartialOf};
 ghost use Rattle.semver_ranges.specs.Steps.RangeEvents as list;
 ghost use Rattle.semver_ranges.specs.Steps.RangeEvents.{yielded_sides};
 ghost use Rattle.semver_ranges.specs.TextItems.{FoundTerm, Item};
-ghost use Rattle.semver_ranges.specs.Steps.Items.{IsItemOf, IsTermOf, IsViewOf, is_term, simples_of};
+ghost use Rattle.semver_ranges.specs.Steps.Items.{IsItemOf, IsTermOf, IsViewOf, is_term};
+ghost use Rattle.semver_ranges.specs.Steps.Items.{simples_of};
 ghost use Rattle.semver_ranges.specs.Steps.CursorViews.{AreSides, Gives, HasLeft, IsBegunIn};
 ghost use Rattle.semver_ranges.specs.Steps.CursorViews.{IsSimpleOf};
 ghost use Rattle.semver_ranges.specs.Steps.CursorViews.{size_left};
@@ -24,8 +25,8 @@ use semver_texts::grammar::Grammar;
 /// The next part of a range string, in plain terms.
 #[derive(Clone, Copy)]
 pub enum Event<'input> {
-    /// A term of the range. An empty range gives a bare wildcard. A hyphen range gives its left side,
-    /// and `<=` its right side; a side without a number is left out, if the other one has one.
+    /// A term of the range. An empty range gives a bare wildcard. A hyphen range gives its left
+    /// side, and `<=` its right side. A side without a number is left out if the other one has one.
     Simple(Simple<'input>),
     /// Two bars, after which the next range begins.
     NextRange,
@@ -122,8 +123,8 @@ fn hyphen_sides<'input>(
     left: Simple<'input>,
     right: Partial<'input>,
 ) -> (Simple<'input>, Option<Simple<'input>>)
-    ensures { (s : SimpleTree) (r : PartialTree) → IsSimpleOf s left.entry → IsPartialOf r right.entry
-        → AreSides (yielded_sides s r) result.0 result.1 }
+    ensures { (s : SimpleTree) (r : PartialTree) → IsSimpleOf s left.entry
+        → IsPartialOf r right.entry → AreSides (yielded_sides s r) result.0 result.1 }
 {
     let upper = Simple {
         operator: Operator::LessOrEqual,

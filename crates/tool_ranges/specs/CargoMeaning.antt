@@ -65,7 +65,8 @@ abbrev pub meets_by_count : PreReleases → Operator → List ℕ → PlainVersi
 meets_by_count rule operator [] z v = is_one rule v
 meets_by_count rule operator (a ∷ []) z v = meets_some_stated rule operator (a ∷ []) z v
 meets_by_count rule operator (a ∷ b ∷ []) z v = meets_some_stated rule operator (a ∷ b ∷ []) z v
-meets_by_count rule operator (a ∷ b ∷ c ∷ rest) z v = meets_operator Cargo operator (a ∷ b ∷ c ∷ rest) z v
+meets_by_count rule operator (a ∷ b ∷ c ∷ rest) z v =
+    meets_operator Cargo operator (a ∷ b ∷ c ∷ rest) z v
 
 -- whether a version satisfies a comparator
 abbrev pub meets_one : PreReleases → Simple → PlainVersion → Bool

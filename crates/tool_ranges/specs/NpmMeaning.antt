@@ -113,8 +113,8 @@ meets_range rule (hyphen left right) v =
 meets_range rule (simples first others) v = list_all (λ s. meets_one rule s v) (first ∷ others)
 
 -- whether a term matches everything for npm's default rule, by whether it states nothing, and
--- whether its zero-filled version is 0.0.0: `<` and `>` never do, `>=` and the left side of a hyphen
--- range do if that version is 0.0.0, and the others do if nothing is stated
+-- whether its zero-filled version is 0.0.0: `<` and `>` never do, `>=` and the left side of a
+-- hyphen range do if that version is 0.0.0, and the others do if nothing is stated
 abbrev pub asks_nothing_by : Operator → Bool → Bool → Bool
 asks_nothing_by Less none zero = false
 asks_nothing_by Greater none zero = false

@@ -82,8 +82,10 @@ sides_of_stated dialect Equal s first = (Some first, Some (block_ends s))
 
 -- the table: the sides by the operator, the stated numbers, and whether a pre-release is stated
 abbrev pub sides : Dialect → Operator → List ℕ → Bool → Option SideValue × Option SideValue
-sides dialect operator [] pre = sides_of_nothing dialect operator (block_begins dialect operator [] pre)
-sides dialect operator s pre = sides_of_stated dialect operator s (block_begins dialect operator s pre)
+sides dialect operator [] pre =
+    sides_of_nothing dialect operator (block_begins dialect operator [] pre)
+sides dialect operator s pre =
+    sides_of_stated dialect operator s (block_begins dialect operator s pre)
 
 -- whether the upper side is directly above the version
 abbrev pub ends_past : Option SideValue → Bool

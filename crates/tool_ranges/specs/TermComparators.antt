@@ -14,8 +14,8 @@ use Rattle.version_sets.specs.declared.rules.PreReleases.TheVariants.{Included}
 use Rattle.tool_ranges.specs.declared.dialect.Dialect.{Dialect}
 use Rattle.tool_ranges.specs.Sides.{ends_past, sides}
 
--- the comparator of a lower side. With `Included` it is right for all versions. Otherwise `below` and
--- `at` give the same one, which is right only for releases
+-- the comparator of a lower side. With `Included` it is right for all versions. Otherwise `below`
+-- and `at` give the same one, which is right only for releases
 abbrev pub lower_comparator : PreReleases → SideValue → PlainVersion → PlainComparator
 lower_comparator Included (above k) z = comparator Gte (exact_bound (up k (numbers z)))
 lower_comparator rule (above k) z = comparator Gte (up k (numbers z))

@@ -17,9 +17,9 @@ abbrev pub is_release : VersionValue → Bool
 is_release v = is_empty v.plain.pre
 
 -- whether a version satisfies a text under a rule. With `Excluded`, it is a release that satisfies
--- some range. With `ByDialect`, it satisfies some range in which it counts: a pre-release counts only
--- if a term of the range states its three numbers and a pre-release. With `Included`, it satisfies
--- some range
+-- some range. With `ByDialect`, it satisfies some range in which it counts: a pre-release counts
+-- only if a term of the range states its three numbers and a pre-release. With `Included`, it
+-- satisfies some range
 abbrev pub meets_text_with : PreReleases → Compat → SetTree → VersionValue → Bool
 meets_text_with Excluded mode tree v = is_release v && meets_tree mode tree v.plain
 meets_text_with ByDialect mode tree v = meets_tree_as_stated mode tree v.plain

@@ -1,5 +1,5 @@
-//! Whether some version that is in each of several intervals is at or above another version. Nothing
-//! here allocates.
+//! Whether some version that is in each of several intervals is at or above another version.
+//! Nothing here allocates.
 
 ghost use Rattle.std.specs.Prelude.{◌≡◌, ◌↔◌, ◌&&◌, [], option_map, true};
 ghost use Rattle.semver_texts.specs.Precedence.{precedence};

@@ -42,11 +42,11 @@ impl fmt::Display for VersionSet {
 
 impl VersionSet {
     // Determined by: equation.
-    /// Writes the set, with a string between the comparators of an interval. First come its releases
-    /// as a range, or `<0.0.0-0` if the set is empty. If it contains pre-releases, they follow after
-    /// `, pre-releases `, as a range that is to be compared by precedence. If it contains only
-    /// pre-releases, the first comma is missing. It does not allocate, and its only error is the
-    /// writer's.
+    /// Writes the set, with a string between the comparators of an interval. First come its
+    /// releases as a range, or `<0.0.0-0` if the set is empty. If it contains pre-releases, they
+    /// follow after `, pre-releases `, as a range that is to be compared by precedence. If it
+    /// contains only pre-releases, the first comma is missing. It does not allocate, and its only
+    /// error is the writer's.
     pub fn write_joined<W: fmt::Write>(&self, f: &mut fmt::Formatter<W>, joint: &str) -> fmt::Result
         ensures writes { WritesOnOk W.write_str_gives f.old result
             (kinds_text joint.now self.now) f.new }

@@ -1,7 +1,8 @@
 //! The set of the versions that are in at least one range, where a range is the intersection of
 //! intervals.
 
-ghost use Rattle.std.specs.Prelude.{◌≡◌, ◌&&◌, ◌||◌, Bool, true, false, map, if◌then◌else◌, IfOk, not};
+ghost use Rattle.std.specs.Prelude.{◌≡◌, ◌&&◌, ◌||◌, Bool, true, false, map, if◌then◌else◌, IfOk};
+ghost use Rattle.std.specs.Prelude.{not};
 ghost use Rattle.semver_texts.specs.Precedence.{precedence};
 ghost use Rattle.semver_texts.specs.Texts.{is_empty};
 ghost use Rattle.semver_texts.specs.Versions.{PlainVersion};

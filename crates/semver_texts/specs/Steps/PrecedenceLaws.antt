@@ -91,12 +91,12 @@ pre-same [] (y ∷ ys) e = cc
 pre-same (x ∷ xs) [] e = cc
 pre-same (x ∷ xs) (y ∷ ys) e = slice_cmp-IsAntisymmetric identifier-same (x ∷ xs) (y ∷ ys) e
 
-then_first : (r s : Ordering) → ordering_then r s ≡ Equal → r ≡ Equal
+pub then_first : (r s : Ordering) → ordering_then r s ≡ Equal → r ≡ Equal
 then_first Less s e = cc
 then_first Equal s e = refl
 then_first Greater s e = cc
 
-then_second : (r s : Ordering) → ordering_then r s ≡ Equal → s ≡ Equal
+pub then_second : (r s : Ordering) → ordering_then r s ≡ Equal → s ≡ Equal
 then_second Less s e = cc
 then_second Equal s e = e
 then_second Greater s e = cc

@@ -55,6 +55,8 @@ is_within dialect operator s z v = is_between (sides dialect operator s (not (is
 
 -- whether a pre-release that counts by default is within the bounds of a term
 abbrev pub is_counted_within : Dialect → Operator → List ℕ → PlainVersion → PlainVersion → Bool
-is_counted_within Cargo operator s z v = is_between (cargo_sides operator s (not (is_empty z.pre))) z v
-is_counted_within Npm operator s z v = is_between_releases (sides Npm operator s (not (is_empty z.pre))) z v
+is_counted_within Cargo operator s z v =
+    is_between (cargo_sides operator s (not (is_empty z.pre))) z v
+is_counted_within Npm operator s z v =
+    is_between_releases (sides Npm operator s (not (is_empty z.pre))) z v
 is_counted_within dialect operator s z v = is_within dialect operator s z v

@@ -65,7 +65,8 @@ impl Program {
         ExitCode::from(2)
     }
 
-    /// Writes the error of an invalid version, with the string and the offset, and returns status 2.
+    /// Writes the error of an invalid version, with the string and the offset, and returns status
+    /// 2.
     pub fn refuse_version(self, rt: &HostRuntime, dialect: Dialect, version: &str) -> ExitCode {
         let shown = Escaped { text: version };
         let _ = match refused_version(dialect, version) {

@@ -14,7 +14,7 @@ use crate::proved::tool_ranges::table::{limit, too_large};
 
 /// Returns the offset of the number that is too large in a range. It is in the first term that
 /// doesn't fit: the first number above the limit of the dialect, or if there is none, the number
-/// that is raised and can't be. It is 1 in `=18446744073709551616 || 1`. If every term fits, it is 0.
+/// that is raised and can't be. It is 1 in `=18446744073709551616 || 1`, and 0 if every term fits.
 /// It does not allocate.
 pub(crate) fn limit_offset(dialect: Dialect, text: &str) -> usize {
     let grammar = dialect.grammar();

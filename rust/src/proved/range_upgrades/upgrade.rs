@@ -79,8 +79,8 @@ impl From<AllocError> for UpgradeError {
 /// It reads the range and the raised range, and each term of the last alternative once more. If the
 /// range has no `||`, it allocates only the raised range. For a pre-release it may allocate two
 /// strings, one after the other, of which the second one has three numbers where they are needed.
-/// If the range has `||`, it also allocates the range with one more alternative, and the sets of the
-/// versions of these ranges.
+/// If the range has `||`, it also allocates the range with one more alternative, and the sets of
+/// the versions of these ranges.
 ///
 /// # Errors
 ///

@@ -25,8 +25,8 @@ enum Way {
     PreReleases,
     /// Intervals of pre-releases joined to the intervals of releases that they touch.
     Joined,
-    /// Each interval of releases with those bounds of an interval of pre-releases that are at the same
-    /// place.
+    /// Each interval of releases with those bounds of an interval of pre-releases that are at the
+    /// same place.
     Paired,
     /// A range that contains no version.
     Nothing,

@@ -14,8 +14,8 @@ use crate::proved::semver_texts::grammar::Grammar;
 /// The next part of a range string, in plain terms.
 #[derive(Clone, Copy)]
 pub enum Event<'input> {
-    /// A term of the range. An empty range gives a bare wildcard. A hyphen range gives its left side,
-    /// and `<=` its right side; a side without a number is left out, if the other one has one.
+    /// A term of the range. An empty range gives a bare wildcard. A hyphen range gives its left
+    /// side, and `<=` its right side. A side without a number is left out if the other one has one.
     Simple(Simple<'input>),
     /// Two bars, after which the next range begins.
     NextRange,

@@ -138,8 +138,8 @@ fn add_index(index: Option<usize>, sum: &mut Checksum) {
     }
 }
 
-/// Asks whether a range contains versions, which are given in each form, in each dialect and by each
-/// rule.
+/// Asks whether a range contains versions, which are given in each form, in each dialect and by
+/// each rule.
 pub fn add_members(bytes: &[u8], sum: &mut Checksum) -> io::Result<()> {
     let Ok(text) = crate::rattle_std::str::from_utf8(bytes) else {
         return Ok(());

@@ -4,10 +4,10 @@
 //! The numbers of a term have a block of versions: if there are one or two, all versions with these
 //! numbers, and if there are three, only that version. `<` contains the versions below the block,
 //! and `<=` those that aren't above it. `>=`, and the left side of a hyphen range, contain the
-//! versions that aren't below it. `>` contains those above it, or in the dialects of the crate those
-//! above its first version. `=` contains the block itself. `~` and `^` contain the versions from the
-//! beginning of the block to the last one that begins with the same one, two or three numbers. A
-//! term without an operator is read like `=` or like `^`.
+//! versions that aren't below it. `>` contains those above it, or in the dialects of the crate
+//! those above its first version. `=` contains the block itself. `~` and `^` contain the versions
+//! from the beginning of the block to the last one that begins with the same one, two or three
+//! numbers. A term without an operator is read like `=` or like `^`.
 
 use crate::rattle_std::prelude::*;
 use crate::proved::tool_ranges::dialect::Dialect;

@@ -1,6 +1,6 @@
 // Made by tools/erase.py from crates/version_sets/src/at_or_above.rt; not edited by hand.
-//! Whether some version that is in each of several intervals is at or above another version. Nothing
-//! here allocates.
+//! Whether some version that is in each of several intervals is at or above another version.
+//! Nothing here allocates.
 
 use crate::rattle_std::prelude::*;
 use crate::proved::version_sets::conjunction::Conjunction;

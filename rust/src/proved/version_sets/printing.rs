@@ -26,11 +26,11 @@ impl fmt::Display for VersionSet {
 }
 
 impl VersionSet {
-    /// Writes the set, with a string between the comparators of an interval. First come its releases
-    /// as a range, or `<0.0.0-0` if the set is empty. If it contains pre-releases, they follow after
-    /// `, pre-releases `, as a range that is to be compared by precedence. If it contains only
-    /// pre-releases, the first comma is missing. It does not allocate, and its only error is the
-    /// writer's.
+    /// Writes the set, with a string between the comparators of an interval. First come its
+    /// releases as a range, or `<0.0.0-0` if the set is empty. If it contains pre-releases, they
+    /// follow after `, pre-releases `, as a range that is to be compared by precedence. If it
+    /// contains only pre-releases, the first comma is missing. It does not allocate, and its only
+    /// error is the writer's.
     pub fn write_joined(&self, f: &mut fmt::Formatter<'_>, joint: &str) -> fmt::Result {
         if self.pre_releases.is_empty() {
             return write_ranges(f, &self.releases, joint);
