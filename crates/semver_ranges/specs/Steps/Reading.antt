@@ -163,7 +163,7 @@ with_form d operator (Some found) =
 abbrev pub simple : Grammar → Text → Option (Simple × Text)
 simple d t =
     with_form d (operator_at d t).0
-        (partial d (after_operator (operator_at d t).0) (operator_at d t).1)
+    (partial d (after_operator (operator_at d t).0) (operator_at d t).1)
 
 -- the terms up to the end of their range. The number is a limit for the depth of the recursion
 abbrev pub put_before : Simple → Option (List Simple × Text) → Option (List Simple × Text)

@@ -16,7 +16,7 @@ use Rattle.semver_versions.specs.VersionRefs.{VersionRefValue}
 pub to_parts : (a b : VersionRefValue) → order a b ≡ Equal → HaveSameParts a b
 to_parts a b e =
     let plain : semver_of a ≡ semver_of b = precedence-same _ _
-        (then_first (precedence (semver_of a) (semver_of b)) _ e) in
+    (then_first (precedence (semver_of a) (semver_of b)) _ e) in
     let rest = then_second (precedence (semver_of a) (semver_of b)) _ e in
     record {
       major = ap (λ v. v.major) plain;
