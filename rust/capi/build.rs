@@ -11,7 +11,7 @@ mod rattle_std;
 
 use proved::invalid_strings::reasons::Reason;
 use proved::semver_ranges::operator::Operator;
-use proved::tool_ranges::dialect::Dialect;
+use proved::semver_ranges::dialect::Dialect;
 use proved::version_sets::PreReleases;
 use std::{env, fs};
 

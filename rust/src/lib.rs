@@ -117,7 +117,7 @@ pub use proved::semver_errors::{Error, Kind as ErrorKind};
 pub use proved::semver_ranges::operator::Operator;
 pub use proved::semver_versions::owned::Version;
 pub use proved::semver_versions::version::VersionRef;
-pub use proved::tool_ranges::dialect::Dialect;
+pub use proved::semver_ranges::dialect::Dialect;
 pub use proved::tool_ranges::meaning::Rules;
 pub use proved::tool_ranges::version_range::VersionRange;
 pub use proved::version_sets::PreReleases;

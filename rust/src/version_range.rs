@@ -4,7 +4,7 @@ use crate::original::out_of_memory;
 use crate::proved::tool_ranges::highest::Extreme;
 use crate::proved::tool_ranges::satisfying;
 use crate::proved::requirements::requirement::requirement;
-use crate::proved::tool_ranges::dialect::rewrite;
+use crate::proved::tool_ranges::rewriting::rewrite;
 use crate::proved::version_sets::{Combination, Release};
 use crate::{AsVersion, Dialect, Error, ErrorKind, RangeSet, Rules, Version, VersionRange};
 use alloc::string::String;

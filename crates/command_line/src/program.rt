@@ -9,7 +9,7 @@ use invalid_strings::escaped::Escaped;
 use semver_parser::RangeError;
 use std::io::{self, ErrorKind};
 use std::process::ExitCode;
-use tool_ranges::dialect::Dialect;
+use semver_ranges::dialect::Dialect;
 
 /// A program. Each line that it writes to standard error begins with its name. If a line can't be
 /// written there, it is left out.

@@ -11,7 +11,7 @@ use invalid_ranges::refusals::{Refusal, refused};
 use invalid_strings::refusals::explain;
 use semver_parser::RangeError;
 use std::alloc::{AllocError, Global};
-use tool_ranges::dialect::Dialect;
+use semver_ranges::dialect::Dialect;
 
 /// Returns the message for an error: the error and the range, and two more lines with the offset
 /// and the reason. A long string is shortened. `Err` means out of memory.

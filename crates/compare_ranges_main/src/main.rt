@@ -14,7 +14,7 @@ use semver_parser::RangeError;
 use std::alloc::AllocError;
 use std::io::{self, ErrorKind};
 use std::process::ExitCode;
-use tool_ranges::dialect::Dialect;
+use semver_ranges::dialect::Dialect;
 use tool_ranges::meaning::Rules;
 use tool_ranges::version_range::VersionRange;
 use version_sets::OperationError;

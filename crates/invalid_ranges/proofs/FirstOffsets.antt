@@ -19,8 +19,9 @@ use Rattle.semver_ranges.specs.Steps.Items.{IsWordOf}
 use Rattle.semver_ranges.specs.Steps.Reading.{after_blanks, after_v, component}
 use Rattle.semver_ranges.proofs.LongWords.{no_dot}
 use Rattle.semver_ranges.proofs.ReadingPieces.{PartialAt, component_sound, first_sound, is_component_byte, no_v, partial_starts, starts-append}
-use Rattle.tool_ranges.specs.declared.dialect.Dialect.{Dialect}
-use Rattle.tool_ranges.specs.Dialects.{SpellsAs, grammar_of}
+use Rattle.semver_ranges.specs.declared.dialect.Dialect.{Dialect}
+use Rattle.tool_ranges.specs.Dialects.{SpellsAs}
+use Rattle.semver_ranges.specs.DialectTable.{grammar_of}
 use Rattle.tool_ranges.specs.SpelledItems.{items_in}
 use Rattle.tool_ranges.proofs.ItemsFound.{items_found}
 use Rattle.invalid_ranges.specs.TooLarge.{component_begin, limit_offset, number_begin, offset_in_item, without_v}

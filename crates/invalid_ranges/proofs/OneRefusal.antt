@@ -10,7 +10,7 @@ use Rattle.invalid_ranges.specs.Prefixes.{BeginsAs}
 use Rattle.invalid_ranges.specs.RangeReasons.{IsReasonAs}
 use Rattle.invalid_ranges.specs.TooLarge.{IsLimitOffset, limit_reason}
 use Rattle.invalid_ranges.specs.Refusals.{IsRefusalAs}
-use Rattle.tool_ranges.specs.declared.dialect.Dialect.{Dialect}
+use Rattle.semver_ranges.specs.declared.dialect.Dialect.{Dialect}
 use Rattle.invalid_ranges.specs.declared.refusals.Refusal.{Refusal}
 
 -- two errors are equal if their parts are

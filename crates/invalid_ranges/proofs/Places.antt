@@ -13,8 +13,8 @@ use Rattle.semver_ranges.specs.declared.operator.Operator.TheVariants.{Bare}
 use Rattle.semver_ranges.specs.RangeTree.{SpellsRangeIn, empty, one, simples}
 use Rattle.invalid_strings.specs.Prefixes.{AreCompletions, Begins, IsLongestPrefix}
 use Rattle.invalid_strings.proofs.LongestPrefixes.{ascii_utf8}
-use Rattle.tool_ranges.specs.declared.dialect.Dialect.{Dialect}
-use Rattle.tool_ranges.specs.declared.dialect.Dialect.TheVariants.{Cargo, Npm}
+use Rattle.semver_ranges.specs.declared.dialect.Dialect.{Dialect}
+use Rattle.semver_ranges.specs.declared.dialect.Dialect.TheVariants.{Cargo, Npm}
 use Rattle.invalid_ranges.specs.Prefixes.{BeginsAs}
 use Rattle.semver_ranges.specs.CargoGrammar.{SpellsRequirement}
 use Rattle.tool_ranges.specs.Dialects.{IsTextAs}

@@ -3,7 +3,7 @@ use Rattle.std.proofs.Common.{◌≡◌, ◌∙◌, ℕ, Option, sym}
 use Rattle.semver_texts.specs.Texts.{Text}
 use Rattle.invalid_strings.specs.declared.reasons.Reason.{Reason}
 use Rattle.invalid_strings.proofs.VersionLaws.{same_test}
-use Rattle.tool_ranges.specs.declared.dialect.Dialect.{Dialect}
+use Rattle.semver_ranges.specs.declared.dialect.Dialect.{Dialect}
 use Rattle.invalid_ranges.specs.RangeReasons.{IsReasonAs, reason_by}
 
 pub one_reason : (d : Dialect) (prefix : Text) (next : Option ℕ) (x y : Reason) → IsReasonAs d prefix next x

@@ -10,8 +10,8 @@ use Rattle.semver_texts.specs.Texts.{Text}
 use Rattle.semver_texts.specs.declared.grammar.Grammar.TheVariants as grammar
 use Rattle.invalid_strings.specs.Prefixes.{GoesOn}
 use Rattle.invalid_strings.proofs.Completions.{bytes_go_on}
-use Rattle.tool_ranges.specs.declared.dialect.Dialect.{Dialect}
-use Rattle.tool_ranges.specs.declared.dialect.Dialect.TheVariants.{Cargo, Npm}
+use Rattle.semver_ranges.specs.declared.dialect.Dialect.{Dialect}
+use Rattle.semver_ranges.specs.declared.dialect.Dialect.TheVariants.{Cargo, Npm}
 use Rattle.tool_ranges.specs.NpmGrammar.{may_stand}
 use Rattle.tool_ranges.specs.Dialects.{IsTextAs}
 use Rattle.invalid_ranges.specs.Steps.Places.{range_completions}

@@ -20,10 +20,11 @@ use Rattle.invalid_strings.specs.declared.reasons.Reason.TheVariants.{CargoHyphe
 use Rattle.invalid_strings.specs.declared.reasons.Reason.TheVariants.{CargoWildcard, NpmComma}
 use Rattle.invalid_strings.specs.declared.reasons.Reason.TheVariants.{CrateComma, CrateV}
 use Rattle.invalid_strings.specs.declared.reasons.Reason.TheVariants.{TooManyComparators}
-use Rattle.tool_ranges.specs.declared.dialect.Dialect.{Dialect}
+use Rattle.semver_ranges.specs.declared.dialect.Dialect.{Dialect}
 use Rattle.semver_texts.specs.declared.grammar.Grammar.{Grammar}
 use Rattle.semver_texts.specs.declared.grammar.Grammar.TheVariants.{Cargo, Npm, Crate}
-use Rattle.tool_ranges.specs.Dialects.{IsTextAs, grammar_of}
+use Rattle.tool_ranges.specs.Dialects.{IsTextAs}
+use Rattle.semver_ranges.specs.DialectTable.{grammar_of}
 
 -- ---- the prefix
 

@@ -10,7 +10,7 @@ use Rattle.tool_ranges.specs.Dialects.{HasSetAs, IsTextAs, IsTooLargeAs}
 use Rattle.invalid_ranges.specs.Prefixes.{BeginsAs}
 use Rattle.invalid_ranges.specs.RangeReasons.{IsReasonAs}
 use Rattle.invalid_ranges.specs.TooLarge.{IsLimitOffset, limit_reason}
-use Rattle.tool_ranges.specs.declared.dialect.Dialect.{Dialect}
+use Rattle.semver_ranges.specs.declared.dialect.Dialect.{Dialect}
 use Rattle.invalid_ranges.specs.declared.refusals.Refusal.{Refusal}
 
 -- the error of a text in a dialect, with its offset and reason, or that there is no error

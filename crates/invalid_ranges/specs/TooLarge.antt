@@ -14,9 +14,10 @@ use Rattle.semver_ranges.specs.declared.operator.Operator.{Operator}
 use Rattle.semver_ranges.specs.declared.operator.Operator.TheVariants.{LessOrEqual}
 use Rattle.semver_ranges.specs.RangeTree.{components, SetTree}
 use Rattle.semver_ranges.specs.TextItems.{FoundWord, Item, one_term}
-use Rattle.tool_ranges.specs.declared.dialect.Dialect.{Dialect}
-use Rattle.tool_ranges.specs.DialectTable.{limit}
-use Rattle.tool_ranges.specs.Dialects.{SpellsAs, grammar_of}
+use Rattle.semver_ranges.specs.declared.dialect.Dialect.{Dialect}
+use Rattle.semver_ranges.specs.DialectTable.{limit}
+use Rattle.tool_ranges.specs.Dialects.{SpellsAs}
+use Rattle.semver_ranges.specs.DialectTable.{grammar_of}
 use Rattle.tool_ranges.specs.FittingTerms.{read_in, too_large}
 use Rattle.tool_ranges.specs.SpelledItems.{items_in}
 use Rattle.invalid_strings.specs.Reasons.{bound_too_large_in, too_large_in}

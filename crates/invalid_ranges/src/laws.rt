@@ -4,7 +4,7 @@ ghost use Rattle.std.specs.Prelude.{◌≡◌, ◌++◌, ℕ, [], List, Option};
 ghost use Rattle.semver_texts.specs.Texts.{Text};
 ghost use Rattle.invalid_strings.specs.Prefixes.{IsLongestPrefix};
 ghost use Rattle.invalid_strings.specs.declared.reasons.Reason.{Reason as SomeReason};
-ghost use Rattle.tool_ranges.specs.declared.dialect.Dialect.{Dialect as SomeDialect};
+ghost use Rattle.semver_ranges.specs.declared.dialect.Dialect.{Dialect as SomeDialect};
 ghost use Rattle.tool_ranges.specs.Dialects.{IsTextAs};
 ghost use Rattle.invalid_ranges.specs.Prefixes.{BeginsAs};
 ghost use Rattle.invalid_ranges.specs.RangeReasons.{IsReasonAs};

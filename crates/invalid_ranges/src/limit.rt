@@ -18,8 +18,9 @@ use semver_ranges::term::RawVersion;
 use semver_texts::bytes::run_len;
 use semver_texts::decimals::number_of_digits;
 use semver_texts::dotted::split_at_dot;
-use tool_ranges::dialect::Dialect;
-use tool_ranges::table::{limit, too_large};
+use semver_ranges::dialect::Dialect;
+use semver_ranges::table::limit;
+use tool_ranges::large_numbers::too_large;
 
 /// Returns the offset of the number that is too large in a range. It is in the first term that
 /// doesn't fit: the first number above the limit of the dialect, or if there is none, the number

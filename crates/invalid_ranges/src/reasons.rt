@@ -23,7 +23,7 @@ use semver_texts::bytes::is_part_byte;
 use semver_texts::grammar::Grammar;
 use semver_texts::npm_limits::MAX_SAFE_BUILD_LENGTH;
 use std::alloc::{AllocError, Global};
-use tool_ranges::dialect::Dialect;
+use semver_ranges::dialect::Dialect;
 
 /// Returns why a string stops being a range at an offset.
 pub(crate) fn reason_at(

@@ -18,7 +18,7 @@ use crate::reasons::reason_at;
 use invalid_strings::reasons::Reason;
 use semver_ranges::RangeError;
 use std::alloc::{AllocError, Global};
-use tool_ranges::dialect::Dialect;
+use semver_ranges::dialect::Dialect;
 
 /// The error of an invalid range string: its offset and its reason.
 #[derive(Clone, Copy)]

@@ -18,8 +18,8 @@ use Rattle.semver_ranges.specs.RangeTree.{PartialTree, Role, SetTree, Simple, Sp
 use Rattle.semver_ranges.specs.CargoGrammar.{SpellsRequirement, comparators_of, stands_alone}
 use Rattle.tool_ranges.specs.Dialects.{IsTextAs, SpellsAs}
 use Rattle.tool_ranges.specs.NpmGrammar.{may_stand}
-use Rattle.tool_ranges.specs.declared.dialect.Dialect.{Dialect}
-use Rattle.tool_ranges.specs.declared.dialect.Dialect.TheVariants.{Cargo, Npm}
+use Rattle.semver_ranges.specs.declared.dialect.Dialect.{Dialect}
+use Rattle.semver_ranges.specs.declared.dialect.Dialect.TheVariants.{Cargo, Npm}
 use Rattle.range_terms.specs.declared.term.Span.{Span}
 use Rattle.range_terms.specs.Replacing.{IsReplaceable, MayReplace, replaced}
 use Rattle.range_terms.specs.WrittenTerms.{WrittenTerm, terms_in, terms_of}

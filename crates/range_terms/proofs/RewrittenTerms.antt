@@ -26,9 +26,10 @@ use Rattle.semver_ranges.proofs.LongWords.{some_component}
 use Rattle.semver_ranges.proofs.ReadingPieces.{is_component_byte, partial_starts, starts}
 use Rattle.semver_versions.specs.VersionRefs.{VersionRefValue, IsVersionRefIn}
 use Rattle.semver_ranges.specs.CargoGrammar.{comparators_of, is_partial_of_cargo, wildcards_are_last}
-use Rattle.tool_ranges.specs.Dialects.{SpellsAs, grammar_of}
-use Rattle.tool_ranges.specs.declared.dialect.Dialect.{Dialect}
-use Rattle.tool_ranges.specs.declared.dialect.Dialect.TheVariants.{Cargo, Npm}
+use Rattle.tool_ranges.specs.Dialects.{SpellsAs}
+use Rattle.semver_ranges.specs.DialectTable.{grammar_of}
+use Rattle.semver_ranges.specs.declared.dialect.Dialect.{Dialect}
+use Rattle.semver_ranges.specs.declared.dialect.Dialect.TheVariants.{Cargo, Npm}
 use Rattle.range_terms.specs.Replacing.{IsReplaceable, MayReplace, role_in}
 use Rattle.range_terms.specs.RewrittenVersions.{IsRewritable, MayBecome, text_with}
 use Rattle.range_terms.specs.Rewriting as rewriting

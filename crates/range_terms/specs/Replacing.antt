@@ -9,8 +9,8 @@ use Rattle.semver_ranges.specs.RangeTree.{PartialTree, Role, SpellsPartial, Spel
 use Rattle.semver_ranges.specs.RangeTree.{after_hyphen, after_operator}
 use Rattle.semver_ranges.specs.CargoGrammar.{is_partial_of_cargo}
 use Rattle.tool_ranges.specs.Dialects.{IsTextAs}
-use Rattle.tool_ranges.specs.declared.dialect.Dialect.{Dialect}
-use Rattle.tool_ranges.specs.declared.dialect.Dialect.TheVariants as dialect
+use Rattle.semver_ranges.specs.declared.dialect.Dialect.{Dialect}
+use Rattle.semver_ranges.specs.declared.dialect.Dialect.TheVariants as dialect
 use Rattle.range_terms.specs.declared.term.Span.{Span}
 use Rattle.range_terms.specs.WrittenTerms.{WrittenTerm, WrittenVersion}
 

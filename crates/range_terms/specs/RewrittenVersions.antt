@@ -4,9 +4,10 @@ use Rattle.std.specs.Prelude.{◌≡◌, ◌≤◌, Some, IsTrue, length}
 use Rattle.semver_texts.specs.NpmLimits.{max_length}
 use Rattle.semver_texts.specs.Texts.{Text}
 use Rattle.semver_versions.specs.VersionRefs.{VersionRefValue, IsVersionRefIn}
-use Rattle.tool_ranges.specs.Dialects.{IsTextAs, grammar_of}
-use Rattle.tool_ranges.specs.declared.dialect.Dialect.{Dialect}
-use Rattle.tool_ranges.specs.declared.dialect.Dialect.TheVariants as dialect
+use Rattle.tool_ranges.specs.Dialects.{IsTextAs}
+use Rattle.semver_ranges.specs.DialectTable.{grammar_of}
+use Rattle.semver_ranges.specs.declared.dialect.Dialect.{Dialect}
+use Rattle.semver_ranges.specs.declared.dialect.Dialect.TheVariants as dialect
 use Rattle.range_terms.specs.Replacing.{replaced}
 use Rattle.range_terms.specs.Rewriting.{is_number, with_version}
 use Rattle.range_terms.specs.WrittenTerms.{WrittenTerm, WrittenVersion}

@@ -14,7 +14,7 @@ use Rattle.semver_ranges.specs.TextItems.{FoundTerm, FoundWord, Item, one_term}
 use Rattle.semver_ranges.specs.TextItems.{empty_range, two_bars}
 use Rattle.tool_ranges.specs.Dialects.{SpellsAs}
 use Rattle.tool_ranges.specs.SpelledItems.{items_in}
-use Rattle.tool_ranges.specs.declared.dialect.Dialect.{Dialect}
+use Rattle.semver_ranges.specs.declared.dialect.Dialect.{Dialect}
 use Rattle.range_terms.specs.declared.term.Component.{Component}
 use Rattle.range_terms.specs.declared.term.Component.TheVariants.{Number, Wildcard}
 use Rattle.range_terms.specs.declared.term.PartialVersion.{PartialVersion}

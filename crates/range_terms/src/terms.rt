@@ -22,7 +22,7 @@ use semver_ranges::{RangeError, partial};
 use semver_texts::dotted::text_of_parts;
 use semver_texts::grammar::Grammar;
 use std::marker::Model;
-use tool_ranges::dialect::Dialect;
+use semver_ranges::dialect::Dialect;
 use tool_ranges::meaning::{Rules, check};
 use version_sets::PreReleases;
 

@@ -13,7 +13,7 @@ use Rattle.range_upgrades.specs.declared.raised_versions.Form.{Form}
 use Rattle.range_upgrades.specs.declared.raised_versions.Form.TheVariants.{AsWritten, InFull}
 use Rattle.range_upgrades.proofs.RaisedTerms.{one_part, some_is}
 use Rattle.range_upgrades.specs.RaisedRanges.{IsRaisedFrom, last_version, raised_word}
-use Rattle.tool_ranges.specs.declared.dialect.Dialect.{Dialect}
+use Rattle.semver_ranges.specs.declared.dialect.Dialect.{Dialect}
 
 pub one_replaced : (t : Text) (last : Alternative) (raised a b : Text) → IsReplaced t last raised a → IsReplaced t last raised b → a ≡ b
 one_replaced t last raised a b p q =

@@ -3,7 +3,7 @@ use Rattle.std.proofs.Common.{◌≡◌, ℕ, List, [], ◌∷◌, ◌++◌, ap,
 use Rattle.std.specs.Prelude.{Some}
 use Rattle.semver_texts.specs.Texts.{Text}
 use Rattle.semver_versions.specs.VersionRefs.{VersionRefValue}
-use Rattle.tool_ranges.specs.declared.dialect.Dialect.{Dialect}
+use Rattle.semver_ranges.specs.declared.dialect.Dialect.{Dialect}
 use Rattle.range_terms.specs.WrittenTerms.{WrittenTerm}
 use Rattle.range_upgrades.specs.RaisedRanges.{IsPart, IsRaised, IsRaisedFrom, IsToRaise, last_version, raised_word}
 use Rattle.range_upgrades.specs.RaisedVersions.{HasRaised}

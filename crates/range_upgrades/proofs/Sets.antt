@@ -11,8 +11,9 @@ use Rattle.version_sets.specs.VersionSets.{Fits, IsIn, SetValue}
 use Rattle.semver_ranges.specs.declared.range_set.RangeError.{RangeError}
 use Rattle.semver_ranges.specs.declared.range_set.RangeError.TheVariants.{NotARange, NumberTooLarge, OutOfMemory}
 use Rattle.semver_ranges.specs.RangeTree.{SetTree}
-use Rattle.tool_ranges.specs.Dialects.{HasSetAs, RefusesAs, SpellsAs, fits_as, grammar_of}
-use Rattle.tool_ranges.specs.declared.dialect.Dialect.{Dialect}
+use Rattle.tool_ranges.specs.Dialects.{HasSetAs, RefusesAs, SpellsAs, fits_as}
+use Rattle.semver_ranges.specs.DialectTable.{grammar_of}
+use Rattle.semver_ranges.specs.declared.dialect.Dialect.{Dialect}
 use Rattle.tool_ranges.specs.declared.meaning.Rules.{Rules}
 use Rattle.range_upgrades.specs.Upgrades.{HasVersionFrom, IsReadIn, IsSatisfied, IsSetOf, LosesNone}
 

@@ -7,7 +7,7 @@ use Rattle.semver_texts.specs.Versions.{PlainVersion}
 use Rattle.semver_versions.specs.VersionRefs.{VersionRefValue, version_of}
 use Rattle.version_sets.specs.declared.rules.PreReleases.TheVariants.{Included}
 use Rattle.tool_ranges.specs.Dialects.{HasSetAs}
-use Rattle.tool_ranges.specs.declared.dialect.Dialect.{Dialect}
+use Rattle.semver_ranges.specs.declared.dialect.Dialect.{Dialect}
 use Rattle.tool_ranges.specs.declared.meaning.Rules.{Rules}
 use Rattle.semver_ranges.specs.declared.operator.Operator.{Operator}
 use Rattle.semver_ranges.specs.declared.operator.Operator.TheVariants.{Greater, GreaterOrEqual}

@@ -5,8 +5,8 @@ use Rattle.std.specs.Prelude.{nat_lt, codes}
 use Rattle.std.specs.Prelude.{if◌then◌else◌, Option, Some, is_some, [], ◌∷◌, option_map}
 use Rattle.semver_texts.specs.Texts.{Text}
 use Rattle.semver_versions.specs.VersionRefs.{VersionRefValue}
-use Rattle.tool_ranges.specs.declared.dialect.Dialect.{Dialect}
-use Rattle.tool_ranges.specs.declared.dialect.Dialect.TheVariants.{Cargo}
+use Rattle.semver_ranges.specs.declared.dialect.Dialect.{Dialect}
+use Rattle.semver_ranges.specs.declared.dialect.Dialect.TheVariants.{Cargo}
 use Rattle.range_terms.specs.declared.term.Component.{Component}
 use Rattle.range_terms.specs.declared.term.Component.TheVariants.{Number, Wildcard}
 use Rattle.semver_ranges.specs.declared.operator.Operator.{Operator}

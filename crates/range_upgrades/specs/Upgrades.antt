@@ -9,9 +9,10 @@ use Rattle.semver_texts.specs.Versions.{PlainVersion, VersionValue}
 use Rattle.semver_versions.specs.VersionRefs.{IsVersionRefIn, VersionRefValue}
 use Rattle.semver_ranges.specs.RangeTree.{SetTree}
 use Rattle.version_sets.specs.VersionSets.{Fits, SetValue}
-use Rattle.tool_ranges.specs.Dialects.{HasSetAs, SpellsAs, grammar_of}
+use Rattle.tool_ranges.specs.Dialects.{HasSetAs, SpellsAs}
+use Rattle.semver_ranges.specs.DialectTable.{grammar_of}
 use Rattle.tool_ranges.specs.Meanings.{MeansAs, meant_as}
-use Rattle.tool_ranges.specs.declared.dialect.Dialect.{Dialect}
+use Rattle.semver_ranges.specs.declared.dialect.Dialect.{Dialect}
 use Rattle.tool_ranges.specs.declared.meaning.Rules.{Rules}
 
 -- the string is a range, and the version satisfies it

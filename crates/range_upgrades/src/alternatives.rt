@@ -8,7 +8,7 @@ ghost use Rattle.range_upgrades.specs.Alternatives.{HasBars, last_of, with_term}
 
 use range_terms::term::Term;
 use range_terms::terms::of_range;
-use tool_ranges::dialect::Dialect;
+use semver_ranges::dialect::Dialect;
 
 /// The terms between two `||`, as offsets in the range string.
 #[derive(Clone, Copy)]

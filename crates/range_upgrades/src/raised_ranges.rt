@@ -22,7 +22,7 @@ use semver_ranges::operator::Operator;
 use semver_versions::version::VersionRef;
 use std::alloc::{AllocError, Global};
 use tool_ranges::at_or_above::has_at_or_above;
-use tool_ranges::dialect::Dialect;
+use semver_ranges::dialect::Dialect;
 use tool_ranges::laws;
 use tool_ranges::meaning::Rules;
 use version_sets::PreReleases;

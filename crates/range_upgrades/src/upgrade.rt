@@ -9,7 +9,7 @@ ghost use Rattle.semver_versions.specs.VersionRefs.{VersionRefValue};
 ghost use Rattle.semver_ranges.specs.RangeTree.{SetTree};
 ghost use Rattle.version_sets.specs.VersionSets.{IsIn};
 ghost use Rattle.tool_ranges.specs.Dialects.{HasSetAs, IsTextAs, IsTooLargeAs, SpellsAs};
-ghost use Rattle.tool_ranges.specs.Dialects.{grammar_of};
+ghost use Rattle.semver_ranges.specs.DialectTable.{grammar_of};
 ghost use Rattle.tool_ranges.specs.Satisfying.{Satisfies};
 ghost use Rattle.range_terms.specs.WrittenTerms.{terms_in};
 ghost use Rattle.range_upgrades.specs.Alternatives.{HasBars};

@@ -14,7 +14,7 @@ use crate::contained::contained;
 use semver_ranges::{Compat, RangeError};
 use semver_versions::version::Version;
 use std::alloc::Global;
-use tool_ranges::dialect::Dialect;
+use semver_ranges::dialect::Dialect;
 use tool_ranges::meaning::{self, Rules};
 use version_sets::{PreReleases, VersionSet};
 

@@ -17,7 +17,7 @@ use semver_parser::RangeError;
 use std::alloc::Global;
 use std::io::ErrorKind;
 use std::process::ExitCode;
-use tool_ranges::dialect::Dialect;
+use semver_ranges::dialect::Dialect;
 use tool_ranges::meaning::{self, Rules};
 use tool_ranges::version_range::VersionRange;
 use version_sets::{Combination, OperationError, VersionSet};

@@ -3,7 +3,7 @@ use Rattle.std.proofs.Common.{◌≡◌, ◌≢◌, ◌==◌, ℕ, suc, List, []
 use Rattle.std.proofs.lemmas.Bool.{eqb-true}
 use Rattle.semver_texts.specs.Texts.{Text}
 use Rattle.semver_texts.proofs.Lists.{by_test}
-use Rattle.tool_ranges.specs.declared.dialect.Dialect.{Dialect}
+use Rattle.semver_ranges.specs.declared.dialect.Dialect.{Dialect}
 use Rattle.repaired_strings.specs.Repairs.{IsRepairOf, LeadsTo, without_zeros}
 use Rattle.repaired_strings.specs.declared.errors.Expected.{Expected}
 

@@ -9,8 +9,8 @@ use Rattle.invalid_ranges.specs.Prefixes.{BeginsAs}
 use Rattle.invalid_ranges.specs.RangeReasons.{IsReasonAs}
 use Rattle.invalid_ranges.specs.TooLarge.{IsLimitOffset}
 use Rattle.invalid_ranges.proofs.OneRefusal.{one_refused}
-use Rattle.tool_ranges.specs.Dialects.{grammar_of}
-use Rattle.tool_ranges.specs.declared.dialect.Dialect.{Dialect}
+use Rattle.semver_ranges.specs.DialectTable.{grammar_of}
+use Rattle.semver_ranges.specs.declared.dialect.Dialect.{Dialect}
 use Rattle.repaired_strings.specs.Errors.{IsErrorAt, IsRangeErrorAt, IsValid}
 use Rattle.repaired_strings.specs.declared.errors.Expected.{Expected}
 use Rattle.repaired_strings.specs.declared.errors.Expected.TheVariants.{Version, Range}

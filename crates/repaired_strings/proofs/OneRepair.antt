@@ -5,7 +5,7 @@ use Rattle.std.proofs.lemmas.Bool.{cases_order, true≢false}
 use Rattle.semver_texts.specs.Texts.{Text}
 use Rattle.invalid_strings.specs.declared.reasons.Reason.{Reason}
 use Rattle.range_terms.specs.declared.term.Span.{Span}
-use Rattle.tool_ranges.specs.declared.dialect.Dialect.{Dialect}
+use Rattle.semver_ranges.specs.declared.dialect.Dialect.{Dialect}
 use Rattle.repaired_strings.specs.Errors.{IsErrorAt, IsValid}
 use Rattle.repaired_strings.specs.Repairs.{AreRepairs, HasNoRepair, IsBeyondRepair, IsErrorOver, IsRepairOf, LeadsTo, replacement_at}
 use Rattle.repaired_strings.specs.Spans.{IsRunAround, IsSpanOf, is_of_same_kind, kind_at}

@@ -7,8 +7,9 @@ use Rattle.invalid_strings.specs.VersionPrefixes.{IsLongestVersionPrefix}
 use Rattle.invalid_strings.specs.declared.reasons.Reason.{Reason}
 use Rattle.invalid_ranges.specs.Refusals.{IsRefusalAs}
 use Rattle.invalid_ranges.specs.declared.refusals.Refusal.{Refusal}
-use Rattle.tool_ranges.specs.Dialects.{HasSetAs, grammar_of}
-use Rattle.tool_ranges.specs.declared.dialect.Dialect.{Dialect}
+use Rattle.tool_ranges.specs.Dialects.{HasSetAs}
+use Rattle.semver_ranges.specs.DialectTable.{grammar_of}
+use Rattle.semver_ranges.specs.declared.dialect.Dialect.{Dialect}
 use Rattle.repaired_strings.specs.declared.errors.Expected.{Expected}
 use Rattle.repaired_strings.specs.declared.errors.Expected.TheVariants.{Version, Range}
 

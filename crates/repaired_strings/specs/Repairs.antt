@@ -6,7 +6,7 @@ use Rattle.std.specs.List.{list_all}
 use Rattle.std.specs.Str.{bytes_eq}
 use Rattle.semver_texts.specs.Texts.{Text}
 use Rattle.semver_texts.specs.WhiteSpace.{is_ascii_white_space}
-use Rattle.tool_ranges.specs.declared.dialect.Dialect.{Dialect}
+use Rattle.semver_ranges.specs.declared.dialect.Dialect.{Dialect}
 use Rattle.repaired_strings.specs.Errors.{IsErrorAt}
 use Rattle.repaired_strings.specs.Spans.{IsSpanOf, kind_at}
 use Rattle.repaired_strings.specs.declared.errors.Expected.{Expected}

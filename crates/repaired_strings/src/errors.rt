@@ -9,7 +9,7 @@ use invalid_ranges::refusals as ranges;
 use invalid_strings::reasons::Reason;
 use invalid_strings::refusals as versions;
 use std::alloc::{AllocError, Global};
-use tool_ranges::dialect::Dialect;
+use semver_ranges::dialect::Dialect;
 
 /// What a string is meant as.
 #[derive(Clone, Copy, PartialEq, Eq, Debug)]

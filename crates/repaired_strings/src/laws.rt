@@ -4,7 +4,7 @@ ghost use Rattle.std.specs.Prelude.{◌≡◌, ℕ, Option};
 ghost use Rattle.semver_texts.specs.Texts.{Text};
 ghost use Rattle.invalid_strings.specs.declared.reasons.Reason.{Reason};
 ghost use Rattle.range_terms.specs.declared.term.Span.{Span};
-ghost use Rattle.tool_ranges.specs.declared.dialect.Dialect.{Dialect};
+ghost use Rattle.semver_ranges.specs.declared.dialect.Dialect.{Dialect};
 ghost use Rattle.repaired_strings.specs.Errors.{IsErrorAt, IsValid};
 ghost use Rattle.repaired_strings.specs.Repairs.{AreRepairs, IsBeyondRepair};
 ghost use Rattle.repaired_strings.specs.Spans.{IsSpanOf};

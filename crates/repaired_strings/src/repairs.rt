@@ -14,7 +14,7 @@ use crate::spans::span_at;
 use invalid_strings::reasons::Reason;
 use semver_texts::white_space::is_ascii_white_space;
 use std::alloc::{AllocError, Global};
-use tool_ranges::dialect::Dialect;
+use semver_ranges::dialect::Dialect;
 
 /// How many parts of a string are replaced at most.
 const MOST_REPAIRS: usize = 32;

@@ -11,7 +11,7 @@ use Rattle.repaired_strings.specs.declared.errors.Expected.{Expected}
 use Rattle.repaired_strings.specs.declared.errors.Expected.TheVariants.{Range, Version}
 use Rattle.semver_ranges.specs.declared.range_set.RangeError.{RangeError}
 use Rattle.semver_ranges.specs.declared.range_set.RangeError.TheVariants as range
-use Rattle.tool_ranges.specs.declared.dialect.Dialect.{Dialect}
+use Rattle.semver_ranges.specs.declared.dialect.Dialect.{Dialect}
 use Rattle.tool_ranges.specs.declared.satisfying.SatisfiesError.{SatisfiesError}
 use Rattle.tool_ranges.specs.declared.satisfying.SatisfiesError.TheVariants as satisfies
 use Rattle.semver_errors.specs.Conversions.{IsRangeError, IsSatisfiesError, IsUpgradeError}

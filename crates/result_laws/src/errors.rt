@@ -13,7 +13,7 @@ use repaired_strings::laws;
 use semver_errors::error::Error;
 use semver_ranges::RangeError;
 use std::alloc::{AllocError, Global};
-use tool_ranges::dialect::Dialect;
+use semver_ranges::dialect::Dialect;
 use tool_ranges::satisfying::SatisfiesError;
 
 /// A result of `suggestion`.

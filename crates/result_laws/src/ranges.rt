@@ -9,7 +9,8 @@ use invalid_ranges::refusals::{Refusal, refused};
 use range_terms::terms::Terms;
 use semver_parser::{Compat, RangeError, RangeSet};
 use std::alloc::{AllocError, Global};
-use tool_ranges::dialect::{self, Dialect};
+use semver_ranges::dialect::Dialect;
+use tool_ranges::rewriting;
 use tool_ranges::{cargo, npm};
 
 /// Two results of `RangeSet::parse`, or of a function below, for the same inputs.
@@ -72,13 +73,13 @@ pub fn one_npm_rewrite_included(alloc: Global, range: &str) -> Answers
     )
 }
 
-/// `dialect::rewrite` has only one permitted result.
+/// `rewriting::rewrite` has only one permitted result.
 pub fn one_rewrite(alloc: Global, dialect: Dialect, range: &str) -> Answers
     ensures one { AreOne RangeError.OutOfMemory set_of result.0 result.1 }
 {
     (
-        dialect::rewrite(alloc, dialect, range),
-        dialect::rewrite(alloc, dialect, range),
+        rewriting::rewrite(alloc, dialect, range),
+        rewriting::rewrite(alloc, dialect, range),
     )
 }
 

@@ -10,7 +10,7 @@ use repaired_strings::laws;
 use repaired_strings::repairs::repaired;
 use repaired_strings::spans::span_at;
 use std::alloc::{AllocError, Global};
-use tool_ranges::dialect::Dialect;
+use semver_ranges::dialect::Dialect;
 
 /// A result of `first_error`.
 type Found = Result<Option<StringError>, AllocError>;

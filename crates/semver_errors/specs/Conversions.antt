@@ -12,7 +12,7 @@ use Rattle.semver_tokens.specs.declared.lexer.Error.{Error as LexerError}
 use Rattle.semver_tokens.specs.declared.lexer.Error.TheVariants.{UnexpectedChar}
 use Rattle.semver_tokens.specs.declared.parser.Error.{Error}
 use Rattle.semver_tokens.specs.declared.parser.Error.TheVariants as parser
-use Rattle.tool_ranges.specs.declared.dialect.Dialect.{Dialect}
+use Rattle.semver_ranges.specs.declared.dialect.Dialect.{Dialect}
 use Rattle.tool_ranges.specs.declared.satisfying.SatisfiesError.{SatisfiesError}
 use Rattle.tool_ranges.specs.declared.satisfying.SatisfiesError.TheVariants as satisfies
 use Rattle.version_sets.specs.declared.set_operations.OperationError.{OperationError}

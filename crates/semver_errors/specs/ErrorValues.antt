@@ -10,7 +10,7 @@ use Rattle.repaired_strings.specs.Repairs.{AreRepairs, IsBeyondRepair}
 use Rattle.repaired_strings.specs.Spans.{IsSpanOf, kind_at}
 use Rattle.repaired_strings.specs.declared.errors.Expected.{Expected}
 use Rattle.repaired_strings.specs.declared.errors.Expected.TheVariants as expected
-use Rattle.tool_ranges.specs.declared.dialect.Dialect.{Dialect}
+use Rattle.semver_ranges.specs.declared.dialect.Dialect.{Dialect}
 use Rattle.semver_errors.specs.declared.error.Cause.{Cause}
 use Rattle.semver_errors.specs.declared.error.Cause.TheVariants as cause
 use Rattle.semver_errors.specs.declared.error.Kind.{Kind}

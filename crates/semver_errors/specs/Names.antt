@@ -2,9 +2,9 @@
 use Rattle.std.specs.Prelude.{Option, Some, None, if◌then◌else◌, codes}
 use Rattle.std.specs.Str.{bytes_eq}
 use Rattle.semver_texts.specs.Texts.{Text}
-use Rattle.tool_ranges.specs.DialectTable as dialects
-use Rattle.tool_ranges.specs.declared.dialect.Dialect.{Dialect}
-use Rattle.tool_ranges.specs.declared.dialect.Dialect.TheVariants as dialect
+use Rattle.semver_ranges.specs.DialectTable as dialects
+use Rattle.semver_ranges.specs.declared.dialect.Dialect.{Dialect}
+use Rattle.semver_ranges.specs.declared.dialect.Dialect.TheVariants as dialect
 use Rattle.version_sets.specs.PreReleaseTable as rules
 use Rattle.version_sets.specs.declared.rules.PreReleases.{PreReleases}
 use Rattle.version_sets.specs.declared.rules.PreReleases.TheVariants as rule

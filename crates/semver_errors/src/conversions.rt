@@ -19,7 +19,7 @@ use semver_ranges::RangeError;
 use semver_tokens::{lexer, parser};
 use std::alloc::{AllocError, Global};
 use std::fmt;
-use tool_ranges::dialect::Dialect;
+use semver_ranges::dialect::Dialect;
 use tool_ranges::satisfying::SatisfiesError;
 use version_sets::OperationError;
 

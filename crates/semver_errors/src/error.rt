@@ -14,7 +14,7 @@ use repaired_strings::repairs::repaired;
 use repaired_strings::spans::span_at;
 use std::alloc::{AllocError, Global};
 use std::marker::Model;
-use tool_ranges::dialect::Dialect;
+use semver_ranges::dialect::Dialect;
 
 /// The kind of an [`Error`]: what a program can do about it. [`Error::reason`] says why.
 ///

@@ -6,7 +6,7 @@ ghost use Rattle.semver_errors.specs.Names.{dialect_named, dialect_names, rule_n
 
 use crate::error::Error;
 use std::alloc::Global;
-use tool_ranges::dialect::Dialect;
+use semver_ranges::dialect::Dialect;
 use version_sets::PreReleases;
 
 // Determined by: equation.

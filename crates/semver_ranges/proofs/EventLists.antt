@@ -9,7 +9,7 @@ use Rattle.semver_ranges.specs.Partials.{stated}
 use Rattle.semver_ranges.specs.Terms.{of_simple, terms}
 use Rattle.semver_ranges.specs.RewritingTable.{PlainComparator, term_fits_by, range_by, fits_by}
 use Rattle.semver_ranges.specs.Steps.RangeEvents.{Event, yielded, in_front, events_of, event_fits}
-use Rattle.semver_ranges.specs.Steps.DesugaredViews.{range_of_simples}
+use Rattle.semver_ranges.specs.Steps.Answers.{range_of_simples}
 use Rattle.semver_ranges.proofs.Tables.{IsTable, nothing_is}
 
 module _ {fit : Simple → Bool} {written : Simple → List PlainComparator} (table : IsTable fit written) where

@@ -3,9 +3,12 @@ use Rattle.std.proofs.Common.{◌≡◌, Bool, true, false, ◌&&◌, List, [], 
 use Rattle.std.proofs.Common.{append-nil, append_assoc, Result, Ok, Err}
 use Rattle.std.proofs.Math.Bool.{and-true}
 use Rattle.std.specs.Prelude.{map}
+use Rattle.std.proofs.lemmas.List.{map-append}
 use Rattle.std.specs.List.{list_all, flat_map}
 use Rattle.semver_texts.specs.declared.grammar.Grammar.{Grammar}
+use Rattle.semver_ranges.specs.declared.range.Comparator.{Comparator}
 use Rattle.semver_ranges.specs.declared.range.Compat.{Compat}
+use Rattle.semver_ranges.specs.declared.range.Range.{Range}
 use Rattle.semver_ranges.specs.declared.range_set.RangeSet.{RangeSet}
 use Rattle.semver_ranges.specs.declared.range_set.RangeError.TheVariants.{NotARange, NumberTooLarge, OutOfMemory}
 use Rattle.semver_ranges.specs.declared.range_set.RangeError.{RangeError}
@@ -15,11 +18,12 @@ use Rattle.semver_ranges.specs.RangeTree.{Simple, RangeTree, SetTree}
 use Rattle.semver_texts.specs.Texts.{Text}
 use Rattle.semver_ranges.specs.RewritingTable.{PlainComparator, PlainRange, PlainSet, fits_by}
 use Rattle.semver_ranges.specs.Steps.Answers.{IsAnswerBy, IsAnswerOf}
-use Rattle.semver_ranges.specs.Steps.DesugaredViews.{range_of_simples, ranges_by}
+use Rattle.semver_ranges.specs.Steps.Answers.{range_of_simples, ranges_by}
 use Rattle.semver_ranges.specs.Steps.CursorViews.{HasLeft, IsFirst}
 use Rattle.semver_ranges.specs.Steps.Reading.{read}
 use Rattle.semver_ranges.specs.Steps.RangeEvents.{Event, one_simple, next_range, put, in_front, yielded, events_of}
 use Rattle.semver_ranges.specs.Steps.RangeEvents.{event_fits, set_events}
+use Rattle.semver_ranges.specs.RangeViews.{comparator_of, range_of}
 use Rattle.semver_ranges.proofs.ReadingSound.{read_sound}
 use Rattle.semver_ranges.proofs.Tables.{IsTable}
 use Rattle.semver_ranges.proofs.EventLists.{set_fits}
@@ -71,6 +75,24 @@ module _ (written : Simple → List PlainComparator) (mode : Compat) where
   set_made : (r : RangeTree) (others : SetTree) → ranges_by written mode [] (events_of (r ∷ others)) ≡ map made_by (r ∷ others)
   set_made r [] = front_made (yielded r) [] []
   set_made r (next ∷ others) = front_made (yielded r) [] _ ∙ ap (λ l. made_by r ∷ l) (set_made next others)
+
+  -- the end of a range, and the end of a text
+  module _ (old new : List Range) (set : List Comparator) (r : Range) (more : new ≡ old ++ r ∷ [])
+      (is : range_of r ≡ record { comparators = map comparator_of set; compat = mode }) where
+    with_range : map range_of new ≡ map range_of old ++ record { comparators = map comparator_of set; compat = mode } ∷ []
+    with_range = ap (map range_of) more ∙ map-append range_of old (r ∷ []) ∙ ap (λ x. map range_of old ++ x ∷ []) is
+
+    pub range_ended : (fresh : List Comparator) (left others : List Event) → fresh ≡ [] → left ≡ next_range ∷ others
+        → map range_of old ++ ranges_by written mode (map comparator_of set) left
+        ≡ map range_of new ++ ranges_by written mode (map comparator_of fresh) others
+    range_ended fresh left others none e =
+        ap (λ es. map range_of old ++ ranges_by written mode (map comparator_of set) es) e
+        ∙ sym (append_assoc (map range_of old) (record { comparators = map comparator_of set; compat = mode } ∷ []) (ranges_by written mode [] others))
+        ∙ (λ i. sym with_range i ++ ranges_by written mode (map comparator_of (sym none i)) others)
+
+    pub text_ended : (left : List Event) → left ≡ []
+        → map range_of new ≡ map range_of old ++ ranges_by written mode (map comparator_of set) left
+    text_ended left none = with_range ∙ ap (λ es. map range_of old ++ ranges_by written mode (map comparator_of set) es) (sym none)
 
   -- a result that is possible for the events of a text is possible for its tree
   module _ {fit : Simple → Bool} {listed : Simple → List PlainComparator} (table : IsTable fit listed) where

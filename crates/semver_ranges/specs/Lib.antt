@@ -9,6 +9,9 @@ pub mod CrateMeaning
 pub mod RewritingTable
 pub mod RangeTexts
 pub mod ExactBounds
+pub mod DialectTable
+pub mod Sides
+pub mod TermComparators
 pub mod SatisfiedComparators
 pub mod StatedPreReleases
 pub mod PrintedRanges

@@ -5,5 +5,5 @@ pub mod Answers
 pub mod PartialViews
 pub mod CursorViews
 pub mod Items
-pub mod DesugaredViews
+pub mod Checked
 pub mod NpmLimits

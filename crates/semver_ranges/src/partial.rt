@@ -1,18 +1,20 @@
 //! Partials: the numbers of a term, and its pre-release as a slice of the string.
 
-ghost use Rattle.std.specs.Prelude.{◌≡◌, ◌+◌, ◌-◌, ◌<◌, ◌≤◌, Some, true, [], map};
+ghost use Rattle.std.specs.Prelude.{◌≡◌, ◌-◌, ◌^◌, ◌≤◌, Some, true, map};
 ghost use Rattle.std.specs.Prelude.{length, IfErr, IfOk, ◌&&◌, ◌==◌, nat_le, not, false};
 ghost use Rattle.std.specs.List.{list_all};
 ghost use Rattle.semver_texts.specs.Texts.{is_empty};
+ghost use Rattle.semver_texts.specs.Versions.{numbers};
 ghost use Rattle.semver_ranges.specs.RangeTree.{PartialTree, one, two};
 ghost use Rattle.semver_texts.specs.Texts.{is_part};
 ghost use Rattle.semver_ranges.specs.Partials.{kept, leading_place};
-ghost use Rattle.semver_ranges.specs.RewritingTable.{comparator, up, up_with, bound_fits};
+ghost use Rattle.semver_ranges.specs.RewritingTable.{comparator, up};
+ghost use Rattle.semver_ranges.specs.Sides.{above, may_rise};
 ghost use Rattle.semver_ranges.specs.ExactBounds.{lowest_pre_release};
 ghost use Rattle.semver_ranges.specs.RangeViews.{comparator_of, identifier_of};
 ghost use Rattle.semver_ranges.specs.Steps.PartialViews.{states_none, stated_of};
 ghost use Rattle.semver_texts.specs.Texts.{cut_at_dots};
-ghost use Rattle.semver_ranges.specs.Steps.PartialViews.{number_at, place_number, pre_of};
+ghost use Rattle.semver_ranges.specs.Steps.PartialViews.{number_at, of_numbers, place_number};
 ghost use Rattle.semver_ranges.specs.Steps.PartialViews.{version_of};
 ghost use Rattle.semver_ranges.specs.Steps.PartialViews.{AreWritten, IsPartialOf};
 ghost use Rattle.semver_ranges.specs.Steps.PartialViews.{PartsPass};
@@ -64,15 +66,6 @@ pub enum Place {
     Major,
     Minor,
     Patch,
-}
-
-/// How a raised bound is written.
-#[derive(Clone, Copy)]
-pub enum RaisedBounds {
-    /// Without a pre-release, such as `<2.0.0`.
-    Plain,
-    /// With the lowest pre-release, such as `<2.0.0-0`.
-    Exact,
 }
 
 /// The numbers of a partial, with zeros for the missing ones, and its pre-release after three
@@ -156,14 +149,6 @@ impl<'input> Partial<'input> {
         ensures { result ≡ states_none self.now.kind }
     {
         matches!(self.kind, PartialKind::XRangeOnly)
-    }
-
-    /// Returns whether all numbers of the partial are at most 2^64 - 1.
-    #[inline(always)]
-    pub(crate) fn fits(&self) -> bool
-        ensures { result ≡ self.now.fits }
-    {
-        self.fits
     }
 
     // Determined by: equation.
@@ -269,18 +254,30 @@ impl<'input> Partial<'input> {
         }
     }
 
-    /// Returns whether the number at a place is below 2^64 - 1.
+    // Determined by: equation.
+    /// Returns the three numbers, with zeros for the missing ones.
     #[inline(always)]
-    pub(crate) fn may_rise(&self, place: Place) -> bool
-        requires { place_number place ≤ length (stated_of self.now) }
-        ensures { result ≡ bound_fits (Some (up (place_number place) (stated_of self.now))) }
+    pub fn numbers(&self) -> (u64, u64, u64)
+        ensures { result ≡ (self.now.major, self.now.minor, self.now.patch) }
     {
-        let number = match place {
-            Place::Major => self.major,
-            Place::Minor => self.minor,
-            Place::Patch => self.patch,
-        };
-        number < u64::MAX
+        (self.major, self.minor, self.patch)
+    }
+
+    // Determined by: free, a number that can't be raised: ../replayed_cases/stdin.
+    /// Returns the numbers up to a place, with the last of them raised by one, and zeros after it.
+    /// A number that is 2^64 - 1 isn't raised, since this is computed before it is known whether
+    /// the term fits.
+    #[inline(always)]
+    pub fn raised(&self, place: Place) -> (u64, u64, u64)
+        ensures { may_rise (2 ^ 64 - 1) (Some (above (place_number place)))
+            (numbers (version_of self.now)) ≡ true
+            → of_numbers result ≡ up (place_number place) (numbers (version_of self.now)) }
+    {
+        match place {
+            Place::Major => (self.major.saturating_add(1), 0, 0),
+            Place::Minor => (self.major, self.minor.saturating_add(1), 0),
+            Place::Patch => (self.major, self.minor, self.patch.saturating_add(1)),
+        }
     }
 
     // Determined by: equation.
@@ -305,50 +302,6 @@ impl<'input> Partial<'input> {
             patch: self.patch,
             pre,
         })
-    }
-
-    /// Returns the comparator for everything below the bound above all versions with these numbers
-    /// up to a place: that number is raised by one, and the numbers after it are 0. `Err` means out
-    /// of memory.
-    #[inline(always)]
-    pub(crate) fn raised(
-        &self,
-        alloc: Global,
-        place: Place,
-        raised: RaisedBounds,
-    ) -> Result<Comparator, AllocError>
-        requires stated { place_number place ≤ length (stated_of self.now) }
-        requires fits { bound_fits (Some (up (place_number place) (stated_of self.now))) ≡ true }
-        ensures value { IfOk result (λ c. comparator_of c
-            ≡ comparator Op.Lt (up_with (pre_of raised) (place_number place)
-            (stated_of self.now))) }
-        // Memory runs out only for the lowest pre-release.
-        ensures out_of_memory { IfErr result (λ _. raised ≡ RaisedBounds.Exact) }
-    {
-        let (major, minor, patch) = match place {
-            Place::Major => (self.major + 1, 0, 0),
-            Place::Minor => (self.major, self.minor + 1, 0),
-            Place::Patch => (self.major, self.minor, self.patch + 1),
-        };
-        Ok(Comparator {
-            op: Op::Lt,
-            major,
-            minor,
-            patch,
-            pre: raised_pre(alloc, raised)?,
-        })
-    }
-}
-
-/// Returns the pre-release of a raised bound: none, or the lowest. `Err` means out of memory.
-#[inline(always)]
-fn raised_pre(alloc: Global, raised: RaisedBounds) -> Result<Vec<Identifier>, AllocError>
-    ensures value { IfOk result (λ pre. map identifier_of pre.items ≡ pre_of raised) }
-    ensures out_of_memory { IfErr result (λ _. raised ≡ RaisedBounds.Exact) }
-{
-    match raised {
-        RaisedBounds::Plain => Ok(Vec::new(alloc)),
-        RaisedBounds::Exact => lowest_pre_release(alloc),
     }
 }
 

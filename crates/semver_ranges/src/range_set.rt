@@ -1,32 +1,26 @@
 //! Range sets: the ranges of a string in one of two modes, and how they are printed.
 
-ghost use Rattle.std.specs.Prelude.{Some, ◌≡◌, ◌⊎◌, ◌∷◌, true, [], IsTrue};
-ghost use Rattle.std.specs.Prelude.{IfOk, IfSome, IsOkAnd};
-ghost use Rattle.semver_texts.specs.declared.grammar.Grammar.TheVariants.{Crate};
-ghost use Rattle.semver_ranges.specs.RangeTree.{Simple as SimpleTree, SetTree, Spells, simples};
+ghost use Rattle.std.specs.Prelude.{Some, ◌≡◌, ◌⊎◌, [], IsTrue, IfOk, IsOkAnd};
 ghost use Rattle.semver_texts.specs.Versions.{PlainVersion};
+ghost use Rattle.semver_ranges.specs.RangeTree.{SetTree, Spells};
 ghost use Rattle.semver_ranges.specs.CrateMeaning.{meets_tree};
-ghost use Rattle.semver_ranges.specs.RewritingTable.{PlainSet, fits, rewritten, simple_fits};
+ghost use Rattle.semver_ranges.specs.RewritingTable.{PlainSet, fits, rewritten};
 ghost use Rattle.semver_ranges.specs.RangeTexts.{RefusesExactly};
 ghost use Rattle.semver_ranges.specs.ParsedSets.{IsParsed};
 ghost use Rattle.semver_ranges.specs.ExactBounds.{rewritten_exactly};
 ghost use Rattle.semver_ranges.specs.SatisfiedComparators.{meets_set, meets_tree_or_bounds};
 ghost use Rattle.semver_ranges.specs.PrintedRanges.{IsPrintableSet, set_text};
 ghost use Rattle.semver_ranges.specs.RangeViews.{set_of};
-ghost use Rattle.semver_ranges.specs.Steps.Reading.{read};
+ghost use Rattle.semver_ranges.specs.TermComparators.{pre_of};
 ghost use Rattle.semver_ranges.specs.Steps.Answers.{IsAnswer};
-ghost use Rattle.semver_ranges.specs.Steps.PartialViews.{pre_of};
-ghost use Rattle.semver_ranges.specs.Steps.DesugaredViews.{comparators_of, bounds_fit, IsBuildable};
-ghost use Rattle.semver_ranges.specs.Steps.DesugaredViews.{IsRow};
 
-use crate::desugared_texts::read_in_two_runs;
-use crate::desugaring::{Desugared, rewritten};
-use crate::grammar::read_term;
-use crate::partial::{Partial, RaisedBounds};
+use crate::dialect::Dialect;
+use crate::events::Events;
 use crate::range::{Compat, Range};
+use crate::rewriting::{Style, rewrite};
 use semver_texts::grammar::Grammar;
 use semver_texts::printing::write_joined;
-use std::alloc::{AllocError, Global};
+use std::alloc::Global;
 use std::fmt;
 use thiserror::Error;
 
@@ -148,7 +142,7 @@ impl RangeSet {
             → input.now ≡ set_text s →
             (result ≡ Err RangeError.OutOfMemory) ⊎ IsOkAnd result (λ set. set_of set ≡ s) }
     {
-        parse_with(alloc, input, compat, RaisedBounds::Plain)
+        parse_with(alloc, input, compat, Style::Plain)
     }
 
     // Determined by: law result_laws::ranges::one_parse_exact.
@@ -202,7 +196,7 @@ impl RangeSet {
             → input.now ≡ set_text s →
             (result ≡ Err RangeError.OutOfMemory) ⊎ IsOkAnd result (λ set. set_of set ≡ s) }
     {
-        parse_with(alloc, input, compat, RaisedBounds::Exact)
+        parse_with(alloc, input, compat, Style::Exact)
     }
 
     // In Rust: try_from_str.
@@ -216,76 +210,18 @@ impl RangeSet {
     }
 }
 
-/// Returns the range set of a string, or the reason why there is none. A string of one term is read
-/// at once, and any other in two passes.
+/// Returns the range set of a string in the crate's own dialect of a mode, or the reason why there
+/// is none.
 fn parse_with(
     alloc: Global,
     input: &str,
     compat: Compat,
-    raised: RaisedBounds,
+    style: Style,
 ) -> Result<RangeSet, RangeError>
-    ensures { IsAnswer (pre_of raised) input.now compat result }
+    ensures { IsAnswer (pre_of style) input.now compat result }
 {
-    let text = input.as_bytes();
-    let Some((partial, bounds)) = read_only_simple(text, compat) else {
-        return read_in_two_runs(alloc, text, compat, raised);
-    };
-    match build_only_simple(alloc, &partial, bounds, compat, raised) {
-        Ok(set) => Ok(set),
-        Err(_) => Err(RangeError::OutOfMemory),
-    }
-}
-
-/// The maximum length in bytes of a string that is first tried as one term, for speed. Longer
-/// strings seldom are one term, so they are read in two passes at once.
-const LONGEST_ONLY_SIMPLE: usize = 14;
-
-/// Returns the comparators of a string that is one term from its first byte on, and whose numbers
-/// fit. If it returns `None`, the two passes decide.
-fn read_only_simple(text: &[u8], compat: Compat) -> Option<(Partial<'_>, Desugared)>
-    ensures { IfSome result (λ found. (s : SimpleTree)
-        × (read Crate text.now ≡ Some (simples s [] ∷ []))
-        × IsRow compat s found.0 found.1 × (simple_fits compat s ≡ true)) }
-{
-    if text.len() > LONGEST_ONLY_SIMPLE {
-        return None;
-    }
-    let (term, rest) = read_term(text, Grammar::Crate)?;
-    if !rest.is_empty() {
-        return None;
-    }
-    let simple = term.simple(Grammar::Crate);
-    let bounds = rewritten(&simple, compat);
-    if bounds.fits(&simple.partial) {
-        Some((simple.partial, bounds))
-    } else {
-        None
-    }
-}
-
-/// Returns the set of one range with these comparators. `Err` means out of memory.
-fn build_only_simple(
-    alloc: Global,
-    partial: &Partial<'_>,
-    bounds: Desugared,
-    compat: Compat,
-    raised: RaisedBounds,
-) -> Result<RangeSet, AllocError>
-    requires buildable { IsBuildable bounds partial.now }
-    requires fits { bounds_fit bounds partial.now ≡ true }
-    ensures { IfOk result (λ set. set_of set ≡ record {
-      ranges = record { comparators = comparators_of raised bounds partial.now; compat = compat }
-          ∷ [];
-      compat = compat;
-    }) }
-{
-    let comparator_set = bounds.to_vec(alloc, partial, raised)?;
-    let mut ranges = Vec::with_capacity(alloc, 1)?;
-    ranges.push_reserved(Range {
-        comparator_set,
-        compat,
-    });
-    Ok(RangeSet { ranges, compat })
+    let begin = Events::new(input.as_bytes(), Grammar::Crate);
+    rewrite(alloc, begin, Dialect::of_mode(compat), style)
 }
 
 // Determined by: equation.

@@ -5,7 +5,7 @@ use release_filter::{LineEnd, LineOptions, Lines, LinesError, Selection};
 use std::alloc::Global;
 use std::io;
 use std::io::Write;
-use tool_ranges::dialect::Dialect;
+use semver_ranges::dialect::Dialect;
 use tool_ranges::meaning::Rules;
 use tool_ranges::version_range::VersionRange;
 use version_sets::PreReleases;

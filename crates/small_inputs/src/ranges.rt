@@ -10,7 +10,8 @@ use semver_parser::{Compat, RangeError, RangeSet, report};
 use std::alloc::{AllocError, Global};
 use std::io;
 use std::io::Write;
-use tool_ranges::dialect::{self, Dialect};
+use semver_ranges::dialect::Dialect;
+use tool_ranges::rewriting;
 use tool_ranges::meaning::{Rules, check};
 use tool_ranges::npm;
 use version_sets::PreReleases;
@@ -52,7 +53,7 @@ pub fn add_comparators(alloc: Global, bytes: &[u8], sum: &mut Checksum) -> io::R
         return Ok(());
     };
     for dialect in DIALECTS {
-        add_range_set(&dialect::rewrite(alloc, dialect, text), sum)?;
+        add_range_set(&rewriting::rewrite(alloc, dialect, text), sum)?;
     }
     add_range_set(&npm::rewrite_included(alloc, text), sum)
 }

@@ -20,9 +20,10 @@ use Rattle.version_sets.specs.declared.rules.PreReleases.TheVariants.{ByDialect,
 use Rattle.tool_ranges.specs.CargoMeaning.{against}
 use Rattle.tool_ranges.specs.CargoMeaning.{meets_by_count}
 use Rattle.tool_ranges.specs.Steps.Table.{is_within, is_counted_within}
-use Rattle.tool_ranges.specs.declared.dialect.Dialect.{Dialect}
-use Rattle.tool_ranges.specs.declared.dialect.Dialect.TheVariants.{Cargo, CrateCargo, CrateNpm}
-use Rattle.tool_ranges.proofs.Cells.{Spot, leading_of_two, leading_of_three, agrees_within, past_zeros_within, from_first, numbers_first}
+use Rattle.semver_ranges.specs.declared.dialect.Dialect.{Dialect}
+use Rattle.semver_ranges.specs.declared.dialect.Dialect.TheVariants.{Cargo, CrateCargo, CrateNpm}
+use Rattle.semver_ranges.proofs.Spots.{Spot, leading_of_two, leading_of_three}
+use Rattle.tool_ranges.proofs.Cells.{agrees_within, past_zeros_within, from_first, numbers_first}
 use Rattle.tool_ranges.proofs.Cells.{not_ge, not_gt, both_eq, le_parts, ge_parts, one_from, two_from, one_below, two_below, none_from}
 
 both_no : (b : Bool) → (b && not b) ≡ false

@@ -12,6 +12,7 @@ use Rattle.semver_ranges.specs.CrateMeaning.{agrees, agrees_past_zeros}
 use Rattle.semver_ranges.specs.Partials.{filled, leading_place}
 use Rattle.semver_ranges.proofs.CaretPlaces.{same_agreement}
 use Rattle.semver_ranges.proofs.Rows.{Step, step, and_step as after}
+use Rattle.semver_ranges.proofs.Spots.{Spot}
 use Rattle.version_sets.specs.Steps.Cuts.{first_numbers}
 use Rattle.tool_ranges.specs.CargoMeaning.{against}
 use Rattle.tool_ranges.proofs.NumberSteps.{not_less, is_less}
@@ -60,23 +61,6 @@ pub same_ge : {g : Ordering → Ordering} {e m : Bool} → Step g e m → (o : O
 same_ge Step.lower o h = refl
 same_ge Step.level o h = h
 same_ge Step.higher o h = refl
-
--- a position among one, two or three stated numbers
-pub data Spot : List ℕ → ℕ → Type 0 where
-  first_of_one : (x : ℕ) → Spot (x ∷ []) 1
-  first_of_two : (x y : ℕ) → Spot (x ∷ y ∷ []) 1
-  second_of_two : (x y : ℕ) → Spot (x ∷ y ∷ []) 2
-  first_of_three : (x y w : ℕ) → Spot (x ∷ y ∷ w ∷ []) 1
-  second_of_three : (x y w : ℕ) → Spot (x ∷ y ∷ w ∷ []) 2
-  third_of_three : (x y w : ℕ) → Spot (x ∷ y ∷ w ∷ []) 3
-
-pub leading_of_two : (x y : ℕ) → Spot (x ∷ y ∷ []) (leading_place (x ∷ y ∷ []))
-leading_of_two x y = by_test (x == 0) (λ z. rw z (Spot.second_of_two x y)) (λ n. rw n (Spot.first_of_two x y))
-
-pub leading_of_three : (x y w : ℕ) → Spot (x ∷ y ∷ w ∷ []) (leading_place (x ∷ y ∷ w ∷ []))
-leading_of_three x y w = by_test (x == 0)
-    (λ z. by_test (y == 0) (λ q. rw (z, q) (Spot.third_of_three x y w)) (λ n. rw (z, n) (Spot.second_of_three x y w)))
-    (λ n. rw n (Spot.first_of_three x y w))
 
 module _ (v : PlainVersion) where
   one_step : (x : ℕ) → Step (λ o. ordering_then (nat_cmp v.major x) o) (agrees 1 (x ∷ []) v) (nat_eq v.major x && true)

@@ -25,9 +25,9 @@ use Rattle.semver_ranges.specs.CargoGrammar.{is_cargo}
 use Rattle.semver_ranges.specs.Steps.Reading.{read}
 use Rattle.semver_ranges.specs.Steps.RangeEvents.{events}
 use Rattle.semver_ranges.proofs.EventSteps.{begin_left}
-use Rattle.tool_ranges.specs.Dialects.{grammar_of}
-use Rattle.tool_ranges.specs.declared.dialect.Dialect.{Dialect}
-use Rattle.tool_ranges.specs.declared.dialect.Dialect.TheVariants.{Cargo, Npm, CrateCargo, CrateNpm}
+use Rattle.semver_ranges.specs.DialectTable.{grammar_of}
+use Rattle.semver_ranges.specs.declared.dialect.Dialect.{Dialect}
+use Rattle.semver_ranges.specs.declared.dialect.Dialect.TheVariants.{Cargo, Npm, CrateCargo, CrateNpm}
 use Rattle.tool_ranges.specs.Steps.TextEvents.{commas, events_in, has_few_commas, may_be_a_range, ranges_of, read_as, requirement}
 use Rattle.tool_ranges.specs.Steps.TextEvents.{text_events, tree_of}
 use Rattle.tool_ranges.specs.SpelledItems.{comparator_term, comparators_items}

@@ -23,10 +23,11 @@ use Rattle.semver_ranges.proofs.ReadingComplete.{simple_no_end, simple_no_hyphen
 use Rattle.semver_ranges.proofs.ItemSteps.{left_next}
 use Rattle.semver_ranges.proofs.ReadingPieces.{is_word_byte, starts-append, word_starts}
 use Rattle.semver_ranges.proofs.WrittenPieces.{blanks_after, no_blank, no_blank_byte, operator_read, partial_read, simple_read, stops}
-use Rattle.tool_ranges.specs.Dialects.{SpellsAs, grammar_of}
+use Rattle.tool_ranges.specs.Dialects.{SpellsAs}
+use Rattle.semver_ranges.specs.DialectTable.{grammar_of}
 use Rattle.tool_ranges.specs.SpelledItems.{items_in, padded_items, range_items, ranges_items, simple_item, simples_items}
-use Rattle.tool_ranges.specs.declared.dialect.Dialect.{Dialect}
-use Rattle.tool_ranges.specs.declared.dialect.Dialect.TheVariants.{Cargo, Npm}
+use Rattle.semver_ranges.specs.declared.dialect.Dialect.{Dialect}
+use Rattle.semver_ranges.specs.declared.dialect.Dialect.TheVariants.{Cargo, Npm}
 use Rattle.tool_ranges.proofs.Comparators.{comparators_complete}
 
 module _ (d : Grammar) where

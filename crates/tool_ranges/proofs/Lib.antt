@@ -5,11 +5,9 @@ pub mod Comparators
 pub mod ItemsFound
 mod ReadTrees
 pub mod ReadingLaws
-mod LeftEvents
 -- the table of sides, and which numbers fit
 mod NumberSteps
 mod TableLaws
-pub mod FitCells
 mod CheckedEvents
 mod TooLargeNumbers
 -- a version is between the sides of a term if and only if it satisfies the term
@@ -30,7 +28,6 @@ mod ContainedTexts
 -- the comparators of a text
 mod AnySizes
 mod SideComparators
-mod PrintedTerms
 mod PrintedSets
 mod PrintedMeanings
 mod PrintableSets

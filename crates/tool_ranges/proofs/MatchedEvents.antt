@@ -13,8 +13,8 @@ use Rattle.semver_ranges.specs.StatedPreReleases.{states_pre_release_at}
 use Rattle.semver_ranges.specs.Terms.{of_simple}
 use Rattle.semver_ranges.specs.Steps.RangeEvents.{Event, one_simple, next_range, put, in_front, event_fits, yielded}
 use Rattle.semver_ranges.proofs.EventLists.{set_fits}
-use Rattle.tool_ranges.specs.declared.dialect.Dialect.{Dialect}
-use Rattle.tool_ranges.specs.declared.dialect.Dialect.TheVariants.{Cargo, Npm}
+use Rattle.semver_ranges.specs.declared.dialect.Dialect.{Dialect}
+use Rattle.semver_ranges.specs.declared.dialect.Dialect.TheVariants.{Cargo, Npm}
 use Rattle.tool_ranges.specs.declared.matching.Progress.{Progress}
 use Rattle.semver_ranges.specs.CargoGrammar.{as_read}
 use Rattle.semver_ranges.specs.CargoGrammar.{comparators_of}
@@ -22,7 +22,7 @@ use Rattle.tool_ranges.specs.Dialects.{SpellsAs, fits_as}
 use Rattle.tool_ranges.specs.NpmMeaning.{matches_everything}
 use Rattle.tool_ranges.specs.Steps.TextEvents.{events_in, ranges_of, read_as, text_events}
 use Rattle.tool_ranges.specs.Steps.Matching.{Says, after, begun, counts, ended, range_every, range_met, taken, term_met}
-use Rattle.tool_ranges.specs.Sides.{term_fits}
+use Rattle.semver_ranges.specs.Sides.{term_fits}
 use Rattle.tool_ranges.specs.Steps.Reading.{IsRead, IsRefusedAs}
 use Rattle.tool_ranges.proofs.Comparators.{same_ranges}
 use Rattle.tool_ranges.proofs.ReadTrees.{sound_as}

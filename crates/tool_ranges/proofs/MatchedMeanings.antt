@@ -7,8 +7,8 @@ use Rattle.semver_ranges.specs.RangeTree.{SetTree}
 use Rattle.tool_ranges.specs.CargoMeaning.{meets_requirement}
 use Rattle.tool_ranges.specs.Meanings.{meant_by}
 use Rattle.tool_ranges.specs.NpmMeaning.{meets_npm}
-use Rattle.tool_ranges.specs.declared.dialect.Dialect.{Dialect}
-use Rattle.tool_ranges.specs.declared.dialect.Dialect.TheVariants.{Cargo, Npm}
+use Rattle.semver_ranges.specs.declared.dialect.Dialect.{Dialect}
+use Rattle.semver_ranges.specs.declared.dialect.Dialect.TheVariants.{Cargo, Npm}
 
 pub same_plain : (d : Dialect) (rule : PreReleases) (tree : SetTree) (w w' : VersionValue) → w.plain ≡ w'.plain
     → meant_by d rule tree w ≡ meant_by d rule tree w'

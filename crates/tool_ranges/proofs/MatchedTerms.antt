@@ -17,15 +17,15 @@ use Rattle.semver_ranges.specs.Terms.{of_simple}
 use Rattle.semver_ranges.specs.Steps.CursorViews.{IsSimpleOf}
 use Rattle.semver_ranges.specs.Steps.PartialViews.{stated_of, version_of}
 use Rattle.semver_ranges.proofs.SetMeanings.{stated_shape}
-use Rattle.tool_ranges.specs.declared.dialect.Dialect.{Dialect}
-use Rattle.tool_ranges.specs.declared.dialect.Dialect.TheVariants.{Cargo, Npm, CrateCargo, CrateNpm}
-use Rattle.tool_ranges.specs.Dialects.{grammar_of}
+use Rattle.semver_ranges.specs.declared.dialect.Dialect.{Dialect}
+use Rattle.semver_ranges.specs.declared.dialect.Dialect.TheVariants.{Cargo, Npm, CrateCargo, CrateNpm}
+use Rattle.semver_ranges.specs.DialectTable.{grammar_of}
 use Rattle.tool_ranges.specs.NpmMeaning.{asks_nothing_by, is_zero, matches_everything}
 use Rattle.tool_ranges.specs.Steps.Matching.{states_at, term_met}
-use Rattle.tool_ranges.specs.Sides.{term_fits}
+use Rattle.semver_ranges.specs.Sides.{term_fits}
 use Rattle.tool_ranges.specs.Steps.Table.{is_counted_within, is_within}
 use Rattle.tool_ranges.proofs.CargoCells.{cargo_all, cargo_counted, cargo_release, own_within}
-use Rattle.tool_ranges.proofs.FitCells.{term_stated}
+use Rattle.semver_ranges.proofs.FitCells.{term_stated}
 use Rattle.tool_ranges.proofs.NpmCells.{npm_all, npm_counted, npm_release}
 
 none_is : (is : List IdentifierValue) → is_empty is ≡ true → is ≡ []

@@ -14,15 +14,16 @@ use Rattle.semver_ranges.specs.declared.operator.Operator.TheVariants.{Caret, Hy
 use Rattle.semver_ranges.specs.CrateMeaning.{agrees, agrees_past_zeros}
 use Rattle.semver_ranges.specs.Partials.{filled, leading_place}
 use Rattle.semver_ranges.proofs.Rows.{Shape, step}
-use Rattle.version_sets.specs.Sides.{at, below}
+use Rattle.semver_ranges.specs.Sides.{at, below}
 use Rattle.version_sets.specs.Steps.Cuts.{first_numbers}
 use Rattle.version_sets.specs.declared.rules.PreReleases.TheVariants.{ByDialect, Included}
 use Rattle.tool_ranges.specs.CargoMeaning.{against}
 use Rattle.tool_ranges.specs.NpmMeaning.{is_zero, is_from, meets_by_count}
 use Rattle.tool_ranges.specs.Steps.Table.{is_within, is_counted_within, is_past_release}
-use Rattle.tool_ranges.specs.declared.dialect.Dialect.TheVariants.{Npm}
+use Rattle.semver_ranges.specs.declared.dialect.Dialect.TheVariants.{Npm}
 use Rattle.tool_ranges.proofs.NumberSteps.{not_less, is_above, is_above_after}
-use Rattle.tool_ranges.proofs.Cells.{Spot, leading_of_two, leading_of_three, agrees_within, past_zeros_within, from_first, numbers_first}
+use Rattle.semver_ranges.proofs.Spots.{Spot, leading_of_two, leading_of_three}
+use Rattle.tool_ranges.proofs.Cells.{agrees_within, past_zeros_within, from_first, numbers_first}
 use Rattle.tool_ranges.proofs.Cells.{not_ge, not_gt, both_eq, one_from, two_from, one_below, two_below, none_from}
 
 module _ (v : PlainVersion) where

@@ -21,20 +21,21 @@ use Rattle.semver_ranges.specs.RangeTree.{Simple, SetTree}
 use Rattle.semver_ranges.specs.RewritingTable.{PlainSet}
 use Rattle.semver_ranges.specs.StatedPreReleases.{states_pre_release_at}
 use Rattle.semver_ranges.specs.Terms.{of_simple}
-use Rattle.semver_ranges.specs.Steps.DesugaredViews.{range_of_simples}
+use Rattle.semver_ranges.specs.Steps.Answers.{range_of_simples}
 use Rattle.semver_ranges.specs.Steps.RangeEvents.{yielded}
 use Rattle.semver_ranges.proofs.Rows.{Shape}
 use Rattle.semver_ranges.proofs.SetMeanings.{stated_shape}
 use Rattle.semver_ranges.proofs.Tests.{list_all-weaker, list_any-weaker, list_any-same}
-use Rattle.version_sets.specs.declared.rules.PreReleases.{PreReleases}
+use Rattle.semver_ranges.specs.declared.rewriting.Style.{Style}
+use Rattle.semver_ranges.specs.declared.rewriting.Style.TheVariants.{Exact, Lowest}
 use Rattle.version_sets.specs.declared.rules.PreReleases.TheVariants.{ByDialect, Included}
 use Rattle.tool_ranges.specs.AnySize.{comparator_any, range_any, set_any}
 use Rattle.tool_ranges.specs.CargoMeaning as cargo
 use Rattle.tool_ranges.specs.NpmMeaning as npm
 use Rattle.tool_ranges.specs.NpmMeaning.{asks_nothing_by, is_zero, matches_everything, meets_by_count}
-use Rattle.tool_ranges.specs.declared.dialect.Dialect.{Dialect}
-use Rattle.tool_ranges.specs.declared.dialect.Dialect.TheVariants.{Cargo, Npm}
-use Rattle.tool_ranges.specs.TermComparators.{printed_term}
+use Rattle.semver_ranges.specs.declared.dialect.Dialect.{Dialect}
+use Rattle.semver_ranges.specs.declared.dialect.Dialect.TheVariants.{Cargo, Npm}
+use Rattle.semver_ranges.specs.TermComparators.{printed_term}
 use Rattle.tool_ranges.specs.Steps.Matching.{range_every, range_met, term_met}
 use Rattle.tool_ranges.specs.Steps.TextEvents.{ranges_of}
 use Rattle.tool_ranges.specs.Steps.Printed.{printed_ranges}
@@ -45,18 +46,18 @@ use Rattle.tool_ranges.proofs.SideComparators.{both_sided, lowest_ge, term_meets
 
 -- ---- terms and ranges
 
-module _ (rule : PreReleases) (d : Dialect) (all : Bool) (v : PlainVersion)
-    (each : (s : Simple) → list_all (meets_comparator v) (map comparator_any (printed_term rule d s)) ≡ term_met d all v s) where
+module _ (style : Style) (d : Dialect) (all : Bool) (v : PlainVersion)
+    (each : (s : Simple) → list_all (meets_comparator v) (map comparator_any (printed_term style d s)) ≡ term_met d all v s) where
   terms_meet : (ss : List Simple)
-      → list_all (meets_comparator v) (map comparator_any (flat_map (printed_term rule d) ss)) ≡ list_all (term_met d all v) ss
+      → list_all (meets_comparator v) (map comparator_any (flat_map (printed_term style d) ss)) ≡ list_all (term_met d all v) ss
   terms_meet [] = refl
   terms_meet (s ∷ ss) =
-      ap (list_all (meets_comparator v)) (map-append comparator_any (printed_term rule d s) (flat_map (printed_term rule d) ss))
-      ∙ list_all-append (meets_comparator v) (map comparator_any (printed_term rule d s)) _
+      ap (list_all (meets_comparator v)) (map-append comparator_any (printed_term style d s) (flat_map (printed_term style d) ss))
+      ∙ list_all-append (meets_comparator v) (map comparator_any (printed_term style d s)) _
       ∙ (λ i. each s i && terms_meet ss i)
 
   ranges_meet : (mode : Compat) (rs : List (List Simple))
-      → list_any (meets_range v) (map range_any (map (range_of_simples (printed_term rule d) mode) rs))
+      → list_any (meets_range v) (map range_any (map (range_of_simples (printed_term style d) mode) rs))
       ≡ list_any (λ ss. list_all (term_met d all v) ss) rs
   ranges_meet mode [] = refl
   ranges_meet mode (ss ∷ rs) = λ i. terms_meet ss i || ranges_meet mode rs i
@@ -64,9 +65,9 @@ module _ (rule : PreReleases) (d : Dialect) (all : Bool) (v : PlainVersion)
 -- ---- npm, with every pre-release within the bounds
 
 module _ (v : PlainVersion) where
-  included_term : (s : Simple) → list_all (meets_comparator v) (map comparator_any (printed_term Included Npm s)) ≡ term_met Npm true v s
+  included_term : (s : Simple) → list_all (meets_comparator v) (map comparator_any (printed_term Lowest Npm s)) ≡ term_met Npm true v s
   included_term s =
-      term_meets Included v (lowest_ge v) Npm s (both_sided s.operator (stated_shape s.partial) (pre_any s.partial) (none_any s)).1
+      term_meets Lowest refl v (lowest_ge v) Npm s (both_sided s.operator (stated_shape s.partial) (pre_any s.partial) (none_any s)).1
       ∙ all_means s v Npm
 
   included_ranges : (tree : SetTree)
@@ -75,10 +76,10 @@ module _ (v : PlainVersion) where
   included_ranges (r ∷ tree) = λ i. (sym (and-true _) ∙ included_range v r) i || included_ranges tree i
 
   pub included_meets : (tree : SetTree) (set : PlainSet)
-      → set ≡ record { ranges = printed_ranges Included Npm mode.Npm tree; compat = mode.Npm }
+      → set ≡ record { ranges = printed_ranges Lowest Npm mode.Npm tree; compat = mode.Npm }
       → meets_set v (set_any set) ≡ npm.meets_npm Included tree v
   included_meets tree set is = ap (λ s. meets_set v (set_any s)) is
-      ∙ ranges_meet Included Npm true v included_term mode.Npm (map yielded tree) ∙ included_ranges tree
+      ∙ ranges_meet Lowest Npm true v included_term mode.Npm (map yielded tree) ∙ included_ranges tree
 
 -- ---- releases
 
@@ -89,14 +90,14 @@ module _ (v : PlainVersion) (release : v.pre ≡ []) where
   release_ge : is_ge (pre_cmp v.pre []) ≡ true
   release_ge = ap (λ q. is_ge (pre_cmp q [])) release
 
-  cargo_term : (s : Simple) → list_all (meets_comparator v) (map comparator_any (printed_term ByDialect Cargo s)) ≡ term_met Cargo false v s
+  cargo_term : (s : Simple) → list_all (meets_comparator v) (map comparator_any (printed_term Exact Cargo s)) ≡ term_met Cargo false v s
   cargo_term s =
-      term_meets ByDialect v release_ge Cargo s (both_sided s.operator (stated_shape s.partial) (pre_any s.partial) (none_any s)).0
+      term_meets Exact refl v release_ge Cargo s (both_sided s.operator (stated_shape s.partial) (pre_any s.partial) (none_any s)).0
       ∙ release_means s v Cargo release
 
-  npm_term : (s : Simple) → list_all (meets_comparator v) (map comparator_any (printed_term ByDialect Npm s)) ≡ term_met Npm false v s
+  npm_term : (s : Simple) → list_all (meets_comparator v) (map comparator_any (printed_term Exact Npm s)) ≡ term_met Npm false v s
   npm_term s =
-      term_meets ByDialect v release_ge Npm s (both_sided s.operator (stated_shape s.partial) (pre_any s.partial) (none_any s)).1
+      term_meets Exact refl v release_ge Npm s (both_sided s.operator (stated_shape s.partial) (pre_any s.partial) (none_any s)).1
       ∙ release_means s v Npm release
 
   -- a release counts in each range
@@ -108,10 +109,10 @@ module _ (v : PlainVersion) (release : v.pre ≡ []) where
   ranges_counted d rs = list_any-same (λ ss. list_all (term_met d false v) ss) (range_met d false v) (counted d) rs
 
   pub cargo_meets : (tree : SetTree) (set : PlainSet)
-      → set ≡ record { ranges = printed_ranges ByDialect Cargo mode.Cargo tree; compat = mode.Cargo }
+      → set ≡ record { ranges = printed_ranges Exact Cargo mode.Cargo tree; compat = mode.Cargo }
       → meets_set v set ≡ cargo.meets_requirement ByDialect tree v
   cargo_meets tree set is = sym (release_set v set is_release) ∙ ap (λ s. meets_set v (set_any s)) is
-      ∙ ranges_meet ByDialect Cargo false v cargo_term mode.Cargo (ranges_of Cargo tree)
+      ∙ ranges_meet Exact Cargo false v cargo_term mode.Cargo (ranges_of Cargo tree)
       ∙ ranges_counted Cargo (ranges_of Cargo tree) ∙ cargo_default v tree
 
   -- a release satisfies a term that matches everything
@@ -146,8 +147,8 @@ module _ (v : PlainVersion) (release : v.pre ≡ []) where
       (λ n. rw n refl)
 
   pub npm_meets : (tree : SetTree) (set : PlainSet)
-      → set ≡ record { ranges = printed_ranges ByDialect Npm mode.Npm tree; compat = mode.Npm }
+      → set ≡ record { ranges = printed_ranges Exact Npm mode.Npm tree; compat = mode.Npm }
       → meets_set v set ≡ npm.meets_npm ByDialect tree v
   npm_meets tree set is = sym (release_set v set is_release) ∙ ap (λ s. meets_set v (set_any s)) is
-      ∙ ranges_meet ByDialect Npm false v npm_term mode.Npm (map yielded tree)
+      ∙ ranges_meet Exact Npm false v npm_term mode.Npm (map yielded tree)
       ∙ ranges_counted Npm (map yielded tree) ∙ every_range (map yielded tree) ∙ npm_default v tree

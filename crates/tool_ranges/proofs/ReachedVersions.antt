@@ -18,15 +18,16 @@ use Rattle.version_sets.specs.declared.rules.PreReleases.{PreReleases}
 use Rattle.version_sets.specs.declared.rules.PreReleases.TheVariants.{ByDialect, Included, Excluded}
 use Rattle.version_sets.specs.Steps.Ends.{in_each}
 use Rattle.version_sets.specs.VersionSets.{Fits, IsPreRelease, IsRelease}
-use Rattle.tool_ranges.specs.declared.checked.Checked.{Checked}
-use Rattle.tool_ranges.specs.declared.dialect.Dialect.{Dialect}
+use Rattle.semver_ranges.specs.declared.checked.Checked.{Checked}
+use Rattle.semver_ranges.specs.declared.dialect.Dialect.{Dialect}
 use Rattle.tool_ranges.specs.declared.matching.Progress.{Progress}
 use Rattle.tool_ranges.specs.AtOrAbove as ofs
 use Rattle.tool_ranges.specs.Meanings.{meant_by}
-use Rattle.tool_ranges.specs.Dialects.{SpellsAs, grammar_of}
+use Rattle.tool_ranges.specs.Dialects.{SpellsAs}
+use Rattle.semver_ranges.specs.DialectTable.{grammar_of}
 use Rattle.tool_ranges.specs.NpmMeaning.{matches_everything}
-use Rattle.tool_ranges.specs.Sides.{term_fits}
-use Rattle.tool_ranges.specs.Steps.Checked.{HasEvents}
+use Rattle.semver_ranges.specs.Sides.{term_fits}
+use Rattle.semver_ranges.specs.Steps.Checked.{HasEvents}
 use Rattle.tool_ranges.specs.Steps.TextEvents.{events_in, ranges_of}
 use Rattle.tool_ranges.specs.Steps.Matching.{after, begun, counts, ended, is_met, taken, takes_all, takes_releases, term_met}
 use Rattle.tool_ranges.specs.Steps.Reaching.{may_count, states_some}

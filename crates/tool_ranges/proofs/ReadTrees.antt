@@ -14,8 +14,8 @@ use Rattle.semver_ranges.specs.Steps.Reading.{read}
 use Rattle.semver_ranges.proofs.ReadingComplete.{tree_read}
 use Rattle.semver_ranges.proofs.ReadingSound.{read_sound}
 use Rattle.semver_ranges.specs.RangeTree.{SetTree}
-use Rattle.tool_ranges.specs.declared.dialect.Dialect.{Dialect}
-use Rattle.tool_ranges.specs.declared.dialect.Dialect.TheVariants.{Cargo, Npm}
+use Rattle.semver_ranges.specs.declared.dialect.Dialect.{Dialect}
+use Rattle.semver_ranges.specs.declared.dialect.Dialect.TheVariants.{Cargo, Npm}
 use Rattle.tool_ranges.specs.Dialects.{RefusesAs, SpellsAs, fits_as}
 use Rattle.tool_ranges.specs.NpmGrammar.{may_stand}
 use Rattle.tool_ranges.specs.Steps.TextEvents.{read_as}

@@ -4,7 +4,7 @@ use Rattle.std.proofs.Common.{◌≡◌, Ok, rules}
 use Rattle.semver_texts.specs.Texts.{Text}
 use Rattle.semver_ranges.specs.RangeTexts.{Refuses}
 use Rattle.semver_ranges.specs.RangeTree.{SetTree}
-use Rattle.tool_ranges.specs.declared.dialect.Dialect.{Dialect}
+use Rattle.semver_ranges.specs.declared.dialect.Dialect.{Dialect}
 use Rattle.tool_ranges.specs.Dialects.{SpellsAs}
 use Rattle.tool_ranges.proofs.ReadTrees.{complete_as, same_read}
 

@@ -16,12 +16,12 @@ use Rattle.semver_ranges.specs.RangeViews.{set_of}
 use Rattle.semver_ranges.specs.RewritingTable.{PlainSet, fits, rewritten}
 use Rattle.semver_ranges.specs.SatisfiedComparators.{meets_set}
 use Rattle.semver_ranges.proofs.AnsweredLaws.{set_printable}
-use Rattle.version_sets.specs.declared.rules.PreReleases.TheVariants.{ByDialect}
-use Rattle.tool_ranges.specs.declared.dialect.Dialect.{Dialect}
-use Rattle.tool_ranges.specs.declared.dialect.Dialect.TheVariants as dialect
+use Rattle.semver_ranges.specs.declared.rewriting.Style.TheVariants.{Exact}
+use Rattle.semver_ranges.specs.declared.dialect.Dialect.{Dialect}
+use Rattle.semver_ranges.specs.declared.dialect.Dialect.TheVariants as dialect
 use Rattle.tool_ranges.specs.Dialects.{HasSetAs, IsRewrittenAs, SpellsAs, fits_as, means_release, rewritten_as}
 use Rattle.semver_ranges.specs.CargoGrammar.{as_read}
-use Rattle.tool_ranges.specs.TermComparators.{printed_term}
+use Rattle.semver_ranges.specs.TermComparators.{printed_term}
 use Rattle.tool_ranges.specs.Steps.Printed.{IsPrintedAs, printed_ranges}
 use Rattle.tool_ranges.proofs.PrintableSets.{npm_prints, reads_back, requirement_printable}
 use Rattle.tool_ranges.proofs.PrintedMeanings.{cargo_meets, npm_meets}
@@ -31,9 +31,9 @@ use Rattle.tool_ranges.proofs.PrintedSets.{npm_ranges}
 -- printed if the numbers of the tree fit
 pub record Rewrites (d : Dialect) (mode : Compat) : Type 0 where
   pub same : (t : Text) (tree : SetTree) → SpellsAs d tree t
-      → record { ranges = printed_ranges ByDialect d mode tree; compat = mode } ≡ rewritten_as d tree
+      → record { ranges = printed_ranges Exact d mode tree; compat = mode } ≡ rewritten_as d tree
   pub meets : (tree : SetTree) (set : PlainSet) (v : PlainVersion) → v.pre ≡ []
-      → set ≡ record { ranges = printed_ranges ByDialect d mode tree; compat = mode } → meets_set v set ≡ means_release d tree v
+      → set ≡ record { ranges = printed_ranges Exact d mode tree; compat = mode } → meets_set v set ≡ means_release d tree v
   pub prints : (t : Text) (tree : SetTree) → SpellsAs d tree t → fits_as d tree ≡ true → IsPrintableSet (rewritten_as d tree)
 
 pub npm_rewrites : Rewrites dialect.Npm Npm
@@ -44,10 +44,10 @@ npm_rewrites = record {
 }
 
 cargo_same : (t : Text) (tree : SetTree) → SpellsAs dialect.Cargo tree t
-    → record { ranges = printed_ranges ByDialect dialect.Cargo Cargo tree; compat = Cargo } ≡ rewritten_as dialect.Cargo tree
+    → record { ranges = printed_ranges Exact dialect.Cargo Cargo tree; compat = Cargo } ≡ rewritten_as dialect.Cargo tree
 cargo_same t (simples first others ∷ []) h =
     ap (λ cs. record { ranges = record { comparators = cs; compat = Cargo } ∷ []; compat = Cargo })
-    (flat_map-map (printed_term ByDialect dialect.Cargo) as_read (first ∷ others))
+    (flat_map-map (printed_term Exact dialect.Cargo) as_read (first ∷ others))
 cargo_same t _ h = absurd h.comparators
 
 pub cargo_rewrites : Rewrites dialect.Cargo Cargo
@@ -59,7 +59,7 @@ cargo_rewrites = record {
 
 module _ {d : Dialect} {mode : Compat} (by : Rewrites d mode) (t : Text) where
   abbrev Printed : Result RangeSet RangeError → Type 0
-  Printed r = IfOk r (λ set. IsPrintedAs ByDialect d mode t (set_of set))
+  Printed r = IfOk r (λ set. IsPrintedAs Exact d mode t (set_of set))
 
   pub as_rewritten : (r : Result RangeSet RangeError) → Printed r
       → IfOk r (λ set. IsRewrittenAs d t (set_of set))
@@ -71,7 +71,7 @@ module _ {d : Dialect} {mode : Compat} (by : Rewrites d mode) (t : Text) where
   releases (Ok set) is = λ tree v h release. by.meets tree (set_of set) v release (is tree h)
   releases (Err e) is = tt
 
-  one_printable : (set : PlainSet) → HasSetAs d t → IsPrintedAs ByDialect d mode t set → IsPrintableSet set
+  one_printable : (set : PlainSet) → HasSetAs d t → IsPrintedAs Exact d mode t set → IsPrintableSet set
   one_printable set (tree, h, fit) is = subst IsPrintableSet (sym (is tree h ∙ by.same t tree h)) (by.prints t tree h fit)
 
   pub printable : (r : Result RangeSet RangeError) → IfOk r (λ _. HasSetAs d t) → Printed r → IfOk r (λ set. IsPrintableSet (set_of set))

@@ -9,7 +9,7 @@ use Rattle.semver_texts.specs.Versions.{VersionValue}
 use Rattle.semver_texts.specs.declared.grammar.Grammar.{Grammar}
 use Rattle.tool_ranges.specs.Dialects.{HasSetAs, IsTooLargeAs, RefusesAs, fits_as}
 use Rattle.tool_ranges.specs.Satisfying.{AnswersOf, Satisfies}
-use Rattle.tool_ranges.specs.declared.dialect.Dialect.{Dialect}
+use Rattle.semver_ranges.specs.declared.dialect.Dialect.{Dialect}
 use Rattle.tool_ranges.specs.declared.meaning.Rules.{Rules}
 use Rattle.tool_ranges.specs.declared.satisfying.SatisfiesError.{SatisfiesError}
 use Rattle.tool_ranges.specs.declared.satisfying.SatisfiesError.TheVariants.{InvalidRange, InvalidVersion}

@@ -7,7 +7,7 @@ use Rattle.std.proofs.lemmas.Bool.{and_parts}
 use Rattle.std.proofs.lemmas.List.{map-append}
 use Rattle.std.specs.Prelude.{is_some}
 use Rattle.std.specs.List.{list_all}
-use Rattle.std.specs.Ordering.{nat_cmp, ordering_then, is_ge, is_gt}
+use Rattle.std.specs.Ordering.{nat_cmp, ordering_then, is_ge, is_gt, is_lt}
 use Rattle.std.specs.declared.cmp.Ordering.{Ordering}
 use Rattle.semver_texts.specs.Digits.{plain_by}
 use Rattle.semver_texts.specs.Precedence.{precedence, pre_cmp}
@@ -25,18 +25,20 @@ use Rattle.semver_ranges.specs.RangeTree.{Simple}
 use Rattle.semver_ranges.specs.RewritingTable.{up, with_pre_release}
 use Rattle.semver_ranges.proofs.Rows.{Shape, Tail, same, past as tail_past, floor, step, and_step as after}
 use Rattle.version_sets.proofs.DigitLaws.{by_empty}
-use Rattle.version_sets.specs.Sides.{SideValue, below, at, past, above}
+use Rattle.semver_ranges.specs.Sides.{SideValue, below, at, past, above}
 use Rattle.version_sets.specs.Steps.Cuts.{first_numbers, is_above_lower, is_above_upper, is_between}
 use Rattle.tool_ranges.specs.AnySize.{comparator_any}
-use Rattle.version_sets.specs.declared.rules.PreReleases.{PreReleases}
-use Rattle.version_sets.specs.declared.rules.PreReleases.TheVariants.{ByDialect, Included, Excluded}
-use Rattle.tool_ranges.specs.declared.dialect.Dialect.{Dialect}
-use Rattle.tool_ranges.specs.declared.dialect.Dialect.TheVariants.{Cargo, Npm}
-use Rattle.tool_ranges.specs.Sides.{ends_past, sides}
-use Rattle.tool_ranges.specs.TermComparators.{at_side, lower_comparator, printed, printed_term, upper_comparator}
+use Rattle.semver_ranges.specs.declared.rewriting.Style.{Style}
+use Rattle.semver_ranges.specs.declared.rewriting.Style.TheVariants.{Plain, Exact, Lowest}
+use Rattle.semver_ranges.specs.declared.dialect.Dialect.{Dialect}
+use Rattle.semver_ranges.specs.declared.dialect.Dialect.TheVariants.{Cargo, Npm}
+use Rattle.semver_ranges.specs.Sides.{ends_past, sides}
+use Rattle.semver_ranges.specs.TermComparators.{at_side, lower_comparator, pre_of, printed, printed_term}
+use Rattle.semver_ranges.specs.TermComparators.{upper_comparator}
 use Rattle.tool_ranges.specs.Steps.Table.{is_within}
 use Rattle.tool_ranges.proofs.AnySizes.{pre_any}
-use Rattle.tool_ranges.proofs.Cells.{Spot, both_eq, leading_of_two, leading_of_three, not_ge, not_gt, same_ge}
+use Rattle.semver_ranges.proofs.Spots.{Spot, leading_of_two, leading_of_three, raised_same}
+use Rattle.tool_ranges.proofs.Cells.{both_eq, not_ge, not_gt, same_ge}
 use Rattle.tool_ranges.proofs.NumberSteps.{is_above, is_above_after, not_less}
 
 -- ---- the sides of the table
@@ -112,42 +114,35 @@ both_sided operator (Shape.one x) p none = rw (none refl) (one_sided operator x)
 both_sided operator (Shape.two x y) p none = rw (none refl) (two_sided operator x y)
 both_sided operator (Shape.three x y w) p none = three_sided operator x y w p
 
--- raising a number of the zero-filled version is raising the stated number
-pub raised_same : {s : List ℕ} {k : ℕ} → Spot s k → (p : List IdentifierValue) → up k (numbers (filled s p)) ≡ up k s
-raised_same (Spot.first_of_one x) p = refl
-raised_same (Spot.first_of_two x y) p = refl
-raised_same (Spot.second_of_two x y) p = refl
-raised_same (Spot.first_of_three x y w) p = refl
-raised_same (Spot.second_of_three x y w) p = refl
-raised_same (Spot.third_of_three x y w) p = refl
-
 -- ---- comparators with identifiers of any size
-any_lower : (rule : PreReleases) (side : Option SideValue) (z : PlainVersion)
-    → map comparator_any (at_side (lower_comparator rule) side z) ≡ at_side (lower_comparator rule) side (plain_by AnySize z)
-any_lower rule None z = refl
-any_lower ByDialect (Some below) z = refl
-any_lower Included (Some below) z = refl
-any_lower Excluded (Some below) z = refl
-any_lower rule (Some at) z = refl
-any_lower rule (Some past) z = refl
-any_lower ByDialect (Some (above k)) z = refl
-any_lower Included (Some (above k)) z = refl
-any_lower Excluded (Some (above k)) z = refl
+any_lower : (style : Style) (side : Option SideValue) (z : PlainVersion)
+    → map comparator_any (at_side (lower_comparator style) side z) ≡ at_side (lower_comparator style) side (plain_by AnySize z)
+any_lower style None z = refl
+any_lower Exact (Some below) z = refl
+any_lower Lowest (Some below) z = refl
+any_lower Plain (Some below) z = refl
+any_lower style (Some at) z = refl
+any_lower style (Some past) z = refl
+any_lower Exact (Some (above k)) z = refl
+any_lower Lowest (Some (above k)) z = refl
+any_lower Plain (Some (above k)) z = refl
 
-any_upper : (side : Option SideValue) (z : PlainVersion)
-    → map comparator_any (at_side upper_comparator side z) ≡ at_side upper_comparator side (plain_by AnySize z)
-any_upper None z = refl
-any_upper (Some below) z = refl
-any_upper (Some at) z = refl
-any_upper (Some past) z = refl
-any_upper (Some (above k)) z = refl
+any_upper : (style : Style) (side : Option SideValue) (z : PlainVersion)
+    → map comparator_any (at_side (upper_comparator style) side z) ≡ at_side (upper_comparator style) side (plain_by AnySize z)
+any_upper style None z = refl
+any_upper style (Some below) z = refl
+any_upper style (Some at) z = refl
+any_upper style (Some past) z = refl
+any_upper Plain (Some (above k)) z = refl
+any_upper Exact (Some (above k)) z = refl
+any_upper Lowest (Some (above k)) z = refl
 
-any_printed : (rule : PreReleases) (first last : Option SideValue) (z : PlainVersion)
-    → map comparator_any (printed rule first last z) ≡ printed rule first last (plain_by AnySize z)
-any_printed rule first last z = by_test (is_some first && ends_past last)
+any_printed : (style : Style) (first last : Option SideValue) (z : PlainVersion)
+    → map comparator_any (printed style first last z) ≡ printed style first last (plain_by AnySize z)
+any_printed style first last z = by_test (is_some first && ends_past last)
     (λ y. rw y refl)
-    (λ n. rw n (map-append comparator_any (at_side (lower_comparator rule) first z) (at_side upper_comparator last z)
-    ∙ (λ i. any_lower rule first z i ++ any_upper last z i)))
+    (λ n. rw n (map-append comparator_any (at_side (lower_comparator style) first z) (at_side (upper_comparator style) last z)
+    ∙ (λ i. any_lower style first z i ++ any_upper style last z i)))
 
 -- ---- the versions that satisfy them
 
@@ -177,51 +172,52 @@ above_floor same = refl
 above_floor tail_past = refl
 
 -- the pre-release of a lower bound that isn't at the zero-filled version
-abbrev pub bound_pre : PreReleases → List IdentifierValue
-bound_pre Included = lowest_pre_release
-bound_pre rule = []
+abbrev pub bound_pre : Style → List IdentifierValue
+bound_pre Lowest = lowest_pre_release
+bound_pre style = []
 
 -- no version is below the lowest pre-release of its numbers
 pub lowest_ge : (v : PlainVersion) → is_ge (pre_cmp v.pre lowest_pre_release) ≡ true
 lowest_ge v = above_floor (floor v.pre)
 
-module _ (rule : PreReleases) (v : PlainVersion) (ge : is_ge (pre_cmp v.pre (bound_pre rule)) ≡ true) where
+module _ (style : Style) (exact : pre_of style ≡ lowest_pre_release) (v : PlainVersion) (ge : is_ge (pre_cmp v.pre (bound_pre style)) ≡ true) where
   module _ (s : List ℕ) (p : List IdentifierValue) where
-    from_below : (rule : PreReleases) → is_ge (pre_cmp v.pre (bound_pre rule)) ≡ true → p ≡ []
-        → meets_comparator v (lower_comparator rule below (filled s p)) ≡ is_ge (first_numbers 3 v (filled s p))
-    from_below Included ge none = from_numbers v lowest_pre_release ge (filled s p)
-    from_below ByDialect ge none = rw none (from_numbers v [] ge (filled s []))
-    from_below Excluded ge none = rw none (from_numbers v [] ge (filled s []))
+    from_below : (style : Style) → is_ge (pre_cmp v.pre (bound_pre style)) ≡ true → p ≡ []
+        → meets_comparator v (lower_comparator style below (filled s p)) ≡ is_ge (first_numbers 3 v (filled s p))
+    from_below Lowest ge none = from_numbers v lowest_pre_release ge (filled s p)
+    from_below Exact ge none = rw none (from_numbers v [] ge (filled s []))
+    from_below Plain ge none = rw none (from_numbers v [] ge (filled s []))
 
-    from_above : {k : ℕ} (rule : PreReleases) → is_ge (pre_cmp v.pre (bound_pre rule)) ≡ true → Spot s k
-        → meets_comparator v (lower_comparator rule (above k) (filled s p)) ≡ is_gt (first_numbers k v (filled s p))
-    from_above ByDialect ge spot = ap (λ b. is_ge (precedence v b)) (raised_same spot p) ∙ past_raised v [] ge spot p
-    from_above Excluded ge spot = ap (λ b. is_ge (precedence v b)) (raised_same spot p) ∙ past_raised v [] ge spot p
-    from_above Included ge spot =
+    from_above : {k : ℕ} (style : Style) → is_ge (pre_cmp v.pre (bound_pre style)) ≡ true → Spot s k
+        → meets_comparator v (lower_comparator style (above k) (filled s p)) ≡ is_gt (first_numbers k v (filled s p))
+    from_above Exact ge spot = ap (λ b. is_ge (precedence v b)) (raised_same spot p) ∙ past_raised v [] ge spot p
+    from_above Plain ge spot = ap (λ b. is_ge (precedence v b)) (raised_same spot p) ∙ past_raised v [] ge spot p
+    from_above Lowest ge spot =
         ap (λ b. is_ge (precedence v (exact_bound b))) (raised_same spot p) ∙ past_raised v lowest_pre_release ge spot p
 
     lower_meets : (side : SideValue) → Raises s p (Some side)
-        → meets_comparator v (lower_comparator rule side (filled s p)) ≡ is_above_lower (Some side) (filled s p) v
-    lower_meets below none = from_below rule ge none
+        → meets_comparator v (lower_comparator style side (filled s p)) ≡ is_above_lower (Some side) (filled s p) v
+    lower_meets below none = from_below style ge none
     lower_meets at r = refl
     lower_meets past r = refl
-    lower_meets (above k) spot = from_above rule ge spot
+    lower_meets (above k) spot = from_above style ge spot
 
     upper_meets : (side : SideValue) → Raises s p (Some side)
-        → meets_comparator v (upper_comparator side (filled s p)) ≡ not (is_above_upper (Some side) (filled s p) v)
+        → meets_comparator v (upper_comparator style side (filled s p)) ≡ not (is_above_upper (Some side) (filled s p) v)
     upper_meets below r = sym (not_ge _) ∙ ap not (from_numbers v lowest_pre_release (lowest_ge v) (filled s p))
     upper_meets at r = sym (not_ge _)
     upper_meets past r = sym (not_gt _)
-    upper_meets (above k) spot = sym (not_ge _) ∙ ap not (from_above Included (lowest_ge v) spot)
+    upper_meets (above k) spot = ap (λ q. is_lt (precedence v (with_pre_release q (up k (numbers (filled s p)))))) exact
+        ∙ sym (not_ge _) ∙ ap not (from_above Lowest (lowest_ge v) spot)
 
     both_meet : (first last : SideValue) → Raises s p (Some first) → Raises s p (Some last)
-        → (meets_comparator v (lower_comparator rule first (filled s p)) && (meets_comparator v (upper_comparator last (filled s p)) && true))
+        → (meets_comparator v (lower_comparator style first (filled s p)) && (meets_comparator v (upper_comparator style last (filled s p)) && true))
         ≡ is_between (Some first, Some last) (filled s p) v
     both_meet first last r q = λ i. lower_meets first r i && (and-true _ ∙ upper_meets last q) i
 
     printed_meets : (first last : Option SideValue) → Raises s p first → Raises s p last
         → ((is_some first && ends_past last) ≡ true → first ≡ Some at)
-        → list_all (meets_comparator v) (printed rule first last (filled s p)) ≡ is_between (first, last) (filled s p) v
+        → list_all (meets_comparator v) (printed style first last (filled s p)) ≡ is_between (first, last) (filled s p) v
     printed_meets None None r q h = refl
     printed_meets None (Some side) r q h = and-true _ ∙ upper_meets side q
     printed_meets (Some side) None r q h = ap (λ b. b && true) (lower_meets side r)
@@ -233,12 +229,12 @@ module _ (rule : PreReleases) (v : PlainVersion) (ge : is_ge (pre_cmp v.pre (bou
 
   -- a version satisfies the comparators of a term if and only if it is within its bounds
   pub term_meets : (d : Dialect) (s : Simple) → Sided d s.operator (stated s.partial) (pre_any s.partial)
-      → list_all (meets_comparator v) (map comparator_any (printed_term rule d s))
+      → list_all (meets_comparator v) (map comparator_any (printed_term style d s))
       ≡ is_within d s.operator (stated s.partial) (plain_by AnySize (zero_filled s.partial)) v
   term_meets d s both =
       let z = zero_filled s.partial in
       let ns = stated s.partial in
-      ap (list_all (meets_comparator v)) (any_printed rule (sides d s.operator ns (not (is_empty z.pre))).0 (sides d s.operator ns (not (is_empty z.pre))).1 z)
-      ∙ (λ i. list_all (meets_comparator v) (printed rule (sides d s.operator ns (not (sym (by_empty AnySize z.pre) i))).0
+      ap (list_all (meets_comparator v)) (any_printed style (sides d s.operator ns (not (is_empty z.pre))).0 (sides d s.operator ns (not (is_empty z.pre))).1 z)
+      ∙ (λ i. list_all (meets_comparator v) (printed style (sides d s.operator ns (not (sym (by_empty AnySize z.pre) i))).0
       (sides d s.operator ns (not (sym (by_empty AnySize z.pre) i))).1 (filled ns (pre_any s.partial))))
       ∙ printed_meets ns (pre_any s.partial) _ _ both.0 both.1 both.2

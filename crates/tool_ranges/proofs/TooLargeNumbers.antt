@@ -10,12 +10,12 @@ use Rattle.semver_ranges.specs.RangeTree.{PartialTree, Simple, is_wildcard, one,
 use Rattle.semver_ranges.specs.Partials.{stated, zero_filled}
 use Rattle.semver_ranges.specs.Steps.PartialViews.{AreComponentsOf, IsValue}
 use Rattle.semver_ranges.specs.CargoGrammar.{read_in as read_as_in}
-use Rattle.tool_ranges.specs.Dialects.{grammar_of}
-use Rattle.tool_ranges.specs.declared.dialect.Dialect.{Dialect}
-use Rattle.tool_ranges.specs.declared.dialect.Dialect.TheVariants.{Cargo, Npm, CrateCargo, CrateNpm}
-use Rattle.tool_ranges.specs.DialectTable.{limit}
+use Rattle.semver_ranges.specs.DialectTable.{grammar_of}
+use Rattle.semver_ranges.specs.declared.dialect.Dialect.{Dialect}
+use Rattle.semver_ranges.specs.declared.dialect.Dialect.TheVariants.{Cargo, Npm, CrateCargo, CrateNpm}
+use Rattle.semver_ranges.specs.DialectTable.{limit}
 use Rattle.tool_ranges.specs.FittingTerms.{first_above, read_in, too_large}
-use Rattle.tool_ranges.specs.Sides.{raised_index, sides, term_fits}
+use Rattle.semver_ranges.specs.Sides.{raised_index, sides, term_fits}
 
 -- if no number of a term is above the limit and the term doesn't fit, the raised number is too large
 module _ (d : Dialect) (s : Simple) (none : None ≡ first_above (limit d) (stated s.partial)) where

@@ -4,9 +4,6 @@ use Rattle.std.specs.Prelude.{◌≡◌, Bool, false, IsTrue, Result}
 use Rattle.semver_ranges.specs.declared.range_set.RangeError.{RangeError}
 use Rattle.semver_texts.specs.Texts.{Text}
 use Rattle.semver_texts.specs.Versions.{PlainVersion}
-use Rattle.semver_texts.specs.declared.grammar.Grammar.{Grammar}
-use Rattle.semver_texts.specs.declared.grammar.Grammar.TheVariants as grammar
-use Rattle.semver_ranges.specs.declared.range.Compat.{Compat}
 use Rattle.semver_ranges.specs.declared.range.Compat.TheVariants as compat
 use Rattle.semver_ranges.specs.CrateMeaning.{meets_tree}
 use Rattle.semver_ranges.specs.RangeTree.{SetTree, Spells}
@@ -14,16 +11,18 @@ use Rattle.semver_ranges.specs.RangeTexts.{Refuses}
 use Rattle.semver_ranges.specs.RewritingTable.{PlainSet, fits_by, set_by}
 use Rattle.semver_ranges.specs.ExactBounds.{rewritten_exactly}
 use Rattle.version_sets.specs.declared.rules.PreReleases.TheVariants.{ByDialect}
-use Rattle.tool_ranges.specs.declared.dialect.Dialect.{Dialect}
-use Rattle.tool_ranges.specs.declared.dialect.Dialect.TheVariants.{Cargo, Npm, CrateCargo}
-use Rattle.tool_ranges.specs.declared.dialect.Dialect.TheVariants.{CrateNpm}
+use Rattle.semver_ranges.specs.declared.rewriting.Style.TheVariants.{Exact}
+use Rattle.semver_ranges.specs.DialectTable.{mode_of}
+use Rattle.semver_ranges.specs.declared.dialect.Dialect.{Dialect}
+use Rattle.semver_ranges.specs.declared.dialect.Dialect.TheVariants.{Cargo, Npm, CrateCargo}
+use Rattle.semver_ranges.specs.declared.dialect.Dialect.TheVariants.{CrateNpm}
 use Rattle.semver_ranges.specs.CargoGrammar.{SpellsRequirement}
 use Rattle.tool_ranges.specs.CargoMeaning.{meets_requirement}
 use Rattle.tool_ranges.specs.FittingTerms.{read_in}
 use Rattle.tool_ranges.specs.NpmGrammar.{SpellsNpmRange}
 use Rattle.tool_ranges.specs.NpmMeaning.{meets_npm}
-use Rattle.tool_ranges.specs.Sides.{term_fits}
-use Rattle.tool_ranges.specs.TermComparators.{printed_term}
+use Rattle.semver_ranges.specs.Sides.{term_fits}
+use Rattle.semver_ranges.specs.TermComparators.{printed_term}
 
 -- a tree spells a text in a dialect
 abbrev pub SpellsAs : Dialect → SetTree → Text → Type 0
@@ -44,20 +43,6 @@ means_release Npm tree v = meets_npm ByDialect tree v
 means_release CrateCargo tree v = meets_tree compat.Cargo tree v
 means_release CrateNpm tree v = meets_tree compat.Npm tree v
 
--- the grammar of versions in a dialect
-abbrev pub grammar_of : Dialect → Grammar
-grammar_of Cargo = grammar.Cargo
-grammar_of Npm = grammar.Npm
-grammar_of CrateCargo = grammar.Crate
-grammar_of CrateNpm = grammar.Crate
-
--- the mode of the comparators that ranges of a dialect are rewritten to
-abbrev pub mode_of : Dialect → Compat
-mode_of Cargo = compat.Cargo
-mode_of Npm = compat.Npm
-mode_of CrateCargo = compat.Cargo
-mode_of CrateNpm = compat.Npm
-
 -- the plain comparators with exact bounds that a tree is rewritten to: in the crate's dialects
 -- those of the crate's table, and in the others those of the sides of each term. An empty range, a
 -- hyphen range without a number, and any other term that matches everything, is rewritten to
@@ -66,7 +51,7 @@ abbrev pub rewritten_as : Dialect → SetTree → PlainSet
 rewritten_as CrateCargo tree = rewritten_exactly compat.Cargo tree
 rewritten_as CrateNpm tree = rewritten_exactly compat.Npm tree
 rewritten_as dialect tree =
-    set_by (λ s. printed_term ByDialect dialect (read_in dialect s)) (mode_of dialect) tree
+    set_by (λ s. printed_term Exact dialect (read_in dialect s)) (mode_of dialect) tree
 
 -- the set is the one that each tree of the text is rewritten to
 abbrev pub IsRewrittenAs : Dialect → Text → PlainSet → Type 0

@@ -6,11 +6,11 @@ use Rattle.semver_texts.specs.Texts.{is_empty}
 use Rattle.semver_ranges.specs.declared.operator.Operator.{Operator}
 use Rattle.semver_ranges.specs.RangeTree.{Simple}
 use Rattle.semver_ranges.specs.Partials.{stated, zero_filled}
-use Rattle.tool_ranges.specs.declared.dialect.Dialect.{Dialect}
-use Rattle.tool_ranges.specs.declared.dialect.Dialect.TheVariants.{Cargo}
+use Rattle.semver_ranges.specs.declared.dialect.Dialect.{Dialect}
+use Rattle.semver_ranges.specs.declared.dialect.Dialect.TheVariants.{Cargo}
 use Rattle.semver_ranges.specs.CargoGrammar.{as_read}
-use Rattle.tool_ranges.specs.DialectTable.{limit}
-use Rattle.tool_ranges.specs.Sides.{raised_index, sides, term_fits}
+use Rattle.semver_ranges.specs.DialectTable.{limit}
+use Rattle.semver_ranges.specs.Sides.{raised_index, sides, term_fits}
 
 -- the operator that the dialect reads, and a term with it
 abbrev pub operator_in : Dialect → Simple → Operator

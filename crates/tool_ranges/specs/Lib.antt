@@ -2,14 +2,11 @@ pub mod CargoMeaning
 pub mod AnySize
 pub mod NpmGrammar
 pub mod NpmMeaning
-pub mod Sides
-pub mod TermComparators
 pub mod Rewritten
 pub mod Steps
 pub mod Dialects
 pub mod FittingTerms
 pub mod SpelledItems
-pub mod DialectTable
 pub mod Meanings
 pub mod Satisfying
 pub mod AtOrAbove

@@ -9,14 +9,14 @@ use Rattle.semver_ranges.specs.Partials.{states_nothing, zero_version}
 use Rattle.semver_ranges.specs.RangeTree.{Simple, RangeTree, empty, hyphen, simples, SetTree}
 use Rattle.semver_ranges.specs.RewritingTable.{PlainComparator, PlainSet, comparator}
 use Rattle.semver_ranges.specs.Terms as terms
-use Rattle.version_sets.specs.declared.rules.PreReleases.TheVariants.{Included}
-use Rattle.tool_ranges.specs.declared.dialect.Dialect.TheVariants as dialect
-use Rattle.tool_ranges.specs.TermComparators.{printed_term}
+use Rattle.semver_ranges.specs.declared.rewriting.Style.TheVariants.{Lowest}
+use Rattle.semver_ranges.specs.declared.dialect.Dialect.TheVariants as dialect
+use Rattle.semver_ranges.specs.TermComparators.{printed_term}
 
 -- the comparators of a term. A lower bound that includes the pre-releases of its numbers is the
 -- lowest of these, such as `>=1.2.0-0`, so it is right for pre-releases, too
 abbrev pub included_simple : Simple → List PlainComparator
-included_simple s = printed_term Included dialect.Npm s
+included_simple s = printed_term Lowest dialect.Npm s
 
 -- the comparators of a range: of its terms, or of the sides of a hyphen range. It is `>=0.0.0-0` if
 -- the range is empty, or if both sides state nothing

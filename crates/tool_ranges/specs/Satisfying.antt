@@ -8,7 +8,7 @@ use Rattle.semver_texts.specs.Texts.{Text}
 use Rattle.semver_texts.specs.Versions.{VersionValue}
 use Rattle.semver_ranges.specs.RangeTree.{SetTree}
 use Rattle.tool_ranges.specs.Dialects.{HasSetAs, IsTextAs, IsTooLargeAs, SpellsAs}
-use Rattle.tool_ranges.specs.Dialects.{grammar_of}
+use Rattle.semver_ranges.specs.DialectTable.{grammar_of}
 use Rattle.tool_ranges.specs.Meanings.{meant_as}
 use Rattle.tool_ranges.specs.declared.meaning.Rules.{Rules}
 use Rattle.tool_ranges.specs.declared.satisfying.SatisfiesError.{SatisfiesError}

@@ -13,8 +13,8 @@ use Rattle.semver_ranges.specs.CargoGrammar.{comparators_of, SpellsComparator}
 use Rattle.semver_ranges.specs.CargoGrammar.{SpellsComparators}
 use Rattle.semver_ranges.specs.OperatorTable.{sign}
 use Rattle.semver_ranges.specs.TextItems.{FoundTerm, Item, one_term, empty_range, two_bars}
-use Rattle.tool_ranges.specs.declared.dialect.Dialect.{Dialect}
-use Rattle.tool_ranges.specs.declared.dialect.Dialect.TheVariants.{Cargo, Npm}
+use Rattle.semver_ranges.specs.declared.dialect.Dialect.{Dialect}
+use Rattle.semver_ranges.specs.declared.dialect.Dialect.TheVariants.{Cargo, Npm}
 use Rattle.tool_ranges.specs.Dialects.{SpellsAs}
 
 -- ---- ranges. The text `after` follows each piece `t`

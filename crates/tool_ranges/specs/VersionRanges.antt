@@ -7,8 +7,8 @@ use Rattle.semver_texts.specs.Versions.{VersionValue}
 use Rattle.semver_texts.specs.declared.grammar.Grammar.{Grammar}
 use Rattle.version_sets.specs.PreReleaseTable.{number_of as rule_number}
 use Rattle.version_sets.specs.VersionSets.{SetValue, contains, same_set}
-use Rattle.tool_ranges.specs.DialectTable.{number_of}
-use Rattle.tool_ranges.specs.Dialects.{grammar_of}
+use Rattle.semver_ranges.specs.DialectTable.{number_of}
+use Rattle.semver_ranges.specs.DialectTable.{grammar_of}
 use Rattle.tool_ranges.specs.declared.meaning.Rules.{Rules}
 use Rattle.tool_ranges.specs.declared.satisfying.SatisfiesError.{SatisfiesError}
 use Rattle.tool_ranges.specs.declared.satisfying.SatisfiesError.TheVariants.{InvalidRange}

@@ -11,18 +11,21 @@ ghost use Rattle.version_sets.specs.AtOrAbove as sets;
 ghost use Rattle.version_sets.specs.Steps.Ends.{in_each};
 ghost use Rattle.version_sets.specs.VersionSets.{Fits, IsPreRelease};
 ghost use Rattle.tool_ranges.specs.AtOrAbove.{HasAtOrAbove};
-ghost use Rattle.tool_ranges.specs.Dialects.{RefusesAs, SpellsAs, grammar_of};
-ghost use Rattle.tool_ranges.specs.Sides.{term_fits};
-ghost use Rattle.tool_ranges.specs.Steps.Checked.{HasEvents, IsCheckedAs};
+ghost use Rattle.tool_ranges.specs.Dialects.{RefusesAs, SpellsAs};
+ghost use Rattle.semver_ranges.specs.DialectTable.{grammar_of};
+ghost use Rattle.semver_ranges.specs.Sides.{term_fits};
+ghost use Rattle.semver_ranges.specs.Steps.Checked.{HasEvents};
+ghost use Rattle.tool_ranges.specs.Steps.Checked.{IsCheckedAs};
 ghost use Rattle.tool_ranges.specs.Steps.Matching.{counts, states_at, takes_all};
 ghost use Rattle.tool_ranges.specs.Steps.Reaching.{may_count, states_some};
 
-use crate::checked::Checked;
-use crate::dialect::Dialect;
 use crate::matching::{matches_everything, takes_all};
 use crate::meaning::Rules;
+use crate::reading::checked_of;
 use crate::sets::{is_by_default_of_npm, stated_numbers, with_term};
 use semver_ranges::RangeError;
+use semver_ranges::checked::Checked;
+use semver_ranges::dialect::Dialect;
 use semver_ranges::events::Event;
 use semver_ranges::partial::Partial;
 use semver_versions::version::VersionRef;
@@ -53,7 +56,7 @@ pub fn has_at_or_above(
         (plain_by (digits_in (grammar_of meaning.dialect)) (kept_version_of version.now).plain)) }
 {
     let (dialect, rule) = (meaning.dialect, meaning.pre_releases);
-    let checked = Checked::new(range, dialect)?;
+    let checked = checked_of(range, dialect)?;
     let version = version.read_by(dialect.grammar().digits());
     Ok(has_from(checked, &version, dialect, rule))
 }

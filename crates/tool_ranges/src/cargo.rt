@@ -13,13 +13,13 @@ ghost use Rattle.semver_ranges.specs.CargoGrammar.{SpellsRequirement};
 ghost use Rattle.tool_ranges.specs.CargoMeaning.{meets_requirement};
 ghost use Rattle.tool_ranges.specs.Dialects.{IsRewrittenAs, RefusesAs};
 ghost use Rattle.tool_ranges.specs.Steps.TextEvents.{commas, has_few_commas};
-ghost use Rattle.tool_ranges.specs.declared.dialect.Dialect.TheVariants as dialect;
+ghost use Rattle.semver_ranges.specs.declared.dialect.Dialect.TheVariants as dialect;
 
-use crate::dialect::Dialect;
-use crate::rewriting;
-use semver_ranges::{Compat, RangeError, RangeSet};
+use crate::rewriting::rewrite_with;
+use semver_ranges::dialect::Dialect;
+use semver_ranges::rewriting::Style;
+use semver_ranges::{RangeError, RangeSet};
 use std::alloc::Global;
-use version_sets::PreReleases;
 
 /// The maximum number of comparators in a requirement.
 const MOST_COMPARATORS: usize = 32;
@@ -62,13 +62,7 @@ pub fn rewrite(alloc: Global, requirement: &str) -> Result<RangeSet, RangeError>
         × Spells tree (set_text (set_of set)) × IsTrue (fits Cargo tree)
         × (rewritten Cargo tree ≡ set_of set)) }
 {
-    rewriting::rewrite(
-        alloc,
-        requirement,
-        Dialect::Cargo,
-        Compat::Cargo,
-        PreReleases::ByDialect,
-    )
+    rewrite_with(alloc, requirement, Dialect::Cargo, Style::Exact)
 }
 
 /// Returns whether a string has fewer commas than a requirement may have comparators.

@@ -4,16 +4,16 @@ ghost use Rattle.std.specs.Prelude.{◌≡◌};
 ghost use Rattle.semver_texts.specs.Digits.{digits_in};
 ghost use Rattle.semver_texts.specs.Texts.{Text};
 ghost use Rattle.semver_ranges.specs.RangeTree.{SetTree};
-ghost use Rattle.tool_ranges.specs.declared.dialect.Dialect.{Dialect as SomeDialect};
+ghost use Rattle.semver_ranges.specs.declared.dialect.Dialect.{Dialect as SomeDialect};
 ghost use Rattle.tool_ranges.specs.Dialects.{SpellsAs};
 ghost use Rattle.tool_ranges.specs.VersionRanges.{versions_grammar};
 
 use crate::at_or_above::has_at_or_above;
-use crate::dialect::Dialect;
 use crate::meaning::Rules;
 use crate::satisfying::{SatisfiesError, satisfies};
 use crate::version_range::VersionRange;
 use semver_ranges::RangeError;
+use semver_ranges::dialect::Dialect;
 use semver_versions::laws::one_version_in;
 use semver_versions::version::VersionRef;
 

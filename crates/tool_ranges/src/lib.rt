@@ -4,17 +4,16 @@
 
 pub mod at_or_above;
 pub mod cargo;
-mod checked;
-pub mod dialect;
-mod events;
 pub mod highest;
+mod intervals;
+pub mod large_numbers;
 pub mod laws;
 mod matching;
 pub mod meaning;
 pub mod npm;
 mod range_operations;
-mod rewriting;
+mod reading;
+pub mod rewriting;
 pub mod satisfying;
 mod sets;
-pub mod table;
 pub mod version_range;

@@ -9,21 +9,22 @@ ghost use Rattle.semver_texts.specs.Texts.{Text, is_empty};
 ghost use Rattle.semver_texts.specs.Versions.{PlainVersion, without_build};
 ghost use Rattle.semver_texts.specs.declared.grammar.Digits.{Digits};
 ghost use Rattle.semver_texts.specs.declared.grammar.Digits.TheVariants.{AnySize};
-ghost use Rattle.tool_ranges.specs.declared.dialect.Dialect.{Dialect as SomeDialect};
-ghost use Rattle.tool_ranges.specs.declared.dialect.Dialect.TheVariants as dialect;
+ghost use Rattle.semver_ranges.specs.declared.dialect.Dialect.{Dialect as SomeDialect};
+ghost use Rattle.semver_ranges.specs.declared.dialect.Dialect.TheVariants as dialect;
 ghost use Rattle.semver_versions.specs.VersionRefs.{kept_version_of};
 ghost use Rattle.semver_ranges.specs.RangeTexts.{RefusesExactly};
 ghost use Rattle.semver_ranges.specs.RangeTree.{SetTree, Spells};
 ghost use Rattle.version_sets.specs.Printable.{IsPrintable};
 ghost use Rattle.version_sets.specs.PreReleaseRules.{meant_with, numbers_fit};
 ghost use Rattle.version_sets.specs.declared.rules.PreReleases.TheVariants.{ByDialect};
-ghost use Rattle.tool_ranges.specs.Dialects.{RefusesAs, SpellsAs, grammar_of};
+ghost use Rattle.tool_ranges.specs.Dialects.{RefusesAs, SpellsAs};
+ghost use Rattle.semver_ranges.specs.DialectTable.{grammar_of};
 ghost use Rattle.tool_ranges.specs.Meanings.{MeansAs, meant_as};
 
-use crate::dialect::Dialect;
 use crate::matching::answer;
-use crate::{checked, sets};
+use crate::{reading, sets};
 use semver_ranges::RangeError;
+use semver_ranges::dialect::Dialect;
 use semver_versions::version::VersionRef;
 use std::alloc::Global;
 use version_sets::{PreReleases, VersionSet};
@@ -143,9 +144,9 @@ pub fn check(meaning: Rules, range: &str) -> Result<(), RangeError>
     ensures no_memory { result ≢ Err RangeError.OutOfMemory }
 {
     match meaning.dialect {
-        Dialect::Cargo => checked::check(range, Dialect::Cargo),
-        Dialect::Npm => checked::check(range, Dialect::Npm),
-        Dialect::CrateCargo => checked::check(range, Dialect::CrateCargo),
-        Dialect::CrateNpm => checked::check(range, Dialect::CrateNpm),
+        Dialect::Cargo => reading::check(range, Dialect::Cargo),
+        Dialect::Npm => reading::check(range, Dialect::Npm),
+        Dialect::CrateCargo => reading::check(range, Dialect::CrateCargo),
+        Dialect::CrateNpm => reading::check(range, Dialect::CrateNpm),
     }
 }

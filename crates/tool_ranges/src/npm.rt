@@ -16,14 +16,14 @@ ghost use Rattle.tool_ranges.specs.Rewritten.{rewritten_included};
 ghost use Rattle.tool_ranges.specs.NpmGrammar.{may_stand, SpellsNpmRange};
 ghost use Rattle.tool_ranges.specs.NpmMeaning.{meets_npm};
 ghost use Rattle.tool_ranges.specs.Dialects.{IsRewrittenAs, RefusesAs};
-ghost use Rattle.tool_ranges.specs.declared.dialect.Dialect.TheVariants as dialect;
+ghost use Rattle.semver_ranges.specs.declared.dialect.Dialect.TheVariants as dialect;
 
-use crate::dialect::Dialect;
-use crate::rewriting;
-use semver_ranges::{Compat, RangeError, RangeSet};
+use crate::rewriting::rewrite_with;
+use semver_ranges::dialect::Dialect;
+use semver_ranges::rewriting::Style;
+use semver_ranges::{RangeError, RangeSet};
 use semver_texts::white_space::is_white_space_beyond_ascii;
 use std::alloc::Global;
-use version_sets::PreReleases;
 
 // Determined by: law result_laws::ranges::one_npm_rewrite.
 /// Rewrites a range in npm's dialect into plain comparators with exact bounds.
@@ -65,13 +65,7 @@ pub fn rewrite(alloc: Global, range: &str) -> Result<RangeSet, RangeError>
         × Spells tree (set_text (set_of set)) × IsTrue (fits Npm tree)
         × (rewritten Npm tree ≡ set_of set)) }
 {
-    rewriting::rewrite(
-        alloc,
-        range,
-        Dialect::Npm,
-        Compat::Npm,
-        PreReleases::ByDialect,
-    )
+    rewrite_with(alloc, range, Dialect::Npm, Style::Exact)
 }
 
 // Determined by: law result_laws::ranges::one_npm_rewrite_included.
@@ -98,13 +92,7 @@ pub fn rewrite_included(alloc: Global, range: &str) -> Result<RangeSet, RangeErr
         → SpellsNpmRange tree range.now
         → meets_set v (set_any (set_of set)) ≡ meets_npm Included tree v) }
 {
-    rewriting::rewrite(
-        alloc,
-        range,
-        Dialect::Npm,
-        Compat::Npm,
-        PreReleases::Included,
-    )
+    rewrite_with(alloc, range, Dialect::Npm, Style::Lowest)
 }
 
 /// Returns whether every non-ASCII character of a string is white space to JavaScript. Strings of

@@ -1,187 +1,75 @@
-//! A range string as plain comparators with exact bounds: those of the intervals of its terms.
+//! A range in each dialect as plain comparators with exact bounds.
 
-ghost use Rattle.std.specs.Prelude.{◌≡◌, ◌++◌, ◌^◌, ◌-◌, Some, IfOk, map, true};
-ghost use Rattle.semver_texts.specs.Texts.{Text};
-ghost use Rattle.semver_texts.specs.Versions.{numbers};
-ghost use Rattle.semver_ranges.specs.ExactBounds.{exact_bound};
-ghost use Rattle.semver_ranges.specs.RangeTree.{Simple as SimpleTree, SetTree};
-ghost use Rattle.semver_ranges.specs.RangeViews.{comparator_of, range_of, set_of};
-ghost use Rattle.semver_ranges.specs.RewritingTable.{comparator};
-ghost use Rattle.semver_ranges.specs.Steps.CursorViews.{IsSimpleOf};
-ghost use Rattle.semver_ranges.specs.Steps.PartialViews.{PartsPass, version_of};
-ghost use Rattle.version_sets.specs.Releases.{release_value};
-ghost use Rattle.version_sets.specs.Steps.Cuts.{side_value};
-ghost use Rattle.tool_ranges.specs.Dialects.{RefusesAs, SpellsAs};
-ghost use Rattle.tool_ranges.specs.Sides.{term_fits, may_rise};
-ghost use Rattle.tool_ranges.specs.Steps.Checked.{IsCheckedAs};
-ghost use Rattle.tool_ranges.specs.Steps.Printed.{IsPrintedAs, printed_ranges};
-ghost use Rattle.tool_ranges.specs.TermComparators.{lower_comparator, printed_term};
-ghost use Rattle.tool_ranges.specs.TermComparators.{upper_comparator};
+ghost use Rattle.std.specs.Prelude.{◌≡◌, [], IfOk, IsTrue};
+ghost use Rattle.semver_texts.specs.Versions.{PlainVersion};
+ghost use Rattle.semver_ranges.specs.DialectTable.{mode_of};
+ghost use Rattle.semver_ranges.specs.PrintedRanges.{IsPrintableSet, set_text};
+ghost use Rattle.semver_ranges.specs.RangeTree.{SetTree, Spells};
+ghost use Rattle.semver_ranges.specs.RangeViews.{set_of};
+ghost use Rattle.semver_ranges.specs.RewritingTable.{fits, rewritten};
+ghost use Rattle.semver_ranges.specs.SatisfiedComparators.{meets_set};
+ghost use Rattle.tool_ranges.specs.Dialects.{IsRewrittenAs, RefusesAs, SpellsAs};
+ghost use Rattle.tool_ranges.specs.Dialects.{means_release};
+ghost use Rattle.tool_ranges.specs.Steps.Printed.{IsPrintedAs};
 
-use crate::checked::Checked;
-use crate::dialect::Dialect;
-use crate::table::{is_past, numbers, raised, sides};
-use semver_ranges::events::Event;
-use semver_ranges::grammar::Simple;
-use semver_ranges::partial::{Partial, lowest_pre_release};
-use semver_ranges::{Comparator, Compat, Op, Range, RangeError, RangeSet};
-use std::alloc::{AllocError, Global};
-use version_sets::{PreReleases, Release, Side};
+use crate::reading::events_of;
+use crate::{cargo, npm};
+use semver_ranges::dialect::Dialect;
+use semver_ranges::rewriting::{Style, rewrite as rewrite_events};
+use semver_ranges::{Compat, RangeError, RangeSet};
+use std::alloc::Global;
 
-/// Rewrites a range into plain comparators. The string is checked first, so that an invalid one
-/// doesn't allocate.
+// Determined by: law result_laws::ranges::one_rewrite.
+/// Rewrites a range in a dialect into plain comparators with exact bounds.
+///
+/// It calls [`cargo::rewrite`](crate::cargo::rewrite), [`npm::rewrite`](crate::npm::rewrite) or
+/// `RangeSet::parse_exact`: `1.2` gives `>=1.2.0 <2.0.0-0` in Cargo's dialect, and
+/// `>=1.2.0 <1.3.0-0` in the others. A release satisfies the result if and only if it satisfies the
+/// range. Printed, the result is a range that `RangeSet::parse` rewrites to the same set.
+///
+/// # Errors
+///
+/// - `NotARange` if the string is not a range in the dialect.
+/// - `NumberTooLarge` if it is a range, but one of its numbers, or a bound that is raised by one,
+///   is above 2^64 - 1, or above 2^53 - 1 in npm's dialect.
+/// - `OutOfMemory` if an allocation fails. The first two errors are returned without allocating.
+pub fn rewrite(alloc: Global, dialect: Dialect, range: &str) -> Result<RangeSet, RangeError>
+    // `NotARange` and `NumberTooLarge` are returned for exactly the strings for which they are
+    // defined. The result is what the syntax tree of the string is rewritten to.
+    ensures refusals { RefusesAs dialect range.now result }
+    ensures as_rewritten { IfOk result (λ set. IsRewrittenAs dialect range.now (set_of set)) }
+    // A release satisfies the result if and only if it satisfies the range.
+    ensures releases { IfOk result (λ set. (tree : SetTree) (v : PlainVersion)
+        → SpellsAs dialect tree range.now → v.pre ≡ [] →
+        meets_set v (set_of set) ≡ means_release dialect tree v) }
+    // The result is printable: printed, it is a range that `RangeSet::parse` rewrites to the same
+    // set, in the set's mode.
+    ensures printable { IfOk result (λ set. IsPrintableSet (set_of set)) }
+    ensures reads_back { IfOk result (λ set. (tree : SetTree)
+        × Spells tree (set_text (set_of set)) × IsTrue (fits (mode_of dialect) tree)
+        × (rewritten (mode_of dialect) tree ≡ set_of set)) }
+{
+    match dialect {
+        Dialect::Cargo => cargo::rewrite(alloc, range),
+        Dialect::Npm => npm::rewrite(alloc, range),
+        Dialect::CrateCargo => RangeSet::parse_exact(alloc, range, Compat::Cargo),
+        Dialect::CrateNpm => RangeSet::parse_exact(alloc, range, Compat::Npm),
+    }
+}
+
+/// Rewrites a range in a dialect into plain comparators. The string is checked first, so that an
+/// invalid one doesn't allocate.
 #[inline(always)]
-pub(crate) fn rewrite(
+pub(crate) fn rewrite_with(
     alloc: Global,
     range: &str,
     dialect: Dialect,
-    compat: Compat,
-    rule: PreReleases,
+    style: Style,
 ) -> Result<RangeSet, RangeError>
     ensures refusals { RefusesAs dialect range.now result }
-    ensures printed { IfOk result (λ set. IsPrintedAs rule dialect compat range.now (set_of set)) }
+    ensures printed { IfOk result
+        (λ set. IsPrintedAs style dialect (mode_of dialect) range.now (set_of set)) }
 {
-    let checked = Checked::new(range, dialect)?;
-    match ranges(alloc, checked, dialect, compat, rule) {
-        Ok(ranges) => Ok(RangeSet { ranges, compat }),
-        Err(_) => Err(RangeError::OutOfMemory),
-    }
-}
-
-/// Returns the ranges of a string that was checked. `Err` means out of memory.
-#[inline(always)]
-fn ranges(
-    alloc: Global,
-    mut checked: Checked<'_>,
-    dialect: Dialect,
-    compat: Compat,
-    rule: PreReleases,
-) -> Result<Vec<Range>, AllocError>
-    requires { (t : Text) × IsCheckedAs dialect t checked }
-    ensures { IfOk result (λ ranges. (t : Text) → IsCheckedAs dialect t checked.entry
-        → (tree : SetTree) → SpellsAs dialect tree t
-        → map range_of ranges.items ≡ printed_ranges rule dialect compat tree) }
-{
-    let grammar = dialect.grammar();
-    let mut ranges = Vec::with_capacity(alloc, 1)?;
-    let mut comparator_set = Vec::with_capacity(alloc, 4)?;
-    while let Some(event) = checked.next(grammar) {
-        match event {
-            Event::Simple(simple) => push(alloc, &simple, dialect, rule, &mut comparator_set)?,
-            Event::NextRange => {
-                ranges.push(Range {
-                    comparator_set,
-                    compat,
-                })?;
-                comparator_set = Vec::with_capacity(alloc, 4)?;
-            }
-        }
-    }
-    ranges.push(Range {
-        comparator_set,
-        compat,
-    })?;
-    Ok(ranges)
-}
-
-/// Adds the comparators of a term. `Err` is out of memory.
-#[inline(always)]
-fn push(
-    alloc: Global,
-    simple: &Simple<'_>,
-    dialect: Dialect,
-    rule: PreReleases,
-    comparators: &mut Vec<Comparator>,
-) -> Result<(), AllocError>
-    requires { (s : SimpleTree) × IsSimpleOf s simple.now }
-    ensures { IfOk result (λ _. (s : SimpleTree) → IsSimpleOf s simple.now
-        → term_fits dialect s ≡ true → map comparator_of comparators.new.items
-        ≡ map comparator_of comparators.old.items ++ printed_term rule dialect s) }
-{
-    let partial = &simple.partial;
-    let (first, last) = sides(simple, dialect);
-    if first.is_some() & is_past(last) {
-        comparators.push(partial.as_comparator(alloc, Op::Eq)?)?;
-        return Ok(());
-    }
-    if let Some(side) = first {
-        comparators.push(lower_comparator(alloc, partial, side, rule)?)?;
-    }
-    if let Some(side) = last {
-        comparators.push(upper_comparator(alloc, partial, side)?)?;
-    }
-    Ok(())
-}
-
-/// Returns the comparator of a lower side. With `Included` it is right for all versions. Otherwise
-/// `Below` and `At` give the same one, which is right only for releases.
-#[inline(always)]
-fn lower_comparator(
-    alloc: Global,
-    partial: &Partial<'_>,
-    side: Side,
-    rule: PreReleases,
-) -> Result<Comparator, AllocError>
-    requires { PartsPass partial.now }
-    ensures { may_rise (2 ^ 64 - 1) (Some (side_value side)) (numbers (version_of partial.now))
-        ≡ true → IfOk result (λ c. comparator_of c
-        ≡ lower_comparator rule (side_value side) (version_of partial.now)) }
-{
-    match (side, rule) {
-        (Side::Below, PreReleases::Included) => lowest_with(alloc, Op::Gte, numbers(partial)),
-        (Side::At | Side::Below, _) => partial.as_comparator(alloc, Op::Gte),
-        (Side::Past, _) => partial.as_comparator(alloc, Op::Gt),
-        (Side::Above(place), PreReleases::Included) => {
-            lowest_with(alloc, Op::Gte, raised(partial, place))
-        }
-        (Side::Above(place), PreReleases::ByDialect | PreReleases::Excluded) => {
-            let Release {
-                major,
-                minor,
-                patch,
-            } = raised(partial, place);
-            Ok(Comparator {
-                op: Op::Gte,
-                major,
-                minor,
-                patch,
-                pre: Vec::new(alloc),
-            })
-        }
-    }
-}
-
-/// Returns the comparator of an upper side.
-#[inline(always)]
-fn upper_comparator(
-    alloc: Global,
-    partial: &Partial<'_>,
-    side: Side,
-) -> Result<Comparator, AllocError>
-    requires { PartsPass partial.now }
-    ensures { may_rise (2 ^ 64 - 1) (Some (side_value side)) (numbers (version_of partial.now))
-        ≡ true → IfOk result (λ c. comparator_of c
-        ≡ upper_comparator (side_value side) (version_of partial.now)) }
-{
-    match side {
-        Side::Below => lowest_with(alloc, Op::Lt, numbers(partial)),
-        Side::At => partial.as_comparator(alloc, Op::Lt),
-        Side::Past => partial.as_comparator(alloc, Op::Lte),
-        Side::Above(place) => lowest_with(alloc, Op::Lt, raised(partial, place)),
-    }
-}
-
-/// Returns the comparator with the lowest of all versions with some numbers.
-#[inline(always)]
-fn lowest_with(alloc: Global, op: Op, numbers: Release) -> Result<Comparator, AllocError>
-    ensures { IfOk result (λ c. comparator_of c
-        ≡ comparator op (exact_bound (release_value numbers))) }
-{
-    Ok(Comparator {
-        op,
-        major: numbers.major,
-        minor: numbers.minor,
-        patch: numbers.patch,
-        pre: lowest_pre_release(alloc)?,
-    })
+    let begin = events_of(range, dialect)?;
+    rewrite_events(alloc, begin, dialect, style)
 }

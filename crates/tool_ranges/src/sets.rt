@@ -10,22 +10,24 @@ ghost use Rattle.semver_ranges.specs.RangeTree.{Simple as SimpleTree};
 ghost use Rattle.semver_ranges.specs.Steps.CursorViews.{IsSimpleOf};
 ghost use Rattle.version_sets.specs.Printable.{IsPrintable};
 ghost use Rattle.version_sets.specs.VersionSets.{contains, Fits};
-ghost use Rattle.tool_ranges.specs.Dialects.{RefusesAs, grammar_of};
+ghost use Rattle.tool_ranges.specs.Dialects.{RefusesAs};
+ghost use Rattle.semver_ranges.specs.DialectTable.{grammar_of};
 ghost use Rattle.tool_ranges.specs.Meanings.{MeansBy};
 ghost use Rattle.tool_ranges.specs.Steps.Building.{is_one_of, known, Prints};
 ghost use Rattle.tool_ranges.specs.Steps.Checked.{IsCheckedAs};
 ghost use Rattle.tool_ranges.specs.Steps.Matching.{begun, counts, ended, is_met, taken, takes_all};
 ghost use Rattle.tool_ranges.specs.Steps.Matching.{states_at, takes_releases, term_met};
-ghost use Rattle.tool_ranges.specs.Sides.{term_fits};
+ghost use Rattle.semver_ranges.specs.Sides.{term_fits};
 ghost use Rattle.std.specs.List.{list_any};
 ghost use Rattle.version_sets.specs.Steps.Ends.{each_prints, has_numbers, in_each, in_ranges};
 ghost use Rattle.version_sets.specs.Steps.Ends.{ranges_print};
 
-use crate::checked::Checked;
-use crate::dialect::Dialect;
+use crate::intervals::{bounds, release};
 use crate::matching::{interval_of, matches_everything, takes_all};
-use crate::table::{bounds, numbers};
+use crate::reading::checked_of;
 use semver_ranges::RangeError;
+use semver_ranges::checked::Checked;
+use semver_ranges::dialect::Dialect;
 use semver_ranges::events::Event;
 use semver_ranges::grammar::Simple;
 use semver_ranges::partial::Partial;
@@ -46,7 +48,7 @@ pub(crate) fn read(
     ensures printable { IfOk result IsPrintable }
     ensures digits { IfOk result (λ set. set.digits ≡ digits_in (grammar_of dialect)) }
 {
-    let checked = Checked::new(range, dialect)?;
+    let checked = checked_of(range, dialect)?;
     match set_of(alloc, checked, dialect, rule) {
         Ok(set) => Ok(set),
         Err(_) => Err(RangeError::OutOfMemory),
@@ -229,7 +231,7 @@ pub(crate) fn stated_numbers(partial: &Partial<'_>) -> Option<Release>
     ensures { (v : PlainVersion) → states_at partial.now v ≡ is_one_of result v }
 {
     if partial.has_pre_release() && partial.states_three() {
-        Some(numbers(partial))
+        Some(release(partial.numbers()))
     } else {
         None
     }

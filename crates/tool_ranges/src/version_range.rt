@@ -6,8 +6,9 @@ ghost use Rattle.semver_texts.specs.VersionViews.{version_value};
 ghost use Rattle.semver_texts.specs.Texts.{Text};
 ghost use Rattle.semver_texts.specs.Versions.{PlainVersion};
 ghost use Rattle.semver_versions.specs.VersionRefs.{IsVersionRefIn, kept_version_of, version_of};
-ghost use Rattle.tool_ranges.specs.DialectTable.{limit};
-ghost use Rattle.tool_ranges.specs.Dialects.{RefusesAs, grammar_of};
+ghost use Rattle.semver_ranges.specs.DialectTable.{limit};
+ghost use Rattle.tool_ranges.specs.Dialects.{RefusesAs};
+ghost use Rattle.semver_ranges.specs.DialectTable.{grammar_of};
 ghost use Rattle.tool_ranges.specs.Meanings.{MeansAs};
 ghost use Rattle.tool_ranges.specs.VersionRanges.{ContainsText, versions_grammar};
 ghost use Rattle.version_sets.specs.Printable.{IsPrintable};
@@ -16,8 +17,8 @@ ghost use Rattle.version_sets.specs.VersionSets.{contains, contains_kept};
 
 use crate::meaning::{self, Rules};
 use crate::satisfying::SatisfiesError;
-use crate::table::limit;
 use semver_ranges::RangeError;
+use semver_ranges::table::limit;
 use semver_versions::version::{Version, VersionRef, read_ref_in};
 use std::alloc::{AllocError, Global};
 use std::fmt;
@@ -45,7 +46,7 @@ pub struct VersionRange {
 impl Model for VersionRange {
     ghost use Rattle.semver_texts.specs.Digits.{digits_in};
     ghost use Rattle.std.specs.Prelude.{◌≡◌};
-    ghost use Rattle.tool_ranges.specs.Dialects.{grammar_of};
+    ghost use Rattle.semver_ranges.specs.DialectTable.{grammar_of};
     ghost use Rattle.tool_ranges.specs.VersionRanges.{RangeValue};
 
     ghost Value = { RangeValue };
@@ -224,7 +225,7 @@ impl VersionRange {
 impl fmt::Display for VersionRange {
     ghost use Rattle.std.specs.Prelude.{Some};
     ghost use Rattle.version_sets.specs.SetRanges.{kinds_text};
-    ghost use Rattle.tool_ranges.specs.DialectTable.{joint_of};
+    ghost use Rattle.semver_ranges.specs.DialectTable.{joint_of};
 
     ghost output = { λ range. Some (kinds_text (joint_of range.meaning.dialect) range.versions) };
 

@@ -3,8 +3,6 @@ pub mod Releases
 pub mod Boundaries
 pub mod VersionSets
 pub mod AtOrAbove
--- the sides of a version, at which an interval begins or ends
-pub mod Sides
 -- two sets that are combined or compared
 pub mod Combinations
 pub mod Comparisons

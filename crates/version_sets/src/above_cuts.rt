@@ -19,13 +19,14 @@ ghost use Rattle.version_sets.specs.Steps.EndPlaces.{end_place, kept_end};
 ghost use Rattle.version_sets.specs.Steps.Spans.{reached};
 ghost use Rattle.version_sets.specs.Steps.SpanViews.{holds_at, successor};
 
-use crate::cut::{Cut, Side};
+use crate::cut::Cut;
 use crate::pre_release_end::PreReleaseEnd;
 use crate::release::{Release, next_numbers};
 use crate::span_end::SpanEnd;
 use crate::successor::Successor;
 use semver_ranges::comparing::InRanges;
 use semver_ranges::partial::Place;
+use semver_ranges::table::Side;
 use semver_texts::decimals::number_of_digits;
 use semver_texts::dotted::{of_parts, text_of_parts};
 use semver_texts::grammar::Digits;

@@ -5,20 +5,7 @@ ghost use Rattle.std.specs.List.{list_all};
 ghost use Rattle.semver_texts.specs.Texts.{cut_at_dots, is_part};
 
 use crate::release::Release;
-use semver_ranges::partial::Place;
-
-/// The side of its version on which a cut is.
-#[derive(Clone, Copy)]
-pub enum Side {
-    /// Below every version with the same three numbers.
-    Below,
-    /// Directly below the version.
-    At,
-    /// Directly above the version.
-    Past,
-    /// Above every version with the same first numbers, up to a place.
-    Above(Place),
-}
+use semver_ranges::table::Side;
 
 /// A position in the order of versions: one side of a version. The pre-release of that version is
 /// borrowed from the range string.

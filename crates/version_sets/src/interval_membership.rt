@@ -6,9 +6,10 @@ ghost use Rattle.semver_versions.specs.VersionRefs.{version_of};
 ghost use Rattle.version_sets.specs.Steps.Cuts.{beside, first_numbers, is_above_cut};
 ghost use Rattle.version_sets.specs.Steps.Cuts.{beside_kept, is_in_interval};
 
-use crate::cut::{Cut, Interval, Side};
+use crate::cut::{Cut, Interval};
 use semver_ranges::comparing::InRanges;
 use semver_ranges::partial::Place;
+use semver_ranges::table::Side;
 use semver_texts::grammar::Digits;
 use semver_texts::identifiers::{ByDigits, Joined};
 use semver_texts::precedence::compare;

@@ -30,7 +30,7 @@ mod version_set;
 mod within;
 
 pub use conjunction::{Conjunction, Ranges};
-pub use cut::{Cut, Interval, Side};
+pub use cut::{Cut, Interval};
 pub use release::Release;
 pub use rules::PreReleases;
 pub use set_difference::Comparison;

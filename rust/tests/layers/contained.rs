@@ -1,6 +1,6 @@
 //! Versions in a range, given as strings.
 
-use crate::proved::tool_ranges::dialect::Dialect;
+use crate::proved::semver_ranges::dialect::Dialect;
 use crate::proved::tool_ranges::meaning::Rules;
 use crate::proved::tool_ranges::satisfying::SatisfiesError;
 use crate::proved::tool_ranges::version_range::VersionRange;

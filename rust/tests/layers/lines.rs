@@ -1,7 +1,7 @@
 //! The lines of a text that comes in pieces: cut at each offset, and in pieces of equal lengths.
 
 use crate::proved::release_filter::{LineEnd, LineOptions, Lines, LinesError, Selection};
-use crate::proved::tool_ranges::dialect::Dialect;
+use crate::proved::semver_ranges::dialect::Dialect;
 use crate::proved::tool_ranges::meaning::Rules;
 use crate::proved::tool_ranges::version_range::VersionRange;
 use crate::proved::version_sets::PreReleases;

@@ -1,7 +1,7 @@
 //! Sets of the versions that satisfy a range.
 
 use crate::proved::semver_parser::version;
-use crate::proved::tool_ranges::dialect::Dialect;
+use crate::proved::semver_ranges::dialect::Dialect;
 use crate::proved::tool_ranges::meaning::{self, Rules};
 use crate::proved::version_sets::{PreReleases, VersionSet};
 

@@ -11,17 +11,14 @@ use Rattle.semver_ranges.specs.declared.partial.PartialKind.{PartialKind}
 use Rattle.semver_ranges.specs.declared.partial.PartialKind.TheVariants.{XRangeOnly, MajorOnly}
 use Rattle.semver_ranges.specs.declared.partial.PartialKind.TheVariants.{MajorMinor}
 use Rattle.semver_ranges.specs.declared.partial.PartialKind.TheVariants.{MajorMinorPatch}
-use Rattle.semver_ranges.specs.declared.partial.RaisedBounds.{RaisedBounds}
-use Rattle.semver_ranges.specs.declared.partial.RaisedBounds.TheVariants.{Plain, Exact}
 use Rattle.semver_ranges.specs.declared.partial.Place.{Place}
 use Rattle.semver_ranges.specs.declared.partial.Place.TheVariants.{Major, Minor, Patch}
 use Rattle.semver_ranges.specs.RangeTree.{PartialTree, one, two, three, is_wildcard}
 use Rattle.semver_ranges.specs.RangeTree.{build_parts, pre_parts}
 use Rattle.semver_texts.specs.Texts.{is_part}
 use Rattle.semver_texts.specs.Texts.{Text, cut_at_dots}
-use Rattle.semver_texts.specs.Versions.{IdentifierValue, PlainVersion}
+use Rattle.semver_texts.specs.Versions.{PlainVersion}
 use Rattle.semver_ranges.specs.Partials.{fits_u64, kept, stated, zero_filled}
-use Rattle.semver_ranges.specs.ExactBounds.{lowest_pre_release}
 
 -- the stated numbers
 abbrev pub stated_at : PartialKind → ℕ → ℕ → ℕ → List ℕ
@@ -54,10 +51,9 @@ number_at Major p = p.major
 number_at Minor p = p.minor
 number_at Patch p = p.patch
 
--- the pre-release of a raised bound
-abbrev pub pre_of : RaisedBounds → List IdentifierValue
-pre_of Plain = []
-pre_of Exact = lowest_pre_release
+-- the version with three numbers and without a pre-release
+abbrev pub of_numbers : ℕ × ℕ × ℕ → PlainVersion
+of_numbers ns = record { major = ns.0; minor = ns.1; patch = ns.2; pre = [] }
 
 -- the value of a number, or `None` if it is above 2^64 - 1
 abbrev pub IsValue : ℕ → Option ℕ → Type 0

@@ -22,9 +22,9 @@ use Rattle.version_sets.specs.declared.rules.PreReleases.TheVariants.{ByDialect,
 use Rattle.tool_ranges.specs.AnySize.{zero_filled_any}
 use Rattle.tool_ranges.specs.CargoMeaning as cargo
 use Rattle.tool_ranges.specs.NpmMeaning as npm
-use Rattle.tool_ranges.specs.declared.dialect.Dialect.{Dialect}
-use Rattle.tool_ranges.specs.declared.dialect.Dialect.TheVariants.{Cargo, Npm, CrateCargo}
-use Rattle.tool_ranges.specs.declared.dialect.Dialect.TheVariants.{CrateNpm}
+use Rattle.semver_ranges.specs.declared.dialect.Dialect.{Dialect}
+use Rattle.semver_ranges.specs.declared.dialect.Dialect.TheVariants.{Cargo, Npm, CrateCargo}
+use Rattle.semver_ranges.specs.declared.dialect.Dialect.TheVariants.{CrateNpm}
 use Rattle.tool_ranges.specs.declared.matching.Progress.{Progress}
 use Rattle.tool_ranges.specs.Steps.TextEvents.{ranges_of}
 

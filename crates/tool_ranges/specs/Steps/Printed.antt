@@ -4,20 +4,20 @@ use Rattle.std.specs.Prelude.{◌≡◌, List, map}
 use Rattle.semver_texts.specs.Texts.{Text}
 use Rattle.semver_ranges.specs.declared.range.Compat.{Compat}
 use Rattle.semver_ranges.specs.RewritingTable.{PlainRange, PlainSet}
-use Rattle.semver_ranges.specs.Steps.DesugaredViews.{range_of_simples}
+use Rattle.semver_ranges.specs.Steps.Answers.{range_of_simples}
 use Rattle.semver_ranges.specs.RangeTree.{SetTree}
-use Rattle.version_sets.specs.declared.rules.PreReleases.{PreReleases}
-use Rattle.tool_ranges.specs.declared.dialect.Dialect.{Dialect}
+use Rattle.semver_ranges.specs.declared.rewriting.Style.{Style}
+use Rattle.semver_ranges.specs.declared.dialect.Dialect.{Dialect}
 use Rattle.tool_ranges.specs.Dialects.{SpellsAs}
-use Rattle.tool_ranges.specs.TermComparators.{printed_term}
+use Rattle.semver_ranges.specs.TermComparators.{printed_term}
 use Rattle.tool_ranges.specs.Steps.TextEvents.{ranges_of}
 
 -- the comparators of the ranges of a tree
-abbrev pub printed_ranges : PreReleases → Dialect → Compat → SetTree → List PlainRange
-printed_ranges rule dialect mode tree =
-    map (range_of_simples (printed_term rule dialect) mode) (ranges_of dialect tree)
+abbrev pub printed_ranges : Style → Dialect → Compat → SetTree → List PlainRange
+printed_ranges style dialect mode tree =
+    map (range_of_simples (printed_term style dialect) mode) (ranges_of dialect tree)
 
 -- the set has the comparators that are printed for each tree of the text
-abbrev pub IsPrintedAs : PreReleases → Dialect → Compat → Text → PlainSet → Type 0
-IsPrintedAs rule dialect mode t set = (tree : SetTree) → SpellsAs dialect tree t
-    → set ≡ record { ranges = printed_ranges rule dialect mode tree; compat = mode }
+abbrev pub IsPrintedAs : Style → Dialect → Compat → Text → PlainSet → Type 0
+IsPrintedAs style dialect mode t set = (tree : SetTree) → SpellsAs dialect tree t
+    → set ≡ record { ranges = printed_ranges style dialect mode tree; compat = mode }

@@ -1,7 +1,7 @@
 -- `same_range` is an equivalence, as `==` requires: a means of proof.
 use Rattle.std.specs.Cmp.{IsEquivalence}
 use Rattle.std.proofs.lemmas.Cmp.{int_eq_equiv, on_equiv, and_equiv}
-use Rattle.tool_ranges.specs.DialectTable.{number_of}
+use Rattle.semver_ranges.specs.DialectTable.{number_of}
 use Rattle.tool_ranges.specs.VersionRanges.{RangeValue, same_range}
 use Rattle.tool_ranges.specs.declared.meaning.Rules.{Rules}
 use Rattle.version_sets.specs.PreReleaseTable.{number_of as rule_number}

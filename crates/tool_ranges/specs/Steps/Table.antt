@@ -11,12 +11,12 @@ use Rattle.semver_ranges.specs.declared.operator.Operator.TheVariants.{Less, Les
 use Rattle.semver_ranges.specs.declared.operator.Operator.TheVariants.{GreaterOrEqual, Caret}
 use Rattle.semver_ranges.specs.declared.operator.Operator.TheVariants.{Hyphen}
 use Rattle.semver_ranges.specs.RewritingTable.{up}
-use Rattle.version_sets.specs.Sides.{SideValue, below, past, above}
+use Rattle.semver_ranges.specs.Sides.{SideValue, below, past, above}
 use Rattle.version_sets.specs.Steps.Cuts.{is_above, is_above_upper, is_between}
-use Rattle.tool_ranges.specs.declared.dialect.Dialect.{Dialect}
-use Rattle.tool_ranges.specs.declared.dialect.Dialect.TheVariants.{Cargo, Npm}
+use Rattle.semver_ranges.specs.declared.dialect.Dialect.{Dialect}
+use Rattle.semver_ranges.specs.declared.dialect.Dialect.TheVariants.{Cargo, Npm}
 use Rattle.tool_ranges.specs.NpmMeaning.{is_zero}
-use Rattle.tool_ranges.specs.Sides.{ends_past, sides}
+use Rattle.semver_ranges.specs.Sides.{ends_past, sides}
 
 -- in Cargo's dialect, no pre-release is in the block of one or two stated numbers, except with `^`
 abbrev pub sides_beside : Operator → List ℕ → Bool → Option SideValue × Option SideValue

@@ -12,9 +12,9 @@ use Rattle.semver_ranges.specs.CargoGrammar.{as_read, comparators_of}
 use Rattle.semver_ranges.specs.Steps.RangeEvents.{Event, comparators_left, in_front, next_range}
 use Rattle.semver_ranges.specs.Steps.RangeEvents.{yielded}
 use Rattle.semver_ranges.specs.Steps.Reading.{after_blanks, read}
-use Rattle.tool_ranges.specs.declared.dialect.Dialect.{Dialect}
-use Rattle.tool_ranges.specs.declared.dialect.Dialect.TheVariants.{Cargo, Npm, CrateCargo}
-use Rattle.tool_ranges.specs.declared.dialect.Dialect.TheVariants.{CrateNpm}
+use Rattle.semver_ranges.specs.declared.dialect.Dialect.{Dialect}
+use Rattle.semver_ranges.specs.declared.dialect.Dialect.TheVariants.{Cargo, Npm, CrateCargo}
+use Rattle.semver_ranges.specs.declared.dialect.Dialect.TheVariants.{CrateNpm}
 use Rattle.tool_ranges.specs.NpmGrammar.{may_stand}
 
 -- ---- the tree of a text, and the terms of its ranges

@@ -10,18 +10,9 @@ use Rattle.semver_texts.specs.Texts.{cut_at_dots}
 use Rattle.semver_texts.specs.Versions.{numbers, PlainVersion}
 use Rattle.semver_texts.specs.declared.grammar.Digits.{Digits}
 use Rattle.semver_ranges.specs.Partials.{kept}
-use Rattle.semver_ranges.specs.Steps.PartialViews.{place_number}
 use Rattle.version_sets.specs.declared.cut.Cut.{Cut}
 use Rattle.version_sets.specs.declared.cut.Interval.{Interval}
-use Rattle.version_sets.specs.Sides.{SideValue, below, at, past, above}
-use Rattle.version_sets.specs.declared.cut.Side.{Side}
-use Rattle.version_sets.specs.declared.cut.Side.TheVariants.{Below, At, Past, Above}
-
-abbrev pub side_value : Side → SideValue
-side_value Below = below
-side_value At = at
-side_value Past = past
-side_value (Above place) = above (place_number place)
+use Rattle.semver_ranges.specs.Sides.{SideValue, below, at, past, above, side_value}
 
 -- how the first n numbers of a version compare with those of another
 abbrev pub first_numbers : ℕ → PlainVersion → PlainVersion → Ordering

@@ -5,7 +5,7 @@
 
 use crate::rattle_std::prelude::*;
 use crate::proved::command_line::error::{ArgumentError, Quoted};
-use crate::proved::tool_ranges::dialect::Dialect;
+use crate::proved::semver_ranges::dialect::Dialect;
 use crate::proved::tool_ranges::meaning::Rules;
 use crate::proved::version_sets::PreReleases;
 

@@ -9,7 +9,7 @@ use crate::proved::invalid_strings::escaped::Escaped;
 use crate::proved::semver_parser::RangeError;
 use crate::rattle_std::io::{self, ErrorKind};
 use crate::rattle_std::process::ExitCode;
-use crate::proved::tool_ranges::dialect::Dialect;
+use crate::proved::semver_ranges::dialect::Dialect;
 
 /// A program. Each line that it writes to standard error begins with its name. If a line can't be
 /// written there, it is left out.

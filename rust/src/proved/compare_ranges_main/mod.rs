@@ -16,7 +16,7 @@ use crate::proved::semver_parser::RangeError;
 use crate::rattle_std::AllocError;
 use crate::rattle_std::io::{self, ErrorKind};
 use crate::rattle_std::process::ExitCode;
-use crate::proved::tool_ranges::dialect::Dialect;
+use crate::proved::semver_ranges::dialect::Dialect;
 use crate::proved::tool_ranges::meaning::Rules;
 use crate::proved::tool_ranges::version_range::VersionRange;
 use crate::proved::version_sets::OperationError;

@@ -9,8 +9,9 @@ use crate::proved::semver_ranges::term::RawVersion;
 use crate::proved::semver_texts::bytes::run_len;
 use crate::proved::semver_texts::decimals::number_of_digits;
 use crate::proved::semver_texts::dotted::split_at_dot;
-use crate::proved::tool_ranges::dialect::Dialect;
-use crate::proved::tool_ranges::table::{limit, too_large};
+use crate::proved::semver_ranges::dialect::Dialect;
+use crate::proved::semver_ranges::table::limit;
+use crate::proved::tool_ranges::large_numbers::too_large;
 
 /// Returns the offset of the number that is too large in a range. It is in the first term that
 /// doesn't fit: the first number above the limit of the dialect, or if there is none, the number

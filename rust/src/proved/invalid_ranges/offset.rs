@@ -7,7 +7,7 @@ use crate::rattle_std::prelude::*;
 use crate::proved::invalid_strings::longest::{Language, longest_prefix};
 use crate::proved::semver_ranges::RangeError;
 use crate::rattle_std::AllocError;
-use crate::proved::tool_ranges::dialect::Dialect;
+use crate::proved::semver_ranges::dialect::Dialect;
 use crate::proved::tool_ranges::meaning::{self, Rules};
 use crate::proved::version_sets::PreReleases;
 

@@ -13,7 +13,7 @@ use crate::proved::semver_texts::bytes::is_part_byte;
 use crate::proved::semver_texts::grammar::Grammar;
 use crate::proved::semver_texts::npm_limits::MAX_SAFE_BUILD_LENGTH;
 use crate::rattle_std::AllocError;
-use crate::proved::tool_ranges::dialect::Dialect;
+use crate::proved::semver_ranges::dialect::Dialect;
 
 /// Returns why a string stops being a range at an offset.
 pub(crate) fn reason_at(

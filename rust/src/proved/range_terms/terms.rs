@@ -8,7 +8,7 @@ use crate::proved::semver_ranges::term::{RawTerm, RawVersion};
 use crate::proved::semver_ranges::{RangeError, partial};
 use crate::proved::semver_texts::dotted::text_of_parts;
 use crate::proved::semver_texts::grammar::Grammar;
-use crate::proved::tool_ranges::dialect::Dialect;
+use crate::proved::semver_ranges::dialect::Dialect;
 use crate::proved::tool_ranges::meaning::{Rules, check};
 use crate::proved::version_sets::PreReleases;
 

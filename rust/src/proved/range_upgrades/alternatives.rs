@@ -4,7 +4,7 @@
 use crate::rattle_std::prelude::*;
 use crate::proved::range_terms::term::Term;
 use crate::proved::range_terms::terms::of_range;
-use crate::proved::tool_ranges::dialect::Dialect;
+use crate::proved::semver_ranges::dialect::Dialect;
 
 /// The terms between two `||`, as offsets in the range string.
 #[derive(Clone, Copy)]

@@ -10,7 +10,7 @@ use crate::proved::semver_ranges::operator::Operator;
 use crate::proved::semver_versions::version::VersionRef;
 use crate::rattle_std::AllocError;
 use crate::proved::tool_ranges::at_or_above::has_at_or_above;
-use crate::proved::tool_ranges::dialect::Dialect;
+use crate::proved::semver_ranges::dialect::Dialect;
 use crate::proved::tool_ranges::meaning::Rules;
 use crate::proved::version_sets::PreReleases;
 

@@ -6,7 +6,7 @@ use crate::proved::invalid_ranges::refusals as ranges;
 use crate::proved::invalid_strings::reasons::Reason;
 use crate::proved::invalid_strings::refusals as versions;
 use crate::rattle_std::AllocError;
-use crate::proved::tool_ranges::dialect::Dialect;
+use crate::proved::semver_ranges::dialect::Dialect;
 
 /// What a string is meant as.
 #[derive(Clone, Copy, PartialEq, Eq, Debug)]

@@ -10,7 +10,7 @@ use crate::proved::semver_ranges::RangeError;
 use crate::proved::semver_tokens::{lexer, parser};
 use crate::rattle_std::AllocError;
 use crate::rattle_std::fmt;
-use crate::proved::tool_ranges::dialect::Dialect;
+use crate::proved::semver_ranges::dialect::Dialect;
 use crate::proved::tool_ranges::satisfying::SatisfiesError;
 use crate::proved::version_sets::OperationError;
 

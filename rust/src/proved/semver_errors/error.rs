@@ -8,7 +8,7 @@ use crate::proved::repaired_strings::errors::{Expected, first_error};
 use crate::proved::repaired_strings::repairs::repaired;
 use crate::proved::repaired_strings::spans::span_at;
 use crate::rattle_std::AllocError;
-use crate::proved::tool_ranges::dialect::Dialect;
+use crate::proved::semver_ranges::dialect::Dialect;
 
 /// The kind of an [`Error`]: what a program can do about it. [`Error::reason`] says why.
 ///

@@ -3,7 +3,7 @@
 
 use crate::rattle_std::prelude::*;
 use crate::proved::semver_errors::error::Error;
-use crate::proved::tool_ranges::dialect::Dialect;
+use crate::proved::semver_ranges::dialect::Dialect;
 use crate::proved::version_sets::PreReleases;
 
 /// Returns the dialect with a name, or an error if there is none.

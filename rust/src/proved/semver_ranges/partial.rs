@@ -51,15 +51,6 @@ pub enum Place {
     Patch,
 }
 
-/// How a raised bound is written.
-#[derive(Clone, Copy)]
-pub enum RaisedBounds {
-    /// Without a pre-release, such as `<2.0.0`.
-    Plain,
-    /// With the lowest pre-release, such as `<2.0.0-0`.
-    Exact,
-}
-
 /// The numbers of a partial, with zeros for the missing ones, and its pre-release after three
 /// numbers, as a slice of the string.
 #[derive(Clone, Copy, Debug)]
@@ -131,12 +122,6 @@ impl<'input> Partial<'input> {
     #[inline(always)]
     pub fn states_nothing(&self) -> bool {
         matches!(self.kind, PartialKind::XRangeOnly)
-    }
-
-    /// Returns whether all numbers of the partial are at most 2^64 - 1.
-    #[inline(always)]
-    pub(crate) fn fits(&self) -> bool {
-        self.fits
     }
 
     /// Returns the place of the first number that isn't 0, or that of the last number if all are 0.
@@ -212,15 +197,22 @@ impl<'input> Partial<'input> {
         }
     }
 
-    /// Returns whether the number at a place is below 2^64 - 1.
+    /// Returns the three numbers, with zeros for the missing ones.
     #[inline(always)]
-    pub(crate) fn may_rise(&self, place: Place) -> bool {
-        let number = match place {
-            Place::Major => self.major,
-            Place::Minor => self.minor,
-            Place::Patch => self.patch,
-        };
-        number < u64::MAX
+    pub fn numbers(&self) -> (u64, u64, u64) {
+        (self.major, self.minor, self.patch)
+    }
+
+    /// Returns the numbers up to a place, with the last of them raised by one, and zeros after it.
+    /// A number that is 2^64 - 1 isn't raised, since this is computed before it is known whether
+    /// the term fits.
+    #[inline(always)]
+    pub fn raised(&self, place: Place) -> (u64, u64, u64) {
+        match place {
+            Place::Major => (self.major.saturating_add(1), 0, 0),
+            Place::Minor => (self.major, self.minor.saturating_add(1), 0),
+            Place::Patch => (self.major, self.minor, self.patch.saturating_add(1)),
+        }
     }
 
     /// Returns the comparator of an operator and this partial, with zeros for missing numbers.
@@ -239,38 +231,6 @@ impl<'input> Partial<'input> {
             patch: self.patch,
             pre,
         })
-    }
-
-    /// Returns the comparator for everything below the bound above all versions with these numbers
-    /// up to a place: that number is raised by one, and the numbers after it are 0. `Err` means out
-    /// of memory.
-    #[inline(always)]
-    pub(crate) fn raised(
-        &self,
-        place: Place,
-        raised: RaisedBounds,
-    ) -> Result<Comparator, AllocError> {
-        let (major, minor, patch) = match place {
-            Place::Major => (self.major + 1, 0, 0),
-            Place::Minor => (self.major, self.minor + 1, 0),
-            Place::Patch => (self.major, self.minor, self.patch + 1),
-        };
-        Ok(Comparator {
-            op: Op::Lt,
-            major,
-            minor,
-            patch,
-            pre: raised_pre(raised)?,
-        })
-    }
-}
-
-/// Returns the pre-release of a raised bound: none, or the lowest. `Err` means out of memory.
-#[inline(always)]
-fn raised_pre(raised: RaisedBounds) -> Result<Vec<Identifier>, AllocError> {
-    match raised {
-        RaisedBounds::Plain => Ok(Vec::new()),
-        RaisedBounds::Exact => lowest_pre_release(),
     }
 }
 

@@ -2,14 +2,12 @@
 //! Range sets: the ranges of a string in one of two modes, and how they are printed.
 
 use crate::rattle_std::prelude::*;
-use crate::proved::semver_ranges::desugared_texts::read_in_two_runs;
-use crate::proved::semver_ranges::desugaring::{Desugared, rewritten};
-use crate::proved::semver_ranges::grammar::read_term;
-use crate::proved::semver_ranges::partial::{Partial, RaisedBounds};
+use crate::proved::semver_ranges::dialect::Dialect;
+use crate::proved::semver_ranges::events::Events;
 use crate::proved::semver_ranges::range::{Compat, Range};
+use crate::proved::semver_ranges::rewriting::{Style, rewrite};
 use crate::proved::semver_texts::grammar::Grammar;
 use crate::proved::semver_texts::printing::write_joined;
-use crate::rattle_std::AllocError;
 use crate::rattle_std::fmt;
 
 /// A range set: ranges, at least one of which a version has to satisfy.
@@ -118,7 +116,7 @@ impl RangeSet {
     /// # Ok::<(), semver_parser::RangeError>(())
     /// ```
     pub fn try_parse(input: &str, compat: Compat) -> Result<RangeSet, RangeError> {
-        parse_with(input, compat, RaisedBounds::Plain)
+        parse_with(input, compat, Style::Plain)
     }
 
     /// Reads a range string like `RangeSet::parse`, but with exact bounds: each upper bound that is
@@ -147,7 +145,7 @@ impl RangeSet {
     /// assert_eq!(exact(">1"), ">1.0.0");
     /// ```
     pub fn parse_exact(input: &str, compat: Compat) -> Result<RangeSet, RangeError> {
-        parse_with(input, compat, RaisedBounds::Exact)
+        parse_with(input, compat, Style::Exact)
     }
 
     /// Reads a range string in Cargo mode. Result and errors are those of `RangeSet::parse` with
@@ -157,60 +155,15 @@ impl RangeSet {
     }
 }
 
-/// Returns the range set of a string, or the reason why there is none. A string of one term is read
-/// at once, and any other in two passes.
+/// Returns the range set of a string in the crate's own dialect of a mode, or the reason why there
+/// is none.
 fn parse_with(
     input: &str,
     compat: Compat,
-    raised: RaisedBounds,
+    style: Style,
 ) -> Result<RangeSet, RangeError> {
-    let text = input.as_bytes();
-    let Some((partial, bounds)) = read_only_simple(text, compat) else {
-        return read_in_two_runs(text, compat, raised);
-    };
-    match build_only_simple(&partial, bounds, compat, raised) {
-        Ok(set) => Ok(set),
-        Err(_) => Err(RangeError::OutOfMemory),
-    }
-}
-
-/// The maximum length in bytes of a string that is first tried as one term, for speed. Longer
-/// strings seldom are one term, so they are read in two passes at once.
-const LONGEST_ONLY_SIMPLE: usize = 14;
-
-/// Returns the comparators of a string that is one term from its first byte on, and whose numbers
-/// fit. If it returns `None`, the two passes decide.
-fn read_only_simple(text: &[u8], compat: Compat) -> Option<(Partial<'_>, Desugared)> {
-    if text.len() > LONGEST_ONLY_SIMPLE {
-        return None;
-    }
-    let (term, rest) = read_term(text, Grammar::Crate)?;
-    if !rest.is_empty() {
-        return None;
-    }
-    let simple = term.simple(Grammar::Crate);
-    let bounds = rewritten(&simple, compat);
-    if bounds.fits(&simple.partial) {
-        Some((simple.partial, bounds))
-    } else {
-        None
-    }
-}
-
-/// Returns the set of one range with these comparators. `Err` means out of memory.
-fn build_only_simple(
-    partial: &Partial<'_>,
-    bounds: Desugared,
-    compat: Compat,
-    raised: RaisedBounds,
-) -> Result<RangeSet, AllocError> {
-    let comparator_set = bounds.to_vec(partial, raised)?;
-    let mut ranges = Vec::fallible_with_capacity(1)?;
-    ranges.push_reserved(Range {
-        comparator_set,
-        compat,
-    });
-    Ok(RangeSet { ranges, compat })
+    let begin = Events::new(input.as_bytes(), Grammar::Crate);
+    rewrite(begin, Dialect::of_mode(compat), style)
 }
 
 impl fmt::Display for RangeSet {

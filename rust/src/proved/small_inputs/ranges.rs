@@ -13,7 +13,8 @@ use crate::proved::semver_parser::{Compat, RangeError, RangeSet, report};
 use crate::rattle_std::AllocError;
 use crate::rattle_std::io;
 use crate::rattle_std::io::Write;
-use crate::proved::tool_ranges::dialect::{self, Dialect};
+use crate::proved::semver_ranges::dialect::Dialect;
+use crate::proved::tool_ranges::rewriting;
 use crate::proved::tool_ranges::meaning::{Rules, check};
 use crate::proved::tool_ranges::npm;
 use crate::proved::version_sets::PreReleases;
@@ -55,7 +56,7 @@ pub fn add_comparators(bytes: &[u8], sum: &mut Checksum) -> io::Result<()> {
         return Ok(());
     };
     for dialect in DIALECTS {
-        add_range_set(&dialect::rewrite(dialect, text), sum)?;
+        add_range_set(&rewriting::rewrite(dialect, text), sum)?;
     }
     add_range_set(&npm::rewrite_included(text), sum)
 }

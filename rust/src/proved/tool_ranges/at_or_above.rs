@@ -2,12 +2,13 @@
 //! Whether a range has a version at or above another one. Nothing here allocates.
 
 use crate::rattle_std::prelude::*;
-use crate::proved::tool_ranges::checked::Checked;
-use crate::proved::tool_ranges::dialect::Dialect;
 use crate::proved::tool_ranges::matching::{matches_everything, takes_all};
 use crate::proved::tool_ranges::meaning::Rules;
+use crate::proved::tool_ranges::reading::checked_of;
 use crate::proved::tool_ranges::sets::{is_by_default_of_npm, stated_numbers, with_term};
 use crate::proved::semver_ranges::RangeError;
+use crate::proved::semver_ranges::checked::Checked;
+use crate::proved::semver_ranges::dialect::Dialect;
 use crate::proved::semver_ranges::events::Event;
 use crate::proved::semver_ranges::partial::Partial;
 use crate::proved::semver_versions::version::VersionRef;
@@ -29,7 +30,7 @@ pub fn has_at_or_above(
     meaning: Rules,
 ) -> Result<bool, RangeError> {
     let (dialect, rule) = (meaning.dialect, meaning.pre_releases);
-    let checked = Checked::new(range, dialect)?;
+    let checked = checked_of(range, dialect)?;
     let version = version.read_by(dialect.grammar().digits());
     Ok(has_from(checked, &version, dialect, rule))
 }

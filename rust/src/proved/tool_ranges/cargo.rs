@@ -2,10 +2,10 @@
 //! Cargo's dialect: `1.2` is `>=1.2.0 <2.0.0`, and commas separate comparators.
 
 use crate::rattle_std::prelude::*;
-use crate::proved::tool_ranges::dialect::Dialect;
-use crate::proved::tool_ranges::rewriting;
-use crate::proved::semver_ranges::{Compat, RangeError, RangeSet};
-use crate::proved::version_sets::PreReleases;
+use crate::proved::tool_ranges::rewriting::rewrite_with;
+use crate::proved::semver_ranges::dialect::Dialect;
+use crate::proved::semver_ranges::rewriting::Style;
+use crate::proved::semver_ranges::{RangeError, RangeSet};
 
 /// The maximum number of comparators in a requirement.
 const MOST_COMPARATORS: usize = 32;
@@ -30,12 +30,7 @@ const MOST_COMPARATORS: usize = 32;
 ///   raised by one, is above 2^64 - 1, such as `>1.18446744073709551615`.
 /// - `OutOfMemory` if an allocation fails. The first two errors are returned without allocating.
 pub fn rewrite(requirement: &str) -> Result<RangeSet, RangeError> {
-    rewriting::rewrite(
-        requirement,
-        Dialect::Cargo,
-        Compat::Cargo,
-        PreReleases::ByDialect,
-    )
+    rewrite_with(requirement, Dialect::Cargo, Style::Exact)
 }
 
 /// Returns whether a string has fewer commas than a requirement may have comparators.

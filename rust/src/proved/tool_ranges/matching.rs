@@ -2,14 +2,15 @@
 //! Decides whether a version satisfies a range string. Nothing here allocates.
 
 use crate::rattle_std::prelude::*;
-use crate::proved::tool_ranges::dialect::Dialect;
-use crate::proved::tool_ranges::events::events_of;
-use crate::proved::tool_ranges::table::{bounds, counted, fits, is_zero};
+use crate::proved::tool_ranges::intervals::{bounds, counted, is_zero};
+use crate::proved::tool_ranges::reading::events_of;
 use crate::proved::semver_ranges::RangeError;
+use crate::proved::semver_ranges::dialect::Dialect;
 use crate::proved::semver_ranges::events::Event;
 use crate::proved::semver_ranges::grammar::Simple;
 use crate::proved::semver_ranges::operator::Operator;
 use crate::proved::semver_ranges::partial::Partial;
+use crate::proved::semver_ranges::table::fits;
 use crate::proved::semver_versions::version::VersionRef;
 use crate::proved::version_sets::{Interval, PreReleases};
 

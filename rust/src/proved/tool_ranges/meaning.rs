@@ -5,10 +5,10 @@
 //! dialect for each term, the calls take up to a third more instructions.
 
 use crate::rattle_std::prelude::*;
-use crate::proved::tool_ranges::dialect::Dialect;
 use crate::proved::tool_ranges::matching::answer;
-use crate::proved::tool_ranges::{checked, sets};
+use crate::proved::tool_ranges::{reading, sets};
 use crate::proved::semver_ranges::RangeError;
+use crate::proved::semver_ranges::dialect::Dialect;
 use crate::proved::semver_versions::version::VersionRef;
 use crate::proved::version_sets::{PreReleases, VersionSet};
 
@@ -95,9 +95,9 @@ pub fn satisfies(version: &VersionRef<'_>, range: &str, meaning: Rules) -> Resul
 #[inline(never)]
 pub fn check(meaning: Rules, range: &str) -> Result<(), RangeError> {
     match meaning.dialect {
-        Dialect::Cargo => checked::check(range, Dialect::Cargo),
-        Dialect::Npm => checked::check(range, Dialect::Npm),
-        Dialect::CrateCargo => checked::check(range, Dialect::CrateCargo),
-        Dialect::CrateNpm => checked::check(range, Dialect::CrateNpm),
+        Dialect::Cargo => reading::check(range, Dialect::Cargo),
+        Dialect::Npm => reading::check(range, Dialect::Npm),
+        Dialect::CrateCargo => reading::check(range, Dialect::CrateCargo),
+        Dialect::CrateNpm => reading::check(range, Dialect::CrateNpm),
     }
 }

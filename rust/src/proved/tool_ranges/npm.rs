@@ -2,11 +2,11 @@
 //! npm's dialect: `>1.2` is `>=1.3.0`, and `v1` is a range.
 
 use crate::rattle_std::prelude::*;
-use crate::proved::tool_ranges::dialect::Dialect;
-use crate::proved::tool_ranges::rewriting;
-use crate::proved::semver_ranges::{Compat, RangeError, RangeSet};
+use crate::proved::tool_ranges::rewriting::rewrite_with;
+use crate::proved::semver_ranges::dialect::Dialect;
+use crate::proved::semver_ranges::rewriting::Style;
+use crate::proved::semver_ranges::{RangeError, RangeSet};
 use crate::proved::semver_texts::white_space::is_white_space_beyond_ascii;
-use crate::proved::version_sets::PreReleases;
 
 /// Rewrites a range in npm's dialect into plain comparators with exact bounds.
 ///
@@ -31,12 +31,7 @@ use crate::proved::version_sets::PreReleases;
 ///   by one, is above 2^53 - 1, such as `>1.9007199254740991`.
 /// - `OutOfMemory` if an allocation fails. The first two errors are returned without allocating.
 pub fn rewrite(range: &str) -> Result<RangeSet, RangeError> {
-    rewriting::rewrite(
-        range,
-        Dialect::Npm,
-        Compat::Npm,
-        PreReleases::ByDialect,
-    )
+    rewrite_with(range, Dialect::Npm, Style::Exact)
 }
 
 /// Rewrites a range, as npm reads it with `includePrerelease`, into plain comparators that say
@@ -50,12 +45,7 @@ pub fn rewrite(range: &str) -> Result<RangeSet, RangeError> {
 ///
 /// Those of [`rewrite`].
 pub fn rewrite_included(range: &str) -> Result<RangeSet, RangeError> {
-    rewriting::rewrite(
-        range,
-        Dialect::Npm,
-        Compat::Npm,
-        PreReleases::Included,
-    )
+    rewrite_with(range, Dialect::Npm, Style::Lowest)
 }
 
 /// Returns whether every non-ASCII character of a string is white space to JavaScript. Strings of

@@ -2,11 +2,12 @@
 //! A range string as the set of the versions that satisfy it.
 
 use crate::rattle_std::prelude::*;
-use crate::proved::tool_ranges::checked::Checked;
-use crate::proved::tool_ranges::dialect::Dialect;
+use crate::proved::tool_ranges::intervals::{bounds, release};
 use crate::proved::tool_ranges::matching::{interval_of, matches_everything, takes_all};
-use crate::proved::tool_ranges::table::{bounds, numbers};
+use crate::proved::tool_ranges::reading::checked_of;
 use crate::proved::semver_ranges::RangeError;
+use crate::proved::semver_ranges::checked::Checked;
+use crate::proved::semver_ranges::dialect::Dialect;
 use crate::proved::semver_ranges::events::Event;
 use crate::proved::semver_ranges::grammar::Simple;
 use crate::proved::semver_ranges::partial::Partial;
@@ -21,7 +22,7 @@ pub(crate) fn read(
     dialect: Dialect,
     rule: PreReleases,
 ) -> Result<VersionSet, RangeError> {
-    let checked = Checked::new(range, dialect)?;
+    let checked = checked_of(range, dialect)?;
     match set_of(checked, dialect, rule) {
         Ok(set) => Ok(set),
         Err(_) => Err(RangeError::OutOfMemory),
@@ -155,7 +156,7 @@ fn push_pre_releases<'text>(
 /// Returns the numbers of a partial version, if it names all three and a pre-release.
 pub(crate) fn stated_numbers(partial: &Partial<'_>) -> Option<Release> {
     if partial.has_pre_release() && partial.states_three() {
-        Some(numbers(partial))
+        Some(release(partial.numbers()))
     } else {
         None
     }

@@ -4,8 +4,8 @@
 use crate::rattle_std::prelude::*;
 use crate::proved::tool_ranges::meaning::{self, Rules};
 use crate::proved::tool_ranges::satisfying::SatisfiesError;
-use crate::proved::tool_ranges::table::limit;
 use crate::proved::semver_ranges::RangeError;
+use crate::proved::semver_ranges::table::limit;
 use crate::proved::semver_versions::version::{Version, VersionRef, read_ref_in};
 use crate::rattle_std::AllocError;
 use crate::rattle_std::fmt;

@@ -2,7 +2,8 @@
 //! The lowest release and the lowest pre-release above a cut.
 
 use crate::rattle_std::prelude::*;
-use crate::proved::version_sets::cut::{Cut, Side};
+use crate::proved::version_sets::cut::Cut;
+use crate::proved::semver_ranges::table::Side;
 use crate::proved::version_sets::pre_release_end::PreReleaseEnd;
 use crate::proved::version_sets::release::{Release, next_numbers};
 use crate::proved::version_sets::span_end::SpanEnd;

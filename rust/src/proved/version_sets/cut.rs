@@ -3,20 +3,7 @@
 
 use crate::rattle_std::prelude::*;
 use crate::proved::version_sets::release::Release;
-use crate::proved::semver_ranges::partial::Place;
-
-/// The side of its version on which a cut is.
-#[derive(Clone, Copy)]
-pub enum Side {
-    /// Below every version with the same three numbers.
-    Below,
-    /// Directly below the version.
-    At,
-    /// Directly above the version.
-    Past,
-    /// Above every version with the same first numbers, up to a place.
-    Above(Place),
-}
+use crate::proved::semver_ranges::table::Side;
 
 /// A position in the order of versions: one side of a version. The pre-release of that version is
 /// borrowed from the range string.

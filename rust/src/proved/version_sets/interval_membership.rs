@@ -2,7 +2,8 @@
 //! Whether a version is above a cut, and whether it is in an interval.
 
 use crate::rattle_std::prelude::*;
-use crate::proved::version_sets::cut::{Cut, Interval, Side};
+use crate::proved::version_sets::cut::{Cut, Interval};
+use crate::proved::semver_ranges::table::Side;
 use crate::proved::semver_ranges::comparing::InRanges;
 use crate::proved::semver_ranges::partial::Place;
 use crate::proved::semver_texts::grammar::Digits;

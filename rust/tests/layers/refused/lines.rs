@@ -3,7 +3,7 @@
 use super::Ending;
 use crate::proved::release_filter::{filter_text, LineOptions, Lines, Selection};
 use crate::proved::semver_parser::{Compat, RangeError};
-use crate::proved::tool_ranges::dialect::Dialect;
+use crate::proved::semver_ranges::dialect::Dialect;
 use crate::proved::tool_ranges::meaning::Rules;
 use crate::proved::tool_ranges::version_range::VersionRange;
 use crate::proved::version_sets::PreReleases;

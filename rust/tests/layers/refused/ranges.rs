@@ -2,7 +2,7 @@
 
 use super::Ending;
 use crate::proved::semver_parser::{Compat, RangeError, RangeSet};
-use crate::proved::tool_ranges::dialect::Dialect;
+use crate::proved::semver_ranges::dialect::Dialect;
 use crate::proved::invalid_ranges::refusals::refused;
 use crate::proved::tool_ranges::{cargo, npm};
 use std::fmt::{self, Write};

@@ -3,7 +3,7 @@
 use super::Ending;
 use crate::proved::semver_parser::{version, RangeError};
 use crate::proved::semver_texts::grammar::Digits;
-use crate::proved::tool_ranges::dialect::Dialect;
+use crate::proved::semver_ranges::dialect::Dialect;
 use crate::proved::tool_ranges::meaning::{self, Rules};
 use crate::proved::version_sets::{Combination, PreReleases, SetRanges, VersionSet};
 use crate::rattle_std::AllocError;

@@ -2,7 +2,7 @@
 
 use super::Ending;
 use crate::proved::range_upgrades::upgrade::{upgrade, UpgradeError};
-use crate::proved::tool_ranges::dialect::Dialect;
+use crate::proved::semver_ranges::dialect::Dialect;
 use crate::proved::tool_ranges::meaning::Rules;
 use crate::proved::version_sets::PreReleases;
 

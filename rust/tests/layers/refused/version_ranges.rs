@@ -2,7 +2,7 @@
 
 use super::Ending;
 use crate::proved::semver_parser::RangeError;
-use crate::proved::tool_ranges::dialect::Dialect;
+use crate::proved::semver_ranges::dialect::Dialect;
 use crate::proved::tool_ranges::meaning::Rules;
 use crate::proved::tool_ranges::version_range::VersionRange;
 use crate::proved::version_sets::{Combination, OperationError, PreReleases};

@@ -3,7 +3,7 @@
 use super::{versions_of, NOT_ALL};
 use crate::proved::release_filter::{LineOptions, Lines, Selection};
 use crate::proved::semver_parser::RangeError;
-use crate::proved::tool_ranges::dialect::Dialect;
+use crate::proved::semver_ranges::dialect::Dialect;
 use crate::proved::tool_ranges::highest::Extreme;
 use crate::proved::tool_ranges::meaning::Rules;
 use crate::proved::tool_ranges::version_range::VersionRange;

@@ -11,7 +11,7 @@ mod versions;
 
 use crate::proved::replayed_cases::{self as port, checksum::Checksum, text};
 use crate::proved::semver_parser::version::{self, Grammar, Version};
-use crate::proved::tool_ranges::dialect::Dialect;
+use crate::proved::semver_ranges::dialect::Dialect;
 use crate::proved::tool_ranges::meaning::Rules;
 use crate::proved::version_sets::PreReleases;
 use std::io::{self, BufRead, Write};

@@ -4,14 +4,15 @@ use super::{versions_of, NOT_ALL};
 use crate::proved::semver_parser::{version, RangeError};
 use crate::proved::range_upgrades::upgrade::upgrade;
 use crate::proved::requirements::requirement::requirement;
-use crate::proved::tool_ranges::dialect::{self, Dialect};
+use crate::proved::semver_ranges::dialect::Dialect;
+use crate::proved::tool_ranges::rewriting::rewrite;
 use crate::proved::tool_ranges::meaning::{self, Rules};
 use crate::proved::tool_ranges::version_range::VersionRange;
 use crate::proved::invalid_ranges::refusals;
 
 /// Returns the comparators of a range in a dialect, or the word for its error.
 pub fn rewritten(text: &str, tool: Dialect) -> String {
-    match dialect::rewrite(tool, text) {
+    match rewrite(tool, text) {
         Ok(set) => set.to_string(),
         Err(error) => word(error),
     }

@@ -3,7 +3,7 @@ use Rattle.std.specs.Prelude.{IfOk, Result}
 use Rattle.semver_parser.specs.Texts.{Text}
 use Rattle.semver_parser.specs.declared.RangeError.{RangeError}
 use Rattle.invalid_ranges.specs.Refusals.{IsRefusalAs}
-use Rattle.tool_ranges.specs.declared.dialect.Dialect.{Dialect}
+use Rattle.semver_ranges.specs.declared.dialect.Dialect.{Dialect}
 use Rattle.invalid_ranges.specs.declared.refusals.Refusal.{Refusal}
 use Rattle.command_line.specs.RefusedLines.{line_of}
 use Rattle.command_line.proofs.refused.refused_line.Goals as goal

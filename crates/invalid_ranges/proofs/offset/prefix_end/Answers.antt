@@ -4,7 +4,7 @@ use Rattle.semver_texts.specs.Texts.{Text}
 use Rattle.invalid_strings.specs.Prefixes.{Begins, IsLongestPrefix}
 use Rattle.tool_ranges.specs.Dialects.{IsTextAs}
 use Rattle.invalid_ranges.specs.Prefixes.{BeginsAs}
-use Rattle.tool_ranges.specs.declared.dialect.Dialect.{Dialect}
+use Rattle.semver_ranges.specs.declared.dialect.Dialect.{Dialect}
 use Rattle.std.specs.Str.{IsUtf8}
 use Rattle.invalid_ranges.proofs.Places.{completed, longest_as}
 use Rattle.invalid_ranges.proofs.offset.prefix_end.Goals as goal

@@ -1,7 +1,7 @@
 use Rattle.std.proofs.Common.{◌∙◌, Err, Global, None, Ok, Some, ap, refl, string_bytes, subst, sym}
 use Rattle.semver_texts.specs.ToolVersions.{IsVersionTextIn}
 use Rattle.semver_versions.specs.VersionRefs.{IsVersionRefIn, version_of}
-use Rattle.tool_ranges.specs.Dialects.{grammar_of}
+use Rattle.semver_ranges.specs.DialectTable.{grammar_of}
 use Rattle.range_upgrades.specs.Upgrades.{HasVersionFrom}
 use Rattle.range_upgrades.specs.declared.upgrade.UpgradeError.TheVariants.{CannotUpgrade, InvalidRange, OutOfMemory}
 use Rattle.range_upgrades.proofs.Results.{Clauses, IsValid, clauses, err_is, invalid_version, read_fits, unread, valid_range}

@@ -8,7 +8,7 @@ use Rattle.semver_texts.specs.Versions.{VersionValue}
 use Rattle.version_sets.specs.PreReleaseRules.{meant_with}
 use Rattle.version_sets.specs.VersionSets.{SetValue, contains, Fits}
 use Rattle.version_sets.specs.declared.rules.PreReleases.TheVariants.{Excluded}
-use Rattle.tool_ranges.proofs.FitCells.{own_fits}
+use Rattle.semver_ranges.proofs.FitCells.{own_fits}
 use Rattle.tool_ranges.proofs.ReadSets.{Refused}
 use Rattle.release_filter.proofs.filter.read_releases.Goals as goal
 

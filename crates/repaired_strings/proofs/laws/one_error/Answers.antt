@@ -1,8 +1,8 @@
 use Rattle.std.proofs.Common.{take}
 use Rattle.semver_texts.specs.Texts.{Text}
 use Rattle.invalid_strings.specs.Reasons.{byte_at}
-use Rattle.tool_ranges.specs.Dialects.{grammar_of}
-use Rattle.tool_ranges.specs.declared.dialect.Dialect.{Dialect}
+use Rattle.semver_ranges.specs.DialectTable.{grammar_of}
+use Rattle.semver_ranges.specs.declared.dialect.Dialect.{Dialect}
 use Rattle.repaired_strings.proofs.OneError.{AreOneOfRanges, AreOneOfVersions, invalid, same_offset, same_reason}
 use Rattle.repaired_strings.proofs.laws.one_error.Goals as goal
 

@@ -1,6 +1,6 @@
 use Rattle.std.proofs.Common.{◌≡◌, Option, Some, None, IfNone, IfSome, String, Global, refl, ap, option_map, string_bytes}
 use Rattle.semver_texts.specs.Texts.{Text}
-use Rattle.tool_ranges.specs.declared.dialect.Dialect.{Dialect}
+use Rattle.semver_ranges.specs.declared.dialect.Dialect.{Dialect}
 use Rattle.repaired_strings.specs.Errors.{IsValid}
 use Rattle.repaired_strings.specs.Repairs.{AreRepairs, IsBeyondRepair}
 use Rattle.repaired_strings.specs.declared.errors.Expected.{Expected}

@@ -1,6 +1,6 @@
 use Rattle.semver_parser.specs.RangeViews.{set_of}
 use Rattle.tool_ranges.specs.Dialects.{rewritten_as}
-use Rattle.tool_ranges.specs.declared.dialect.Dialect.TheVariants.{Npm}
+use Rattle.semver_ranges.specs.declared.dialect.Dialect.TheVariants.{Npm}
 use Rattle.result_laws.proofs.OneResult.{one_rewritten}
 use Rattle.result_laws.proofs.ranges.one_npm_rewrite.Goals as goal
 

@@ -1,7 +1,7 @@
 use Rattle.std.proofs.Common.{◌≡◌, ℕ, Option, Some, None, MatchOption, IfSome, refl, ap}
 use Rattle.semver_texts.specs.Texts.{Text}
 use Rattle.invalid_strings.specs.declared.reasons.Reason.{Reason}
-use Rattle.tool_ranges.specs.declared.dialect.Dialect.{Dialect}
+use Rattle.semver_ranges.specs.declared.dialect.Dialect.{Dialect}
 use Rattle.repaired_strings.specs.Errors.{IsErrorAt, IsValid}
 use Rattle.repaired_strings.specs.declared.errors.Expected.{Expected}
 use Rattle.repaired_strings.specs.declared.errors.StringError.{StringError}

@@ -1,5 +1,5 @@
 use Rattle.semver_texts.specs.Digits.{digits_in}
-use Rattle.tool_ranges.specs.Dialects.{grammar_of}
+use Rattle.semver_ranges.specs.DialectTable.{grammar_of}
 use Rattle.std.proofs.Common.{sym, ◌∙◌}
 use Rattle.result_laws.proofs.SameSets.{one_read, plainly}
 use Rattle.result_laws.proofs.sets.one_read.Goals as goal

@@ -2,7 +2,8 @@ use Rattle.std.proofs.Common.{◌≡◌, Bool, Result, Ok, ap, sym, ◌∙◌}
 use Rattle.semver_texts.specs.Digits.{digits_in, plain_by, version_by}
 use Rattle.semver_versions.specs.VersionRefs.{kept_version_of}
 use Rattle.version_sets.specs.VersionSets.{contains}
-use Rattle.tool_ranges.specs.Dialects.{HasSetAs, IsTextAs, IsTooLargeAs, grammar_of}
+use Rattle.tool_ranges.specs.Dialects.{HasSetAs, IsTextAs, IsTooLargeAs}
+use Rattle.semver_ranges.specs.DialectTable.{grammar_of}
 use Rattle.tool_ranges.proofs.ReadSets.{same_refusal}
 use Rattle.tool_ranges.proofs.ReadingLaws.{answered_too}
 use Rattle.version_sets.specs.declared.VersionSet.{VersionSet}

@@ -1,5 +1,5 @@
 use Rattle.version_sets.specs.VersionSets.{IsWithin}
-use Rattle.tool_ranges.specs.DialectTable.{limit}
+use Rattle.semver_ranges.specs.DialectTable.{limit}
 use Rattle.result_laws.proofs.LowestVersions.{one_call}
 use Rattle.result_laws.proofs.version_ranges.one_lowest_version.Goals as goal
 

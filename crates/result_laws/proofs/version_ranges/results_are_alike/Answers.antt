@@ -1,6 +1,6 @@
 use Rattle.std.proofs.Common.{◌≡◌, ap, subst, sym, ◌∙◌}
 use Rattle.semver_texts.specs.Digits.{digits_in}
-use Rattle.tool_ranges.specs.Dialects.{grammar_of}
+use Rattle.semver_ranges.specs.DialectTable.{grammar_of}
 use Rattle.tool_ranges.specs.declared.meaning.Rules.{Rules}
 use Rattle.version_sets.specs.VersionSets.{IsNormal}
 use Rattle.result_laws.specs.SameSets.{AreAlikeRanges}

@@ -1,39 +1,39 @@
-use Rattle.std.proofs.Common.{◌∷◌, [], ◌∙◌, map, refl, subst, sym}
+use Rattle.std.proofs.Common.{◌≡◌, refl, sym, ap, ◌∙◌, subst}
+use Rattle.semver_texts.specs.Texts.{Text}
 use Rattle.semver_texts.specs.declared.grammar.Grammar.TheVariants.{Crate}
-use Rattle.semver_ranges.specs.RangeTree.{simples}
-use Rattle.semver_ranges.specs.RewritingTable.{simple_fits, written_set, written_simple}
-use Rattle.semver_ranges.specs.Steps.Answers.{IsAnswer, IsAnswerBy}
-use Rattle.semver_ranges.specs.Steps.PartialViews.{pre_of}
-use Rattle.semver_ranges.proofs.EventLists.{range_made}
-use Rattle.semver_ranges.proofs.EventSteps.{begin_left}
-use Rattle.semver_ranges.proofs.EventSums.{answered_by}
-use Rattle.semver_ranges.proofs.Tables.{port_table}
-use Rattle.semver_ranges.proofs.OnlySimples.{one_fits, one_made}
+use Rattle.semver_ranges.specs.declared.dialect.Dialect.{Dialect}
+use Rattle.semver_ranges.specs.declared.events.Events.{Events}
+use Rattle.semver_ranges.specs.declared.range.Compat.{Compat}
+use Rattle.semver_ranges.specs.declared.range.Compat.TheVariants as mode
+use Rattle.semver_ranges.specs.DialectTable.{grammar_of, mode_of, own_dialect}
+use Rattle.semver_ranges.specs.Sides.{term_fits}
+use Rattle.semver_ranges.specs.TermComparators.{printed_term}
+use Rattle.semver_ranges.specs.Steps.Answers.{IsAnswerBy}
+use Rattle.semver_ranges.specs.Steps.CursorViews.{IsBegunIn}
+use Rattle.semver_ranges.specs.Steps.RangeEvents.{events}
+use Rattle.semver_ranges.proofs.OwnTable.{answered}
 use Rattle.semver_ranges.proofs.range_set.parse_with.Goals as goal
 
-pub returns-in-Ok : goal.returns-in-Ok
-returns-in-Ok c =
-    let found = c.in-Some.ensures in (
-      simples found.0 [] ∷ [],
-      rw (← c.as_bytes-text.ensures.value) found.1,
-      one_fits c.args.compat found.0 found.3,
-      c.in-Ok.ensures
-          ∙ one_made _ c.args.compat found.0 _
-          (found.2.2 (found.2.1 ∙ found.3) c.args.raised),
-    )
+own_grammar : (mode : Compat) → grammar_of (own_dialect mode) ≡ Crate
+own_grammar mode.Cargo = refl
+own_grammar mode.Npm = refl
 
-pub returns-in-Err : goal.returns-in-Err
-returns-in-Err c =
-    let found = c.in-Some.ensures in
-    (simples found.0 [] ∷ [], rw (← c.as_bytes-text.ensures.value) found.1, one_fits c.args.compat found.0 found.3)
+begun_in : (mode : Compat) (t u : Text) (d : Dialect) (begin : Events) → d ≡ own_dialect mode → IsBegunIn Crate u begin → u ≡ t
+    → IsBegunIn (grammar_of d) t begin
+begun_in mode t u d begin is begun same =
+    subst (λ g. IsBegunIn g t begin) (sym (ap grammar_of is ∙ own_grammar mode)) (subst (λ t. IsBegunIn Crate t begin) same begun)
 
-pub returns-in_default : goal.returns-in_default
-returns-in_default c =
-    let pre = pre_of c.args.raised in
-    let mode = c.args.compat in
-    subst (λ t. IsAnswer pre t mode c.read_in_two_runs.result) c.as_bytes-text.ensures.value
-    (answered_by (written_simple pre mode) mode (port_table pre mode) (written_set pre mode)
-    (λ tree i. record { ranges = map (λ r. range_made (port_table pre mode) mode r i) tree; compat = mode })
-    Crate c.as_bytes-text.result.now _ c.read_in_two_runs.result refl
-    (subst (λ o. IsAnswerBy o (simple_fits mode) (written_simple pre mode) mode c.read_in_two_runs.result)
-    (sym (begin_left Crate c.as_bytes-text.result.now _ refl)) c.read_in_two_runs.ensures))
+pub rewrite-requires : goal.rewrite-requires
+rewrite-requires c = (
+  c.args.input.now,
+  begun_in c.args.compat c.args.input.now c.as_bytes.result.now c.of_mode.result c.new-begin.result c.of_mode.ensures c.new-begin.ensures
+      c.as_bytes.ensures.value,
+)
+
+pub returns : goal.returns
+returns c =
+    let t = c.args.input.now in
+    answered c.args.style c.args.compat t c.rewrite.result
+    (subst (λ d. IsAnswerBy (events (grammar_of d) t) (term_fits d) (printed_term c.args.style d) (mode_of d) c.rewrite.result)
+    c.of_mode.ensures (c.rewrite.ensures t (begun_in c.args.compat t c.as_bytes.result.now c.of_mode.result c.new-begin.result c.of_mode.ensures
+    c.new-begin.ensures c.as_bytes.ensures.value)))

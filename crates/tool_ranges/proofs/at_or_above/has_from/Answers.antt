@@ -4,12 +4,13 @@ use Rattle.semver_versions.specs.VersionRefs.{version_of}
 use Rattle.semver_ranges.specs.Steps.RangeEvents.{Event}
 use Rattle.version_sets.specs.Steps.Ends.{in_each}
 use Rattle.semver_texts.specs.declared.grammar.Grammar.{Grammar}
-use Rattle.tool_ranges.specs.Dialects.{grammar_of}
-use Rattle.tool_ranges.specs.Steps.Checked.{GivesEvent, HasEvents, IsCheckedAs}
+use Rattle.semver_ranges.specs.DialectTable.{grammar_of}
+use Rattle.semver_ranges.specs.Steps.Checked.{GivesEvent, HasEvents}
+use Rattle.tool_ranges.specs.Steps.Checked.{IsCheckedAs}
 use Rattle.tool_ranges.specs.Steps.TextEvents.{events_in, ranges_of}
 use Rattle.tool_ranges.specs.Steps.Matching.{after, begun, counts, ended, taken, takes_all, term_met}
 use Rattle.tool_ranges.specs.Steps.Reaching.{states_some}
-use Rattle.tool_ranges.proofs.LeftEvents.{FirstFits, first_fits, next_first}
+use Rattle.semver_ranges.proofs.LeftEvents.{FirstFits, first_fits, next_first}
 use Rattle.tool_ranges.proofs.MatchedEvents.{ranges_fit}
 use Rattle.tool_ranges.proofs.MatchedTerms.{everything}
 use Rattle.tool_ranges.proofs.ReachedVersions.{every_release, found_more, knows_first, knows_range, knows_term, matched_more, some_range}

@@ -7,9 +7,11 @@ use Rattle.semver_ranges.specs.RangeTree.{SetTree}
 use Rattle.semver_ranges.specs.Steps.RangeEvents.{Event, event_fits}
 use Rattle.version_sets.specs.VersionSets.{Fits}
 use Rattle.tool_ranges.specs.declared.matching.Progress.{Progress}
-use Rattle.tool_ranges.specs.Dialects.{SpellsAs, grammar_of}
-use Rattle.tool_ranges.specs.Sides.{term_fits}
-use Rattle.tool_ranges.specs.Steps.Checked.{HasEvents, IsCheckedAs, size_after}
+use Rattle.tool_ranges.specs.Dialects.{SpellsAs}
+use Rattle.semver_ranges.specs.DialectTable.{grammar_of}
+use Rattle.semver_ranges.specs.Sides.{term_fits}
+use Rattle.semver_ranges.specs.Steps.Checked.{HasEvents, size_after}
+use Rattle.tool_ranges.specs.Steps.Checked.{IsCheckedAs}
 use Rattle.tool_ranges.specs.Steps.TextEvents.{events_in, ranges_of}
 use Rattle.tool_ranges.specs.Steps.Matching.{after, begun, counts, takes_all}
 use Rattle.tool_ranges.proofs.ReachedVersions.{Knows}

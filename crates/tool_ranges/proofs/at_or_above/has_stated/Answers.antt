@@ -5,11 +5,11 @@ use Rattle.semver_texts.specs.declared.grammar.Grammar.{Grammar}
 use Rattle.semver_versions.specs.VersionRefs.{version_of}
 use Rattle.version_sets.specs.Steps.Ends.{in_each}
 use Rattle.version_sets.specs.VersionSets.{IsPreRelease}
-use Rattle.tool_ranges.specs.Dialects.{grammar_of}
-use Rattle.tool_ranges.specs.Sides.{term_fits}
-use Rattle.tool_ranges.specs.Steps.Checked.{GivesEvent, HasEvents}
+use Rattle.semver_ranges.specs.DialectTable.{grammar_of}
+use Rattle.semver_ranges.specs.Sides.{term_fits}
+use Rattle.semver_ranges.specs.Steps.Checked.{GivesEvent, HasEvents}
 use Rattle.tool_ranges.specs.Steps.Reaching.{states_some}
-use Rattle.tool_ranges.proofs.LeftEvents.{FirstFits, first_fits, next_first}
+use Rattle.semver_ranges.proofs.LeftEvents.{FirstFits, first_fits, next_first}
 use Rattle.tool_ranges.proofs.MatchedTerms.{stated_at}
 use Rattle.tool_ranges.proofs.ReachedVersions.{HasNamed, HasStated, has_same, none_stated, stated_first, stated_later, stated_other}
 use Rattle.tool_ranges.proofs.at_or_above.has_stated.Goals as goal

@@ -3,9 +3,9 @@ use Rattle.std.specs.List.{list_all}
 use Rattle.std.specs.Prelude.{◌↔◌}
 use Rattle.semver_ranges.specs.Steps.RangeEvents.{Event, event_fits}
 use Rattle.semver_versions.specs.VersionRefs.{version_of}
-use Rattle.tool_ranges.specs.Dialects.{grammar_of}
-use Rattle.tool_ranges.specs.Sides.{term_fits}
-use Rattle.tool_ranges.specs.Steps.Checked.{HasEvents, size_after}
+use Rattle.semver_ranges.specs.DialectTable.{grammar_of}
+use Rattle.semver_ranges.specs.Sides.{term_fits}
+use Rattle.semver_ranges.specs.Steps.Checked.{HasEvents, size_after}
 use Rattle.tool_ranges.proofs.ReachedVersions.{HasStated}
 use Rattle.tool_ranges.proofs.at_or_above.has_stated.Given as goal
 

@@ -1,7 +1,7 @@
 use Rattle.std.proofs.Common.{◌≡◌, ◌∙◌, arith, sym, to_z, of_z, w32}
 use Rattle.semver_texts.proofs.OneOption.{one_option}
-use Rattle.tool_ranges.specs.DialectTable.{number_of}
-use Rattle.tool_ranges.specs.declared.dialect.Dialect.{Dialect}
+use Rattle.semver_ranges.specs.DialectTable.{number_of}
+use Rattle.semver_ranges.specs.declared.dialect.Dialect.{Dialect}
 use Rattle.tool_ranges.proofs.laws.one_dialect_of_number.Goals as goal
 
 one : (r s : Dialect) → number_of r ≡ number_of s → r ≡ s

@@ -8,7 +8,8 @@ use Rattle.semver_ranges.specs.RangeTree.{SetTree}
 use Rattle.semver_ranges.specs.declared.range_set.RangeError.{RangeError}
 use Rattle.semver_ranges.specs.declared.range_set.RangeError.TheVariants.{NotARange, NumberTooLarge, OutOfMemory}
 use Rattle.tool_ranges.specs.AtOrAbove.{HasAtOrAbove}
-use Rattle.tool_ranges.specs.Dialects.{RefusesAs, SpellsAs, grammar_of}
+use Rattle.tool_ranges.specs.Dialects.{RefusesAs, SpellsAs}
+use Rattle.semver_ranges.specs.DialectTable.{grammar_of}
 use Rattle.tool_ranges.specs.declared.meaning.Rules.{Rules}
 use Rattle.tool_ranges.proofs.laws.one_has_at_or_above.Goals as goal
 

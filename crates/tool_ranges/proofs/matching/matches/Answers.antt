@@ -2,12 +2,12 @@ use Rattle.std.proofs.Common.{◌≡◌, Some, Option, List, [], Bool, true, fal
 use Rattle.semver_texts.specs.Texts.{is_empty}
 use Rattle.semver_texts.specs.Versions.{PlainVersion}
 use Rattle.semver_ranges.specs.Steps.RangeEvents.{Event}
-use Rattle.tool_ranges.specs.Dialects.{grammar_of}
+use Rattle.semver_ranges.specs.DialectTable.{grammar_of}
 use Rattle.semver_ranges.specs.Steps.CursorViews.{Gives, HasLeft}
 use Rattle.tool_ranges.specs.Steps.Matching.{counts, ended, plain_of}
 use Rattle.semver_ranges.proofs.FoundEvents.{FirstSimple, first_simple}
 use Rattle.tool_ranges.proofs.MatchedEvents.{large, says, term_more, told}
-use Rattle.tool_ranges.proofs.FitCells.{read_fits}
+use Rattle.semver_ranges.proofs.FitCells.{read_fits}
 use Rattle.tool_ranges.proofs.matching.matches.Goals as goal
 use Rattle.tool_ranges.proofs.matching.matches.Goals.{In-Simple}
 

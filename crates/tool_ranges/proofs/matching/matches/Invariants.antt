@@ -1,6 +1,6 @@
 use Rattle.std.proofs.Common.{◌≡◌, true, List, Option}
 use Rattle.semver_ranges.specs.Steps.RangeEvents.{Event}
-use Rattle.tool_ranges.specs.Dialects.{grammar_of}
+use Rattle.semver_ranges.specs.DialectTable.{grammar_of}
 use Rattle.semver_ranges.specs.Steps.CursorViews.{HasLeft, size_left}
 use Rattle.tool_ranges.specs.Steps.TextEvents.{text_events}
 use Rattle.tool_ranges.specs.Steps.Matching.{begun, counts, plain_of}

@@ -3,7 +3,7 @@ use Rattle.std.proofs.lemmas.Bool.{and_parts}
 use Rattle.semver_texts.specs.Digits.{digits_in}
 use Rattle.version_sets.specs.Steps.Cuts.{is_in_interval}
 use Rattle.tool_ranges.specs.Steps.Matching.{plain_of}
-use Rattle.tool_ranges.proofs.FitCells.{read_fits}
+use Rattle.semver_ranges.proofs.FitCells.{read_fits}
 use Rattle.tool_ranges.proofs.MatchedTerms.{is_within_interval, of_tree, term_means}
 use Rattle.tool_ranges.proofs.matching.meets.Goals as goal
 

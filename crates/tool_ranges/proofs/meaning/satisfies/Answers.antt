@@ -7,9 +7,10 @@ use Rattle.semver_ranges.specs.declared.range_set.RangeError.{RangeError}
 use Rattle.semver_versions.specs.VersionRefs.{VersionRefValue, kept_version_of, version_of}
 use Rattle.version_sets.specs.declared.rules.PreReleases.{PreReleases}
 use Rattle.semver_ranges.specs.RangeTree.{SetTree}
-use Rattle.tool_ranges.specs.Dialects.{RefusesAs, SpellsAs, grammar_of}
+use Rattle.tool_ranges.specs.Dialects.{RefusesAs, SpellsAs}
+use Rattle.semver_ranges.specs.DialectTable.{grammar_of}
 use Rattle.tool_ranges.specs.Meanings.{meant_by}
-use Rattle.tool_ranges.specs.declared.dialect.Dialect.{Dialect}
+use Rattle.semver_ranges.specs.declared.dialect.Dialect.{Dialect}
 use Rattle.tool_ranges.proofs.MatchedMeanings.{same_plain}
 use Rattle.std.proofs.lemmas.Result.{IfOk-weaker}
 use Rattle.tool_ranges.proofs.meaning.satisfies.Goals as goal

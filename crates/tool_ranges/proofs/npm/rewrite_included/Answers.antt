@@ -5,6 +5,7 @@ use Rattle.semver_texts.specs.Versions.{PlainVersion}
 use Rattle.semver_ranges.specs.declared.range.Compat.TheVariants.{Npm}
 use Rattle.semver_ranges.specs.declared.range_set.RangeError.{RangeError}
 use Rattle.semver_ranges.specs.declared.range_set.RangeSet.{RangeSet}
+use Rattle.semver_ranges.specs.declared.rewriting.Style.TheVariants.{Lowest}
 use Rattle.semver_ranges.specs.SatisfiedComparators.{meets_set}
 use Rattle.semver_ranges.specs.RangeTree.{SetTree}
 use Rattle.semver_ranges.specs.RangeViews.{set_of}
@@ -13,7 +14,7 @@ use Rattle.tool_ranges.specs.AnySize.{set_any}
 use Rattle.tool_ranges.specs.Rewritten.{rewritten_included}
 use Rattle.tool_ranges.specs.NpmGrammar.{SpellsNpmRange}
 use Rattle.tool_ranges.specs.NpmMeaning.{meets_npm}
-use Rattle.tool_ranges.specs.declared.dialect.Dialect.TheVariants as dialect
+use Rattle.semver_ranges.specs.declared.dialect.Dialect.TheVariants as dialect
 use Rattle.tool_ranges.specs.Steps.Printed.{IsPrintedAs}
 use Rattle.tool_ranges.proofs.IncludedSets.{included_ranges}
 use Rattle.tool_ranges.proofs.PrintedMeanings.{included_meets}
@@ -21,7 +22,7 @@ use Rattle.tool_ranges.proofs.npm.rewrite_included.Goals as goal
 
 module _ (t : Text) where
   abbrev Printed : Result RangeSet RangeError → Type 0
-  Printed r = IfOk r (λ set. IsPrintedAs Included dialect.Npm Npm t (set_of set))
+  Printed r = IfOk r (λ set. IsPrintedAs Lowest dialect.Npm Npm t (set_of set))
 
   as_rewritten : (r : Result RangeSet RangeError) → Printed r
       → IfOk r (λ set. (tree : SetTree) → SpellsNpmRange tree t → set_of set ≡ rewritten_included tree)
@@ -34,7 +35,7 @@ module _ (t : Text) where
   versions (Err e) is = tt
 
 pub returns-clause-as_rewritten : goal.returns-clause-as_rewritten
-returns-clause-as_rewritten c = as_rewritten c.args.range.now c.rewrite.result c.rewrite.ensures.printed
+returns-clause-as_rewritten c = as_rewritten c.args.range.now c.rewrite_with.result c.rewrite_with.ensures.printed
 
 pub returns-clause-versions : goal.returns-clause-versions
-returns-clause-versions c = versions c.args.range.now c.rewrite.result c.rewrite.ensures.printed
+returns-clause-versions c = versions c.args.range.now c.rewrite_with.result c.rewrite_with.ensures.printed

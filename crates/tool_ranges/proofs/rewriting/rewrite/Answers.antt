@@ -1,17 +1,48 @@
-use Rattle.std.proofs.Common.{◌≡◌, Err, rules}
-use Rattle.tool_ranges.proofs.ReadTrees.{answered_as, out_of_memory_as, refused_as}
 use Rattle.tool_ranges.proofs.rewriting.rewrite.Goals as goal
+use Rattle.std.proofs.Common.{rules, subst, sym}
+use Rattle.semver_ranges.proofs.FitCells.{own_fits}
+use Rattle.tool_ranges.proofs.ReadSets.{Refused}
 
-pub returns-in_err-checked-clause-refusals : goal.returns-in_err-checked-clause-refusals
-returns-in_err-checked-clause-refusals c =
-    let error = c.in_err-checked.field-0.0 in
-    let is : c.from_residual.result ≡ Err error = search rules in
-    rw is (refused_as c.args.dialect c.args.range.now error c.in_err-checked.ensures)
+pub returns-in-Cargo : goal.returns-in-Cargo
+returns-in-Cargo c =
+    let e = c.rewrite.ensures in
+    rw c.in-Cargo.is (record {
+      refusals = e.refusals;
+      as_rewritten = e.as_rewritten;
+      releases = e.releases;
+      printable = e.printable;
+      reads_back = e.reads_back;
+    })
 
-pub returns-in-Ok-clause-refusals : goal.returns-in-Ok-clause-refusals
-returns-in-Ok-clause-refusals c = let read = c.in_ok-checked.ensures in
-    answered_as c.args.dialect c.args.range.now _ read.0 read.1 read.2
+pub returns-in-Npm : goal.returns-in-Npm
+returns-in-Npm c =
+    let e = c.rewrite-in-Npm.ensures in
+    rw c.in-Npm.is (record {
+      refusals = e.refusals;
+      as_rewritten = e.as_rewritten;
+      releases = e.releases;
+      printable = e.printable;
+      reads_back = e.reads_back;
+    })
 
-pub returns-in-Err-clause-refusals : goal.returns-in-Err-clause-refusals
-returns-in-Err-clause-refusals c = let read = c.in_ok-checked.ensures in
-    out_of_memory_as c.args.dialect c.args.range.now read.0 read.1 read.2
+pub returns-in-CrateCargo : goal.returns-in-CrateCargo
+returns-in-CrateCargo c =
+    let e = c.parse_exact.ensures in
+    rw c.in-CrateCargo.is (record {
+      refusals = subst (Refused c.args.range.now c.parse_exact.result) (λ i s. sym (own_fits s).0 i) e.refusals;
+      as_rewritten = e.as_rewritten;
+      releases = search rules;
+      printable = e.printable;
+      reads_back = e.reads_back;
+    })
+
+pub returns-in-CrateNpm : goal.returns-in-CrateNpm
+returns-in-CrateNpm c =
+    let e = c.parse_exact-in-CrateNpm.ensures in
+    rw c.in-CrateNpm.is (record {
+      refusals = subst (Refused c.args.range.now c.parse_exact-in-CrateNpm.result) (λ i s. sym (own_fits s).1 i) e.refusals;
+      as_rewritten = e.as_rewritten;
+      releases = search rules;
+      printable = e.printable;
+      reads_back = e.reads_back;
+    })

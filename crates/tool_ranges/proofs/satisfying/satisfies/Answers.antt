@@ -1,7 +1,7 @@
 use Rattle.std.proofs.Common.{◌≡◌, ◌∙◌, Err, ap, inl, inr, refl, sym}
 use Rattle.semver_texts.specs.Digits.{digits_in, version_by}
 use Rattle.semver_versions.specs.VersionRefs.{VersionRefValue, kept_version_of, version_of}
-use Rattle.tool_ranges.specs.Dialects.{grammar_of}
+use Rattle.semver_ranges.specs.DialectTable.{grammar_of}
 use Rattle.tool_ranges.specs.Meanings.{meant_as}
 use Rattle.tool_ranges.proofs.SatisfiesErrors.{refused_range}
 use Rattle.tool_ranges.proofs.satisfying.satisfies.Goals as goal

@@ -2,12 +2,13 @@ use Rattle.std.proofs.Common.{◌≡◌, true, Some, List, [], refl, sym, ap, �
 use Rattle.semver_texts.specs.Texts.{Text}
 use Rattle.semver_texts.specs.Versions.{PlainVersion, without_build}
 use Rattle.semver_ranges.specs.Steps.RangeEvents.{Event}
-use Rattle.tool_ranges.specs.Dialects.{grammar_of}
+use Rattle.semver_ranges.specs.DialectTable.{grammar_of}
 use Rattle.tool_ranges.specs.Steps.Matching as matching
-use Rattle.tool_ranges.specs.Steps.Checked.{GivesEvent, HasEvents, IsCheckedAs}
+use Rattle.semver_ranges.specs.Steps.Checked.{GivesEvent, HasEvents}
+use Rattle.tool_ranges.specs.Steps.Checked.{IsCheckedAs}
 use Rattle.tool_ranges.specs.Steps.TextEvents.{events_in, ranges_of}
 use Rattle.tool_ranges.specs.Steps.Matching.{after, counts, takes_all}
-use Rattle.tool_ranges.proofs.LeftEvents.{FirstFits, first_fits, next_first}
+use Rattle.semver_ranges.proofs.LeftEvents.{FirstFits, first_fits, next_first}
 use Rattle.tool_ranges.proofs.MatchedEvents.{ranges_fit, says_so}
 use Rattle.tool_ranges.proofs.MatchedMeanings.{same_plain}
 use Rattle.tool_ranges.proofs.MatchedRanges.{means}

@@ -3,8 +3,8 @@ use Rattle.std.proofs.lemmas.Bool.{and_parts}
 use Rattle.semver_texts.specs.Digits.{digits_in}
 use Rattle.version_sets.specs.Steps.Cuts.{is_in_interval}
 use Rattle.version_sets.specs.Steps.Ends.{in_each}
-use Rattle.tool_ranges.specs.Dialects.{grammar_of}
-use Rattle.tool_ranges.proofs.FitCells.{read_fits}
+use Rattle.semver_ranges.specs.DialectTable.{grammar_of}
+use Rattle.semver_ranges.proofs.FitCells.{read_fits}
 use Rattle.tool_ranges.proofs.MatchedTerms.{each_kind}
 use Rattle.tool_ranges.proofs.sets.with_term.Goals as goal
 

@@ -1,4 +1,4 @@
-use Rattle.tool_ranges.specs.declared.dialect.Dialect.TheVariants.{CrateCargo, CrateNpm}
+use Rattle.semver_ranges.specs.declared.dialect.Dialect.TheVariants.{CrateCargo, CrateNpm}
 use Rattle.command_line.proofs.options.MeaningOptions.set_dialect_by_name.Goals as goal
 
 pub returns-in-text-clause-unknown : goal.returns-in-text-clause-unknown

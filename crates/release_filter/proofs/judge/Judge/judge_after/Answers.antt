@@ -1,5 +1,5 @@
 use Rattle.std.proofs.Common.{◌∙◌, ap, refl, subst}
-use Rattle.tool_ranges.specs.Dialects.{grammar_of}
+use Rattle.semver_ranges.specs.DialectTable.{grammar_of}
 use Rattle.tool_ranges.specs.VersionRanges.{versions_grammar}
 use Rattle.tool_ranges.specs.declared.meaning.Rules.{Rules}
 use Rattle.semver_texts.specs.ToolVersions.{IsVersionTextIn, SpellsIn}

@@ -1,6 +1,6 @@
 use Rattle.std.proofs.Common.{◌≡◌, ◌↔◌, None, IfOk, subst}
 use Rattle.version_sets.specs.VersionSets.{HasNone, IsWithin}
-use Rattle.tool_ranges.specs.DialectTable.{limit}
+use Rattle.semver_ranges.specs.DialectTable.{limit}
 use Rattle.tool_ranges.specs.VersionRanges.{RangeValue}
 use Rattle.tool_ranges.proofs.version_range.VersionRange.lowest_version.Goals as goal
 

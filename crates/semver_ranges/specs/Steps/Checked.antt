@@ -1,0 +1,60 @@
+-- A means of proof, cited only in clauses of calls between these crates: the events that are left
+-- of a range text that was checked.
+use Rattle.std.specs.Prelude.{◌≡◌, ◌+◌, ◌&&◌, ℕ, Bool, true, false, Option, Some, None, is_some}
+use Rattle.std.specs.Prelude.{List, [], ◌∷◌, Result, Ok, Err, IsTrue}
+use Rattle.std.specs.List.{list_all}
+use Rattle.semver_texts.specs.declared.grammar.Grammar.{Grammar}
+use Rattle.semver_ranges.specs.declared.checked.Checked.{Checked}
+use Rattle.semver_ranges.specs.declared.dialect.Dialect.{Dialect}
+use Rattle.semver_ranges.specs.declared.events.Event as read
+use Rattle.semver_ranges.specs.declared.events.Events.{Events}
+use Rattle.semver_ranges.specs.declared.grammar.Simple as found
+use Rattle.semver_ranges.specs.declared.range_set.RangeError.{RangeError}
+use Rattle.semver_ranges.specs.declared.range_set.RangeError.TheVariants.{NotARange, NumberTooLarge}
+use Rattle.semver_ranges.specs.declared.range_set.RangeError.TheVariants.{OutOfMemory}
+use Rattle.semver_ranges.specs.DialectTable.{grammar_of}
+use Rattle.semver_ranges.specs.RangeTree.{Simple}
+use Rattle.semver_ranges.specs.Sides.{term_fits}
+use Rattle.semver_ranges.specs.Steps.Answers.{IsInvalidBy}
+use Rattle.semver_ranges.specs.Steps.FoundItems.{flag}
+use Rattle.semver_ranges.specs.Steps.CursorViews.{HasLeft, IsEventOf, IsSimpleOf, size_left}
+use Rattle.semver_ranges.specs.Steps.RangeEvents.{Event, event_fits, one_simple}
+
+-- the only term, if it wasn't returned yet, and then the events that the cursor has left
+abbrev pub HasOnly : Grammar → Option found.Simple → Events → List Event → Type 0
+HasOnly d None cursor es = HasLeft d cursor (Some es)
+HasOnly d (Some simple) cursor es =
+    (s : Simple) × (others : List Event) × IsSimpleOf s simple × HasLeft d cursor (Some others)
+    × (es ≡ one_simple s ∷ others)
+
+abbrev pub HasEvents : Grammar → Checked → List Event → Type 0
+HasEvents d checked es = HasOnly d checked.only checked.events es
+
+-- the event is the first that is left, and the others are left after it; `None` if none is left
+abbrev pub GivesEvent : Grammar → List Event → Option read.Event → Checked → Type 0
+GivesEvent d es None after = es ≡ []
+GivesEvent d es (Some e) after = (x : Event) × (others : List Event) × IsEventOf x e
+    × HasEvents d after others × (es ≡ x ∷ others)
+
+-- the events fit and are left, or the error is possible for them
+abbrev pub IsCheckedBy : Dialect → Option (List Event) → Result Checked RangeError → Type 0
+IsCheckedBy dialect o (Ok checked) = (es : List Event) × (o ≡ Some es)
+    × IsTrue (list_all (event_fits (term_fits dialect)) es)
+    × HasEvents (grammar_of dialect) checked es
+IsCheckedBy dialect o (Err e) = IsInvalidBy o (term_fits dialect) e
+
+-- the rest of a text was checked, where `fit` says whether the terms before it fit: whether nothing
+-- was left, and nothing is left after it; or the error
+abbrev pub IsSurveyed : Dialect → Bool → Option (List Event) → Result Bool RangeError → Events
+    → Type 0
+IsSurveyed dialect fit o (Ok is_end) after = (es : List Event) × (o ≡ Some es)
+    × ((fit && list_all (event_fits (term_fits dialect)) es) ≡ true) × (is_end ≡ true → es ≡ [])
+    × HasLeft (grammar_of dialect) after (Some [])
+IsSurveyed dialect fit o (Err NotARange) after = o ≡ None
+IsSurveyed dialect fit o (Err NumberTooLarge) after = (es : List Event) × (o ≡ Some es)
+    × ((fit && list_all (event_fits (term_fits dialect)) es) ≡ false)
+IsSurveyed dialect fit o (Err OutOfMemory) after = ⊥
+
+-- an upper bound on the number of events that are left
+abbrev pub size_after : Checked → ℕ
+size_after checked = size_left checked.events + flag (is_some checked.only)

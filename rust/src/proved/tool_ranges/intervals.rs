@@ -1,0 +1,137 @@
+// Made by tools/erase.py from crates/tool_ranges/src/intervals.rt; not edited by hand.
+//! The intervals of each term, in each dialect: the one for all versions, and the one for the
+//! pre-releases that count by default.
+
+use crate::rattle_std::prelude::*;
+use crate::proved::semver_ranges::dialect::Dialect;
+use crate::proved::semver_ranges::grammar::Simple;
+use crate::proved::semver_ranges::operator::Operator;
+use crate::proved::semver_ranges::partial::{Partial, PartialKind};
+use crate::proved::semver_ranges::table::{Side, is_past, sides};
+use crate::proved::version_sets::{Cut, Interval, Release};
+
+/// Returns the interval of a term, which includes all pre-releases within its bounds.
+#[inline(always)]
+pub(crate) fn bounds<'t>(simple: &Simple<'t>, dialect: Dialect) -> Interval<'t> {
+    between(&simple.partial, sides(simple, dialect))
+}
+
+/// Returns the interval between two sides of the zero-filled version of a partial version.
+#[inline(always)]
+fn between<'t>(partial: &Partial<'t>, sides: (Option<Side>, Option<Side>)) -> Interval<'t> {
+    Interval {
+        lower: beside(partial, sides.0),
+        upper: beside(partial, sides.1),
+    }
+}
+
+/// Returns the cut at a side of the zero-filled version of a partial version, if there is a side.
+#[inline(always)]
+fn beside<'t>(partial: &Partial<'t>, side: Option<Side>) -> Option<Cut<'t>> {
+    match side {
+        Some(side) => Some(cut(partial, side)),
+        None => None,
+    }
+}
+
+/// Returns the cut at a side of the zero-filled version of a partial version.
+#[inline(always)]
+fn cut<'t>(partial: &Partial<'t>, side: Side) -> Cut<'t> {
+    Cut::new(release(partial.numbers()), partial.pre(), side)
+}
+
+/// Returns the interval of the pre-releases that satisfy a term, if they count by default.
+#[inline(always)]
+pub(crate) fn counted<'t>(simple: &Simple<'t>, dialect: Dialect) -> Interval<'t> {
+    match dialect {
+        Dialect::CrateCargo | Dialect::CrateNpm => bounds(simple, dialect),
+        Dialect::Cargo => besides_block(simple),
+        Dialect::Npm => from_release(simple),
+    }
+}
+
+/// Returns the interval for pre-releases by default in Cargo's dialect. If the term has one or two
+/// numbers, no pre-release of its block is in the interval, except for `^`.
+#[inline(always)]
+fn besides_block<'t>(simple: &Simple<'t>) -> Interval<'t> {
+    between(&simple.partial, cargo_sides(simple))
+}
+
+/// Returns the sides of the interval for pre-releases in Cargo's dialect. If both sides are equal,
+/// the interval is empty.
+#[inline(always)]
+fn cargo_sides(simple: &Simple<'_>) -> (Option<Side>, Option<Side>) {
+    match simple.partial.kind() {
+        PartialKind::XRangeOnly => (Some(Side::Below), Some(Side::Below)),
+        PartialKind::MajorOnly | PartialKind::MajorMinor => sides_beside(simple),
+        PartialKind::MajorMinorPatch => sides(simple, Dialect::Cargo),
+    }
+}
+
+/// Returns the sides of the interval for pre-releases in Cargo's dialect, for a term of one or two
+/// numbers.
+#[inline(always)]
+fn sides_beside(simple: &Simple<'_>) -> (Option<Side>, Option<Side>) {
+    match simple.operator {
+        Operator::Caret | Operator::Greater => sides(simple, Dialect::Cargo),
+        Operator::GreaterOrEqual | Operator::Hyphen => {
+            let greater = Simple {
+                operator: Operator::Greater,
+                partial: simple.partial,
+            };
+            sides(&greater, Dialect::Cargo)
+        }
+        Operator::Less | Operator::LessOrEqual => (None, Some(Side::Below)),
+        _ => (Some(Side::Below), Some(Side::Below)),
+    }
+}
+
+/// Returns the interval for pre-releases by default in npm's dialect. It begins at the version of
+/// the term, or at the release that is raised above it, even if the interval for all versions
+/// begins below all pre-releases of these numbers. If it begins at 0.0.0, there is no lower bound,
+/// except for `=0.0.0`.
+#[inline(always)]
+fn from_release<'t>(simple: &Simple<'t>) -> Interval<'t> {
+    let (lower, upper) = sides(simple, Dialect::Npm);
+    Interval {
+        lower: release_of(&simple.partial, lower, is_past(upper)),
+        upper: beside(&simple.partial, upper),
+    }
+}
+
+/// Returns the lower cut of the interval for pre-releases in npm's dialect, if it excludes any
+/// version. `is_one` says whether the interval ends directly above the same version, as that of
+/// `=0.0.0` does. The raised number saturates, since this is computed before it is known whether
+/// the term fits.
+#[inline(always)]
+fn release_of<'t>(partial: &Partial<'t>, lower: Option<Side>, is_one: bool) -> Option<Cut<'t>> {
+    match lower {
+        None => None,
+        Some(Side::Past) => Some(cut(partial, Side::Past)),
+        Some(Side::Above(place)) => {
+            Some(Cut::new(release(partial.raised(place)), &[], Side::At))
+        }
+        Some(Side::Below | Side::At) if is_zero(partial) && !is_one => None,
+        Some(Side::Below | Side::At) => Some(cut(partial, Side::At)),
+    }
+}
+
+/// Returns whether the zero-filled version of a partial version is 0.0.0.
+#[inline(always)]
+pub(crate) fn is_zero(partial: &Partial<'_>) -> bool {
+    partial.major() == 0
+        && partial.minor() == 0
+        && partial.patch() == 0
+        && !partial.has_pre_release()
+}
+
+/// Returns the release with three numbers.
+#[inline(always)]
+pub(crate) fn release(numbers: (u64, u64, u64)) -> Release {
+    let (major, minor, patch) = numbers;
+    Release {
+        major,
+        minor,
+        patch,
+    }
+}
