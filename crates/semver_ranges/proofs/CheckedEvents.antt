@@ -1,7 +1,6 @@
 -- Whether the numbers of all terms fit, found from the events of a text, of which the first is a
 -- term.
-use Rattle.std.proofs.Common.{◌≡◌, Bool, true, false, ◌&&◌, Option, Some, None, List, [], ◌∷◌, map, refl, ap, sym, ◌∙◌}
-use Rattle.std.proofs.Math.Bool.{and-true}
+use Rattle.std.proofs.Common.{◌≡◌, Bool, true, false, ◌&&◌, Option, Some, None, List, [], ◌∷◌, map, refl, ap, sym, ◌∙◌, ℕ, subst}
 use Rattle.std.specs.List.{list_all}
 use Rattle.std.specs.Prelude.{Err, Ok, option_map}
 use Rattle.semver_texts.proofs.Lists.{by_test}
@@ -14,7 +13,6 @@ use Rattle.semver_ranges.specs.declared.events.Events.{Events}
 use Rattle.semver_ranges.specs.declared.range_set.RangeError.{RangeError}
 use Rattle.semver_ranges.specs.declared.range_set.RangeError.TheVariants.{NotARange, NumberTooLarge, OutOfMemory}
 use Rattle.semver_ranges.specs.CargoGrammar.{as_read}
-use Rattle.semver_ranges.specs.DialectTable.{grammar_of}
 use Rattle.semver_ranges.specs.Partials.{states_nothing}
 use Rattle.semver_ranges.specs.RangeTree.{RangeTree, SetTree, Simple, empty, hyphen, simples}
 use Rattle.semver_ranges.specs.Sides.{term_fits}
@@ -22,45 +20,13 @@ use Rattle.semver_ranges.specs.Terms.{left_side, right_side}
 use Rattle.semver_ranges.specs.TextItems.{Item, one_term}
 use Rattle.semver_ranges.specs.Steps.Answers.{IsInvalidBy}
 use Rattle.semver_ranges.specs.Steps.Checked.{IsSurveyed}
-use Rattle.semver_ranges.specs.Steps.CursorViews.{HasLeft, IsEventOf, IsFirst}
+use Rattle.semver_ranges.specs.Steps.CursorViews.{HasLeft, IsBegunIn, IsEventOf, IsFirst}
 use Rattle.semver_ranges.specs.Steps.FoundItems.{comparator, simple_of}
 use Rattle.semver_ranges.specs.Steps.Reading.{after_blanks, read as tree_of}
 use Rattle.semver_ranges.specs.Steps.RangeEvents.{Event, before_others, event_fits, events, events_of, in_front, next_range, one_simple, put}
 use Rattle.semver_ranges.specs.Steps.RangeEvents.{set_events, some_comparators, yielded}
 use Rattle.semver_ranges.proofs.EventSteps.{begin_left}
-use Rattle.semver_ranges.proofs.EventSums.{fit_bars, fit_more, fitted}
 use Rattle.semver_ranges.proofs.ReadingSound.{read_sound}
-
-module _ (d : Dialect) where
-  -- the events `o` are surveyed, with `fit0` before them and `fit` before those that are left
-  module _ (fit0 : Bool) (o : Option (List Event)) where
-    abbrev pub SoFar : Bool → Bool → Option (List Event) → Type 0
-    SoFar fit is_end left = (fitted (term_fits d) fit0 o ≡ fitted (term_fits d) fit left) × (is_end ≡ true → left ≡ o)
-
-    goes_on : {A : Type 0} → false ≡ true → A
-    goes_on e = cc
-
-    module _ (fit is_end : Bool) (before left : Option (List Event)) (so_far : SoFar fit is_end before) where
-      pub after_term : (f : Bool) (s : Simple) → before ≡ put (one_simple s) left → f ≡ term_fits d s → SoFar (fit && f) false left
-      after_term f s e is = (fit_more (term_fits d) (fitted (term_fits d) fit0 o) fit f before left s so_far.0 e is, λ wrong. goes_on wrong)
-
-      pub after_separator : before ≡ put next_range left → SoFar fit false left
-      after_separator e = (so_far.0 ∙ ap (fitted (term_fits d) fit) e ∙ fit_bars (term_fits d) fit left, λ wrong. goes_on wrong)
-
-      pub stopped : before ≡ None → o ≡ None
-      stopped e = none o (so_far.0 ∙ ap (fitted (term_fits d) fit) e) where
-        none : (o : Option (List Event)) → fitted (term_fits d) fit0 o ≡ None → o ≡ None
-        none None e = refl
-        none (Some es) e = cc
-
-      pub ended : before ≡ Some [] → (es : List Event) × (o ≡ Some es) × ((fit0 && list_all (event_fits (term_fits d)) es) ≡ fit)
-          × (is_end ≡ true → es ≡ [])
-      ended e = known o (so_far.0 ∙ ap (fitted (term_fits d) fit) e) (λ is. sym e ∙ so_far.1 is) where
-        known : (o : Option (List Event)) → fitted (term_fits d) fit0 o ≡ Some (fit && true) → (is_end ≡ true → Some [] ≡ o)
-            → (es : List Event) × (o ≡ Some es) × ((fit0 && list_all (event_fits (term_fits d)) es) ≡ fit) × (is_end ≡ true → es ≡ [])
-        known None e last = cc
-        known (Some es) e last =
-            (es, refl, (let same : (fit0 && list_all (event_fits (term_fits d)) es) ≡ (fit && true) = cc in same ∙ and-true fit), λ is. (let same = last is in cc))
 
 -- an event that is the first of these
 pub next_given : (g : Grammar) (es : List Event) (e : read.Event) (after : Events) → IsFirst g (Some es) e after
@@ -115,19 +81,28 @@ pub no_end : (g : Grammar) (t : Text) → events g t ≡ Some [] → events g t 
 no_end g t e = let first = begins_simple g t [] e in absurd (let wrong = first.2 in cc)
 
 -- what is known after the first term and the survey of the others
-module _ (d : Dialect) (o : Option (List Event)) (s : Simple) (f : Bool) (left : Option (List Event)) (after : Events)
-    (first : o ≡ put (one_simple s) left) (fits : f ≡ term_fits d s) where
+module _ (d : Dialect) (o : Option (List Event)) (s : Simple) (f : Bool) (left : Option (List Event)) (first : o ≡ put (one_simple s) left)
+    (fits : f ≡ term_fits d s) where
   all_events : (es : List Event) (b : Bool) → left ≡ Some es → (f && list_all (event_fits (term_fits d)) es) ≡ b
       → (o ≡ Some (one_simple s ∷ es)) × (list_all (event_fits (term_fits d)) (one_simple s ∷ es) ≡ b)
   all_events es b is same =
       (first ∙ ap (put (one_simple s)) is, ap (λ b. b && list_all (event_fits (term_fits d)) es) (sym fits) ∙ same)
 
-  pub refused : (e : RangeError) → IsSurveyed d f left (Err e) after → IsInvalidBy o (term_fits d) e
+  pub refused : (e : RangeError) → IsSurveyed d f left (Err e) → IsInvalidBy o (term_fits d) e
   refused NotARange none = first ∙ ap (put (one_simple s)) none
   refused NumberTooLarge (es, is, large) = let all = all_events es false is large in (one_simple s ∷ es, all.0, all.1)
   refused OutOfMemory no_error = no_error
 
-  pub checked_by : (is_end : Bool) → IsSurveyed d f left (Ok is_end) after
-      → (es : List Event) × (o ≡ Some (one_simple s ∷ es)) × (list_all (event_fits (term_fits d)) (one_simple s ∷ es) ≡ true)
-      × (is_end ≡ true → es ≡ []) × HasLeft (grammar_of d) after (Some [])
-  checked_by is_end (es, is, fit, end, has) = let all = all_events es true is fit in (es, all.0, all.1, end, has)
+  -- all events fit
+  pub surveyed : (count : ℕ) → IsSurveyed d f left (Ok count)
+      → (es : List Event) × (o ≡ Some es) × (list_all (event_fits (term_fits d)) es ≡ true)
+  surveyed count (es, is, fit) = let all = all_events es true is fit in (one_simple s ∷ es, all.0, all.1)
+
+  -- the term is the only event, and fits
+  pub only : f ≡ true → left ≡ Some [] → (o ≡ Some (one_simple s ∷ [])) × (list_all (event_fits (term_fits d)) (one_simple s ∷ []) ≡ true)
+  only fit none = all_events [] true none (ap (λ b. b && true) fit)
+
+-- the events of a text with whose beginning a cursor begins are left
+pub begun_left : (g : Grammar) (t : Text) (begin : Events) (es : List Event) → IsBegunIn g t begin → events g t ≡ Some es
+    → HasLeft g begin (Some es)
+begun_left g t begin es begun e = subst (HasLeft g begin) e begun.0

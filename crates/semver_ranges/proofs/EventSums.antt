@@ -57,10 +57,16 @@ fit_next d fits whole fit o cursor so_far first =
     (left, has, so_far ∙ ap (fitted fits fit) e ∙ fit_bars fits fit left)
 
 -- at the end of a text
-pub fit_end : (fits : Simple → Bool) (o : Option (List Event)) (fit : Bool) → fitted fits true o ≡ fitted fits fit (Some [])
-    → (es : List Event) × (o ≡ Some es) × (list_all (event_fits fits) es ≡ fit)
-fit_end fits None fit e = cc
-fit_end fits (Some es) fit e = (es, refl, let same : list_all (event_fits fits) es ≡ (fit && true) = cc in same ∙ and-true fit)
+pub fit_end : (fits : Simple → Bool) (before fit : Bool) (o : Option (List Event)) → fitted fits before o ≡ fitted fits fit (Some [])
+    → (es : List Event) × (o ≡ Some es) × ((before && list_all (event_fits fits) es) ≡ fit)
+fit_end fits before fit None e = cc
+fit_end fits before fit (Some es) e =
+    (es, refl, let same : (before && list_all (event_fits fits) es) ≡ (fit && true) = cc in same ∙ and-true fit)
+
+-- if the rest of a text isn't in the grammar
+pub fit_none : (fits : Simple → Bool) (before : Bool) (o : Option (List Event)) → fitted fits before o ≡ None → o ≡ None
+fit_none fits before None e = refl
+fit_none fits before (Some es) e = cc
 
 -- the ranges of a set, from its events
 module _ (written : Simple → List PlainComparator) (mode : Compat) where

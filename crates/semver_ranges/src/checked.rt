@@ -6,8 +6,8 @@
 ghost use Rattle.std.specs.Prelude.{◌<◌, List, Option, IfSome};
 ghost use Rattle.semver_texts.specs.Texts.{Text};
 ghost use Rattle.semver_ranges.specs.DialectTable.{grammar_of};
-ghost use Rattle.semver_ranges.specs.Steps.Checked.{GivesEvent, HasEvents, IsCheckedBy, IsSurveyed};
-ghost use Rattle.semver_ranges.specs.Steps.Checked.{size_after};
+ghost use Rattle.semver_ranges.specs.Steps.Checked.{FindsFirst, GivesEvent, HasEvents, IsCheckedBy};
+ghost use Rattle.semver_ranges.specs.Steps.Checked.{IsSurveyed, size_after};
 ghost use Rattle.semver_ranges.specs.Steps.CursorViews.{HasLeft, IsBegunIn};
 ghost use Rattle.semver_ranges.specs.Steps.RangeEvents.{Event as SomeEvent, events};
 
@@ -40,20 +40,17 @@ impl<'text> Checked<'text> {
         ensures { (t : Text) → IsBegunIn (grammar_of dialect) t begin.entry
             → IsCheckedBy dialect (events (grammar_of dialect) t) result }
     {
-        let grammar = dialect.grammar();
-        let mut events = begin;
-        let Some(event) = events.next_in(grammar) else {
+        let Some((first, rest)) = first_term(begin, dialect.grammar()) else {
             return Err(RangeError::NotARange);
         };
-        let Event::Simple(first) = event? else {
-            return Err(RangeError::NotARange);
-        };
-        if survey(&mut events, fits(&first, dialect), dialect)? {
+        let fit = fits(&first, dialect);
+        if fit & rest.is_at_end() {
             return Ok(Checked {
                 only: Some(first),
-                events,
+                events: rest,
             });
         }
+        survey(rest, fit, dialect)?;
         Ok(Checked {
             only: None,
             events: begin,
@@ -79,25 +76,44 @@ impl<'text> Checked<'text> {
     }
 }
 
-/// Checks the rest of a range string, where `fit` says whether the terms before it fit. Returns
-/// whether there was nothing to check.
+/// Returns the first term of a range string, and the events after it. It returns `None` if the
+/// string isn't in the grammar.
 #[inline(always)]
-fn survey(events: &mut Events<'_>, fit: bool, dialect: Dialect) -> Result<bool, RangeError>
-    ensures { (o : Option (List SomeEvent)) → HasLeft (grammar_of dialect) events.old o
-        → IsSurveyed dialect fit o result events.new }
+pub(crate) fn first_term<'text>(
+    begin: Events<'text>,
+    grammar: Grammar,
+) -> Option<(Simple<'text>, Events<'text>)>
+    ensures { (t : Text) → IsBegunIn grammar t begin.entry
+        → FindsFirst grammar (events grammar t) result }
+{
+    let mut rest = begin;
+    let Ok(event) = rest.next_in(grammar)? else {
+        return None;
+    };
+    match event {
+        Event::Simple(first) => Some((first, rest)),
+        Event::NextRange => None,
+    }
+}
+
+/// Checks the rest of a range string, where `fit` says whether the terms before it fit. Returns the
+/// number of ranges, for which a vector is allocated.
+#[inline(always)]
+pub(crate) fn survey(mut rest: Events<'_>, fit: bool, dialect: Dialect) -> Result<usize, RangeError>
+    ensures { (o : Option (List SomeEvent)) → HasLeft (grammar_of dialect) rest.entry o
+        → IsSurveyed dialect fit o result }
 {
     let grammar = dialect.grammar();
     let mut fit = fit;
-    let mut is_end = true;
-    while let Some(event) = events.next_in(grammar) {
+    let mut ranges = 1usize;
+    while let Some(event) = rest.next_in(grammar) {
         match event? {
             Event::Simple(simple) => fit &= fits(&simple, dialect),
-            Event::NextRange => {}
+            Event::NextRange => ranges = ranges.saturating_add(1),
         }
-        is_end = false;
     }
     if fit {
-        Ok(is_end)
+        Ok(ranges)
     } else {
         Err(RangeError::NumberTooLarge)
     }

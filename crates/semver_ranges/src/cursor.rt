@@ -2,7 +2,8 @@
 //!
 //! Nothing here allocates, and a call looks at each byte a fixed number of times.
 
-ghost use Rattle.std.specs.Prelude.{◌≡◌, ◌<◌, ◌++◌, true, false, length, codes};
+ghost use Rattle.std.specs.Prelude.{◌≡◌, ◌<◌, ◌++◌, ◌&&◌, not, true, false, length, codes};
+ghost use Rattle.semver_texts.specs.Texts.{is_empty};
 ghost use Rattle.semver_ranges.specs.CargoGrammar.{is_cargo};
 ghost use Rattle.semver_ranges.specs.Steps.Reading.{after_blanks, ends_range};
 ghost use Rattle.semver_ranges.specs.Steps.Items.{GivesItem, IsTermAt, TakesItem};
@@ -47,6 +48,14 @@ impl<'text> Cursor<'text> {
             rest: after_blanks(text, grammar),
             begins_range: true,
         }
+    }
+
+    /// Returns whether nothing is left.
+    #[inline(always)]
+    pub(crate) fn is_at_end(&self) -> bool
+        ensures { result ≡ (not self.now.begins_range && is_empty self.now.rest.now) }
+    {
+        !self.begins_range && self.rest.is_empty()
     }
 
     // Determined by: equation.

@@ -1,7 +1,7 @@
 //! The events of a range string, in plain terms: each term has one version, and the two sides of a
 //! hyphen range are terms of their own. Nothing here allocates.
 
-ghost use Rattle.std.specs.Prelude.{◌≡◌, ◌<◌, Some, [], Err, IfSome, List, Option, ℕ};
+ghost use Rattle.std.specs.Prelude.{◌≡◌, ◌<◌, Some, [], Err, IfSome, List, Option, ℕ, true};
 ghost use Rattle.semver_texts.specs.declared.grammar.Grammar.{Grammar as SomeGrammar};
 ghost use Rattle.semver_ranges.specs.RangeTree.{PartialTree, Simple as SimpleTree};
 ghost use Rattle.semver_ranges.specs.Steps.PartialViews.{IsPartialOf};
@@ -50,6 +50,18 @@ impl<'input> Events<'input> {
         Events {
             cursor: Cursor::new(text, grammar),
             upper: None,
+        }
+    }
+
+    /// Returns whether nothing is left.
+    #[inline(always)]
+    pub(crate) fn is_at_end(&self) -> bool
+        ensures { (d : SomeGrammar) (o : Option (List list.Event)) → HasLeft d self.now o
+            → result ≡ true → o ≡ Some [] }
+    {
+        match &self.upper {
+            None => self.cursor.is_at_end(),
+            Some(_) => false,
         }
     }
 

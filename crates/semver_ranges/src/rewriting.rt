@@ -1,6 +1,6 @@
 //! A range string as plain comparators: those of the sides of its terms.
 
-ghost use Rattle.std.specs.Prelude.{◌≡◌, ◌++◌, ◌^◌, ◌-◌, [], List, Option, Some, IfOk, map, true};
+ghost use Rattle.std.specs.Prelude.{◌≡◌, ◌++◌, ◌^◌, ◌-◌, ◌∷◌, [], List, Some, IfOk, map, true};
 ghost use Rattle.std.specs.List.{list_all};
 ghost use Rattle.semver_texts.specs.Texts.{Text};
 ghost use Rattle.semver_texts.specs.Versions.{numbers};
@@ -12,19 +12,19 @@ ghost use Rattle.semver_ranges.specs.Sides.{may_rise, side_value, term_fits};
 ghost use Rattle.semver_ranges.specs.TermComparators.{lower_comparator, pre_of, printed_term};
 ghost use Rattle.semver_ranges.specs.TermComparators.{upper_comparator};
 ghost use Rattle.semver_ranges.specs.Steps.Answers.{IsAnswerBy, ranges_by};
-ghost use Rattle.semver_ranges.specs.Steps.Checked.{HasEvents};
-ghost use Rattle.semver_ranges.specs.Steps.CursorViews.{IsBegunIn, IsSimpleOf};
+ghost use Rattle.semver_ranges.specs.Steps.CursorViews.{HasLeft, IsBegunIn, IsSimpleOf};
 ghost use Rattle.semver_ranges.specs.Steps.PartialViews.{PartsPass, of_numbers, version_of};
 ghost use Rattle.semver_ranges.specs.Steps.RangeEvents.{Event as SomeEvent, event_fits, events};
+ghost use Rattle.semver_ranges.specs.Steps.RangeEvents.{one_simple};
 
-use crate::checked::Checked;
+use crate::checked::{first_term, survey};
 use crate::dialect::Dialect;
 use crate::events::{Event, Events};
 use crate::grammar::Simple;
 use crate::partial::{Partial, lowest_pre_release};
 use crate::range::{Comparator, Identifier, Op, Range};
 use crate::range_set::{RangeError, RangeSet};
-use crate::table::{Side, is_past, sides};
+use crate::table::{Side, fits, is_past, sides};
 use std::alloc::{AllocError, Global};
 
 /// How the bounds of intervals are written.
@@ -54,8 +54,17 @@ pub fn rewrite(
         → IsAnswerBy (events (grammar_of dialect) t) (term_fits dialect)
         (printed_term style dialect) (mode_of dialect) result }
 {
-    let checked = Checked::new(begin, dialect)?;
-    match ranges(alloc, checked, dialect, style) {
+    let Some((first, rest)) = first_term(begin, dialect.grammar()) else {
+        return Err(RangeError::NotARange);
+    };
+    let fit = fits(&first, dialect);
+    let made = if fit & rest.is_at_end() {
+        one_range(alloc, &first, dialect, style)
+    } else {
+        let count = survey(rest, fit, dialect)?;
+        all_ranges(alloc, begin, count, dialect, style)
+    };
+    match made {
         Ok(ranges) => Ok(RangeSet {
             ranges,
             compat: dialect.mode(),
@@ -64,26 +73,54 @@ pub fn rewrite(
     }
 }
 
-/// Returns the ranges of a string that was checked. `Err` means out of memory.
+/// Returns the range of the only term of a string. `Err` means out of memory.
 #[inline(always)]
-fn ranges(
+fn one_range(
     alloc: Global,
-    mut checked: Checked<'_>,
+    simple: &Simple<'_>,
     dialect: Dialect,
     style: Style,
 ) -> Result<Vec<Range>, AllocError>
-    requires { (es : List SomeEvent) × HasEvents (grammar_of dialect) checked es
+    requires { (s : SimpleTree) × IsSimpleOf s simple.now }
+    ensures { IfOk result (λ ranges. (s : SimpleTree) → IsSimpleOf s simple.now
+        → term_fits dialect s ≡ true → map range_of ranges.items
+        ≡ ranges_by (printed_term style dialect) (mode_of dialect) [] (one_simple s ∷ [])) }
+{
+    let mut comparator_set = Vec::with_capacity(alloc, 2)?;
+    push(alloc, simple, dialect, style, &mut comparator_set)?;
+    let mut ranges = Vec::with_capacity(alloc, 1)?;
+    ranges.push(Range {
+        comparator_set,
+        compat: dialect.mode(),
+    })?;
+    Ok(ranges)
+}
+
+/// Returns the ranges of a string that was checked, and has `count` of them. `Err` means out of
+/// memory.
+#[inline(always)]
+fn all_ranges(
+    alloc: Global,
+    mut events: Events<'_>,
+    count: usize,
+    dialect: Dialect,
+    style: Style,
+) -> Result<Vec<Range>, AllocError>
+    requires { (es : List SomeEvent) × HasLeft (grammar_of dialect) events (Some es)
         × (list_all (event_fits (term_fits dialect)) es ≡ true) }
     ensures { IfOk result (λ ranges. (es : List SomeEvent)
-        → HasEvents (grammar_of dialect) checked.entry es
+        → HasLeft (grammar_of dialect) events.entry (Some es)
         → list_all (event_fits (term_fits dialect)) es ≡ true → map range_of ranges.items
         ≡ ranges_by (printed_term style dialect) (mode_of dialect) [] es) }
 {
     let grammar = dialect.grammar();
     let compat = dialect.mode();
-    let mut ranges = Vec::with_capacity(alloc, 1)?;
+    let mut ranges = Vec::with_capacity(alloc, count)?;
     let mut comparator_set = Vec::with_capacity(alloc, 4)?;
-    while let Some(event) = checked.next(grammar) {
+    while let Some(event) = events.next_in(grammar) {
+        let Ok(event) = event else {
+            return Ok(ranges);
+        };
         match event {
             Event::Simple(simple) => push(alloc, &simple, dialect, style, &mut comparator_set)?,
             Event::NextRange => {

@@ -18,7 +18,7 @@ use Rattle.semver_ranges.specs.Sides.{term_fits}
 use Rattle.semver_ranges.specs.Steps.Answers.{IsInvalidBy}
 use Rattle.semver_ranges.specs.Steps.FoundItems.{flag}
 use Rattle.semver_ranges.specs.Steps.CursorViews.{HasLeft, IsEventOf, IsSimpleOf, size_left}
-use Rattle.semver_ranges.specs.Steps.RangeEvents.{Event, event_fits, one_simple}
+use Rattle.semver_ranges.specs.Steps.RangeEvents.{Event, event_fits, one_simple, put}
 
 -- the only term, if it wasn't returned yet, and then the events that the cursor has left
 abbrev pub HasOnly : Grammar → Option found.Simple → Events → List Event → Type 0
@@ -43,17 +43,20 @@ IsCheckedBy dialect o (Ok checked) = (es : List Event) × (o ≡ Some es)
     × HasEvents (grammar_of dialect) checked es
 IsCheckedBy dialect o (Err e) = IsInvalidBy o (term_fits dialect) e
 
--- the rest of a text was checked, where `fit` says whether the terms before it fit: whether nothing
--- was left, and nothing is left after it; or the error
-abbrev pub IsSurveyed : Dialect → Bool → Option (List Event) → Result Bool RangeError → Events
-    → Type 0
-IsSurveyed dialect fit o (Ok is_end) after = (es : List Event) × (o ≡ Some es)
-    × ((fit && list_all (event_fits (term_fits dialect)) es) ≡ true) × (is_end ≡ true → es ≡ [])
-    × HasLeft (grammar_of dialect) after (Some [])
-IsSurveyed dialect fit o (Err NotARange) after = o ≡ None
-IsSurveyed dialect fit o (Err NumberTooLarge) after = (es : List Event) × (o ≡ Some es)
+-- the first term, and the events after it; `None` if the text isn't in the grammar
+abbrev pub FindsFirst : Grammar → Option (List Event) → Option (found.Simple × Events) → Type 0
+FindsFirst d o None = o ≡ None
+FindsFirst d o (Some first) = (s : Simple) × (left : Option (List Event)) × IsSimpleOf s first.0
+    × HasLeft d first.1 left × (o ≡ put (one_simple s) left)
+
+-- the rest of a text was checked, where `fit` says whether the terms before it fit
+abbrev pub IsSurveyed : Dialect → Bool → Option (List Event) → Result ℕ RangeError → Type 0
+IsSurveyed dialect fit o (Ok count) = (es : List Event) × (o ≡ Some es)
+    × ((fit && list_all (event_fits (term_fits dialect)) es) ≡ true)
+IsSurveyed dialect fit o (Err NotARange) = o ≡ None
+IsSurveyed dialect fit o (Err NumberTooLarge) = (es : List Event) × (o ≡ Some es)
     × ((fit && list_all (event_fits (term_fits dialect)) es) ≡ false)
-IsSurveyed dialect fit o (Err OutOfMemory) after = ⊥
+IsSurveyed dialect fit o (Err OutOfMemory) = ⊥
 
 -- an upper bound on the number of events that are left
 abbrev pub size_after : Checked → ℕ
