@@ -331,8 +331,10 @@ export declare function replaceVersion(range: string, written: TermVersion<Diale
  *   raised by one, and what follows that is 0. A pre-release `0` is kept.
  * - `>=` and `>` are kept.
  *
- * If the range has `||` and would lose a version, then the raised terms are added as one more alternative instead.
- * Everything else stays as it is.
+ * If the range has `||`, the raised terms are added as one more alternative instead, so that no version is lost. They
+ * are raised in place only if all versions that change are upper bounds: those of `<` and `<=`, and right versions of
+ * hyphen ranges. An upper bound with a pre-release isn't raised in place either, except for `<` with the pre-release
+ * `0`. Everything else stays as it is.
  *
  * Throws a `SemverError` if the version is invalid, or else if the range is, and an `UpgradeError` if the raised range
  * wouldn't contain the version, such as `1.x` for 2.0.0-rc.1.

@@ -43,8 +43,11 @@ def upgrade(
       says which number is raised by one, and what follows that is 0. A pre-release `0` is kept.
     - `>=` and `>` are kept.
 
-    If the range has `||` and would lose a version, then the raised terms are added as one more
-    alternative instead. Everything else stays as it is.
+    If the range has `||`, the raised terms are added as one more alternative instead, so that no
+    version is lost. They are raised in place only if all versions that change are upper bounds:
+    those of `<` and `<=`, and right versions of hyphen ranges. An upper bound with a pre-release
+    isn't raised in place either, except for `<` with the pre-release `0`. Everything else stays as
+    it is.
 
     Raises `VersionError` if the version is invalid. Otherwise raises `RangeError` if the range is
     invalid, and `UpgradeError` if the raised range wouldn't contain the version, such as `1.x` for

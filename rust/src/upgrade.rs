@@ -16,6 +16,7 @@ use alloc::string::String;
 /// assert_eq!(npm("v1.x", "2.3.4")?.as_deref(), Some("v2.x"));
 /// assert_eq!(npm("1.2 - 1.9", "2.3.4")?.as_deref(), Some("1.2 - 2.3"));
 /// assert_eq!(npm("~1.2 || ^2.0.0", "3.1.0")?.as_deref(), Some("~1.2 || ^2.0.0 || ^3.1.0"));
+/// assert_eq!(npm("^0.5 || >=1.2 <2", "2.3.4")?.as_deref(), Some("^0.5 || >=1.2 <3"));
 ///
 /// let cargo = |range, version| upgrade(range, version, Dialect::Cargo);
 /// assert_eq!(cargo(">= 1.2 , < 2.0.0", "2.3.0")?.as_deref(), Some(">= 1.2 , < 3.0.0"));
@@ -36,8 +37,10 @@ use alloc::string::String;
 ///   says which number is raised by one, and what follows that is 0. A pre-release `0` is kept.
 /// - `>=` and `>` are kept.
 ///
-/// If the range has `||` and would lose a version, then the raised terms are added as one more
-/// alternative instead. Everything else stays as it is.
+/// If the range has `||`, the raised terms are added as one more alternative instead, so that no
+/// version is lost. They are raised in place only if all versions that change are upper bounds: those
+/// of `<` and `<=`, and right versions of hyphen ranges. An upper bound with a pre-release isn't
+/// raised in place either, except for `<` with the pre-release `0`. Everything else stays as it is.
 ///
 /// # Errors
 ///

@@ -1,5 +1,5 @@
--- what a set contains, and which versions satisfy the range
-pub mod Sets
+-- which versions satisfy a range
+pub mod Satisfied
 -- raising the last alternative
 pub mod RaisedTerms
 pub mod RaisedResults

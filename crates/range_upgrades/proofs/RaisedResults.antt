@@ -3,11 +3,12 @@ use Rattle.std.proofs.Common.{Bool, ℕ, [], ◌∷◌, true, false, not, refl, 
 use Rattle.std.specs.Prelude.{IfSome, is_some, Option, Some, None, List, slice_range}
 use Rattle.semver_texts.specs.Texts.{Text, is_empty}
 use Rattle.semver_versions.specs.VersionRefs.{VersionRefValue, version_of}
+use Rattle.tool_ranges.specs.Widening.{IsWidened}
 use Rattle.tool_ranges.specs.declared.meaning.Rules.{Rules}
 use Rattle.range_terms.specs.WrittenTerms.{WrittenTerm}
 use Rattle.range_upgrades.specs.Alternatives.{HasBars, last_of}
 use Rattle.range_upgrades.specs.RaisedRanges.{IsExtended, IsInPlace, IsOneMore, IsOnlyRaised, IsRaised, IsRaisedRange, IsReplaced, IsUpgraded}
-use Rattle.range_upgrades.specs.Upgrades.{IsSatisfied, LosesNone}
+use Rattle.range_upgrades.specs.Upgrades.{IsSatisfied}
 use Rattle.range_upgrades.specs.declared.alternatives.Alternative.{Alternative}
 use Rattle.range_upgrades.specs.declared.raised_versions.Form.{Form}
 use Rattle.range_upgrades.specs.declared.raised_versions.Form.TheVariants.{AsWritten, InFull}
@@ -101,10 +102,10 @@ module _ (m : Rules) (form : Form) (t : Text) (v : VersionRefValue) (terms : Lis
     not_satisfied not s (inr p) = not (subst (λ r. IsSatisfied m r (version_of v)) (only p.1.replaced p.1.in_place) p.1.satisfied)
 
     -- the last alternative can't be raised in place
-    module _ (bars : HasBars t) (loses : ¬ (LosesNone m t new)) where
+    module _ (bars : HasBars t) (narrows : ¬ (IsWidened m.dialect t new)) where
       added : (s : Text) → IsRaisedRange m form t v terms s
-          → IsOneMore m.dialect form t v terms s × IsSatisfied m s (version_of v) × LosesNone m t s
-      added s (inl p) = absurd (loses (subst (LosesNone m t) (only s p.0) (p.2 bars)))
+          → IsOneMore m.dialect form t v terms s × IsSatisfied m s (version_of v) × IsWidened m.dialect t s
+      added s (inl p) = absurd (narrows (subst (IsWidened m.dialect t) (only s p.0) (p.2 bars)))
       added s (inr p) = (p.0, p.2, p.3)
 
       pub no_more : ((s : Text) → ¬ (IsOneMore m.dialect form t v terms s)) → (s : Text) → ¬ (IsRaisedRange m form t v terms s)
@@ -115,8 +116,8 @@ module _ (m : Rules) (form : Form) (t : Text) (v : VersionRefValue) (terms : Lis
         pub more_not_satisfied : ¬ (IsSatisfied m more (version_of v)) → (s : Text) → ¬ (IsRaisedRange m form t v terms s)
         more_not_satisfied not s is = not (subst (λ r. IsSatisfied m r (version_of v)) (only_more s (added s is).0) (added s is).1)
 
-        pub more_loses : ¬ (LosesNone m t more) → (s : Text) → ¬ (IsRaisedRange m form t v terms s)
-        more_loses not s is = not (subst (LosesNone m t) (only_more s (added s is).0) (added s is).2)
+        pub more_narrows : ¬ (IsWidened m.dialect t more) → (s : Text) → ¬ (IsRaisedRange m form t v terms s)
+        more_narrows not s is = not (subst (IsWidened m.dialect t) (only_more s (added s is).0) (added s is).2)
 
 -- ---- both forms
 
@@ -161,9 +162,9 @@ module _ (m : Rules) (t : Text) (v : VersionRefValue) (terms : List WrittenTerm)
   range_one : (form : Form) (a b : Text) → IsRaisedRange m form t v terms a → IsRaisedRange m form t v terms b → a ≡ b
   range_one form a b (inl p) (inl q) = in_place_one form a b p.0 q.0
   range_one form a b (inl p) (inr q) =
-      absurd (q.1.loses (subst (LosesNone m t) (in_place_one form a q.1.replaced p.0 q.1.in_place) (p.2 q.1.bars)))
+      absurd (q.1.narrows (subst (IsWidened m.dialect t) (in_place_one form a q.1.replaced p.0 q.1.in_place) (p.2 q.1.bars)))
   range_one form a b (inr p) (inl q) =
-      absurd (p.1.loses (subst (LosesNone m t) (in_place_one form b p.1.replaced q.0 p.1.in_place) (q.2 p.1.bars)))
+      absurd (p.1.narrows (subst (IsWidened m.dialect t) (in_place_one form b p.1.replaced q.0 p.1.in_place) (q.2 p.1.bars)))
   range_one form a b (inr p) (inr q) = one_more_one form a b p.0 q.0
 
   pub upgraded_one : (a b : Text) → IsUpgraded m t v terms a → IsUpgraded m t v terms b → a ≡ b

@@ -8,6 +8,7 @@ use Rattle.semver_versions.specs.VersionRefs.{VersionRefValue, version_of}
 use Rattle.version_sets.specs.declared.rules.PreReleases.TheVariants.{Included}
 use Rattle.tool_ranges.specs.Dialects.{HasSetAs}
 use Rattle.semver_ranges.specs.declared.dialect.Dialect.{Dialect}
+use Rattle.tool_ranges.specs.Widening.{IsWidened}
 use Rattle.tool_ranges.specs.declared.meaning.Rules.{Rules}
 use Rattle.semver_ranges.specs.declared.operator.Operator.{Operator}
 use Rattle.semver_ranges.specs.declared.operator.Operator.TheVariants.{Greater, GreaterOrEqual}
@@ -15,7 +16,7 @@ use Rattle.range_terms.specs.WrittenTerms.{WrittenTerm, WrittenVersion}
 use Rattle.range_terms.specs.WrittenTexts.{version_text}
 use Rattle.range_upgrades.specs.Alternatives.{HasBars, last_of}
 use Rattle.range_upgrades.specs.RaisedVersions.{HasRaised, raised_version}
-use Rattle.range_upgrades.specs.Upgrades.{HasVersionFrom, IsSatisfied, LosesNone}
+use Rattle.range_upgrades.specs.Upgrades.{HasVersionFrom, IsSatisfied}
 use Rattle.range_upgrades.specs.declared.alternatives.Alternative.{Alternative}
 use Rattle.range_upgrades.specs.declared.raised_versions.Form.{Form}
 use Rattle.range_upgrades.specs.declared.raised_versions.Form.TheVariants.{AsWritten, InFull}
@@ -125,24 +126,24 @@ module _ (d : Dialect) (form : Form) (t : Text) (v : VersionRefValue) (terms : L
     pub raises : IsRaised d form t v last terms raised
     pub extends : IsExtended t last raised s
 
--- a version is lost if the last alternative is raised in place, although the range has `||`
+-- the range has `||`, and isn't widened if its last alternative is raised in place
 pub record NeedsOneMore (m : Rules) (form : Form) (t : Text) (v : VersionRefValue)
     (terms : List WrittenTerm) : Type 0 where
   pub bars : HasBars t
   pub replaced : Text
   pub in_place : IsInPlace m.dialect form t v terms replaced
   pub satisfied : IsSatisfied m replaced (version_of v)
-  pub loses : ¬ (LosesNone m t replaced)
+  pub narrows : ¬ (IsWidened m.dialect t replaced)
 
 -- the string is the range of these terms, raised to a newer version, which it contains: the last
--- alternative is raised in place, or, if that would lose a version, added
+-- alternative is raised in place, or, if the range has `||` and isn't widened then, added
 abbrev pub IsRaisedRange : Rules → Form → Text → VersionRefValue → List WrittenTerm → Text
     → Type 0
 IsRaisedRange m form t v terms s =
     (IsInPlace m.dialect form t v terms s × IsSatisfied m s (version_of v)
-    × (HasBars t → LosesNone m t s))
+    × (HasBars t → IsWidened m.dialect t s))
     ⊎ (IsOneMore m.dialect form t v terms s × NeedsOneMore m form t v terms
-    × IsSatisfied m s (version_of v) × LosesNone m t s)
+    × IsSatisfied m s (version_of v) × IsWidened m.dialect t s)
 
 -- the string is the range of these terms, raised to a newer version: each raised version has as
 -- many components as before; but if no range contains the newer version then, and it is a

@@ -1,17 +1,16 @@
 -- Which versions a requirement has before and after it is raised.
 use Rattle.std.specs.Prelude.{◌≡◌, ◌≢◌, true}
 use Rattle.std.specs.declared.cmp.Ordering.TheVariants.{Less}
-use Rattle.semver_texts.specs.Digits.{digits_in}
 use Rattle.semver_texts.specs.Precedence.{precedence}
 use Rattle.semver_texts.specs.Texts.{Text}
 use Rattle.semver_texts.specs.ToolVersions.{SpellsIn}
 use Rattle.semver_texts.specs.Versions.{PlainVersion, VersionValue}
 use Rattle.semver_versions.specs.VersionRefs.{IsVersionRefIn, VersionRefValue}
 use Rattle.semver_ranges.specs.RangeTree.{SetTree}
-use Rattle.version_sets.specs.VersionSets.{Fits, SetValue}
+use Rattle.version_sets.specs.VersionSets.{Fits}
 use Rattle.tool_ranges.specs.Dialects.{HasSetAs, SpellsAs}
 use Rattle.semver_ranges.specs.DialectTable.{grammar_of}
-use Rattle.tool_ranges.specs.Meanings.{MeansAs, meant_as}
+use Rattle.tool_ranges.specs.Meanings.{meant_as}
 use Rattle.semver_ranges.specs.declared.dialect.Dialect.{Dialect}
 use Rattle.tool_ranges.specs.declared.meaning.Rules.{Rules}
 
@@ -34,12 +33,6 @@ HasVersionFromText m range version =
 abbrev pub LosesNone : Rules → Text → Text → Type 0
 LosesNone m old new =
     (w : VersionValue) → Fits w.plain → IsSatisfied m old w → IsSatisfied m new w
-
--- the string is a range, and the set contains the versions that satisfy it
-pub record IsSetOf (m : Rules) (range : Text) (set : SetValue) : Type 0 where
-  pub is_range : HasSetAs m.dialect range
-  pub meaning : MeansAs m range set
-  pub digits : set.digits ≡ digits_in (grammar_of m.dialect)
 
 -- the borrowed version was read from a string in the dialect
 abbrev pub IsReadIn : Dialect → VersionRefValue → Type 0

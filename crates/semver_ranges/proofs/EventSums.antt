@@ -49,13 +49,6 @@ pub fit_bars : (fits : Simple → Bool) (fit : Bool) (o : Option (List Event)) �
 fit_bars fits fit None = refl
 fit_bars fits fit (Some es) = refl
 
-pub fit_next : (d : Grammar) (fits : Simple → Bool) (whole : Option Bool) (fit : Bool) (o : Option (List Event)) (cursor : Events)
-    → whole ≡ fitted fits fit o → IsFirst d o event.NextRange cursor
-    → (left : Option (List Event)) × HasLeft d cursor left × (whole ≡ fitted fits fit left)
-fit_next d fits whole fit o cursor so_far first =
-    let (left, has, e) = first_bars d o cursor first in
-    (left, has, so_far ∙ ap (fitted fits fit) e ∙ fit_bars fits fit left)
-
 -- at the end of a text
 pub fit_end : (fits : Simple → Bool) (before fit : Bool) (o : Option (List Event)) → fitted fits before o ≡ fitted fits fit (Some [])
     → (es : List Event) × (o ≡ Some es) × ((before && list_all (event_fits fits) es) ≡ fit)

@@ -84,15 +84,6 @@ module _ (d : Grammar) where
   no_upper t None is = refl
   no_upper t (Some u) is = absurd is
 
-  -- a term that was read, without a right side
-  pub term_here : (t : Text) (term : written.RawTerm) (u : Text) → IsTermAt d t term u
-      → (x : FoundTerm) × IsTermOf d x term × (simple d t ≡ Some (simple_of x, u))
-  term_here t term u here = (
-    record { from = t; operator = term.operator; version = here.version; upper = None },
-    record { from = here.from; operator = refl; version = here.is; within = here.within; upper = rw here.upper tt },
-    here.simple,
-  )
-
   -- the view of an event in plain terms
   pub view_term : (g : Grammar) (n : ℕ) (x : Item) (term : written.RawTerm) (first : read.Simple) (upper : Option read.Simple)
       → IsItemOf d n x (Term term) → ((y : FoundTerm) → IsTermOf d y term → AreSides (simples_of g y) first upper)

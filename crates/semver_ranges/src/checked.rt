@@ -28,7 +28,7 @@ pub struct Checked<'text> {
 }
 
 impl<'text> Checked<'text> {
-    // Determined by: free, whether the only term is kept: ../../rust/tests/layers/stdin.
+    // Determined by: equation.
     /// Checks a range string, from its first event on.
     ///
     /// # Errors

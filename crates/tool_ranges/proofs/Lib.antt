@@ -20,6 +20,11 @@ mod MatchedEvents
 mod MatchedRanges
 mod MatchedMeanings
 mod SatisfiesErrors
+-- a range that is widened to another one
+mod WidenedTerms
+mod WidenedRanges
+mod WidenedEvents
+mod WidenedTexts
 -- the set of the versions that satisfy a text
 mod BuiltSets
 mod ReachedVersions

@@ -74,7 +74,7 @@ module _ (s : Simple) (v : PlainVersion) where
 
 -- ---- a term that was read
 module _ (d : Dialect) (s : Simple) (simple : read.Simple) (is : IsSimpleOf s simple) (fit : term_fits d s ≡ true) where
-  same_read : (stated_of simple.partial ≡ stated s.partial) × (version_of simple.partial ≡ zero_filled s.partial)
+  pub same_read : (stated_of simple.partial ≡ stated s.partial) × (version_of simple.partial ≡ zero_filled s.partial)
   same_read = is.1.1 (sym is.1.0 ∙ term_stated d s fit)
 
   pub of_tree : (says : Operator → List ℕ → PlainVersion → Bool)

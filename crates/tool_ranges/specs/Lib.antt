@@ -10,5 +10,6 @@ pub mod SpelledItems
 pub mod Meanings
 pub mod Satisfying
 pub mod AtOrAbove
+pub mod Widening
 pub mod VersionRanges
 pub mod Highest

@@ -5,6 +5,7 @@ pub mod Table
 pub mod Matching
 pub mod Building
 pub mod Reaching
+pub mod WidenedEvents
 pub mod NpmReading
 pub mod Printed
 pub mod SameRanges

@@ -18,7 +18,9 @@
 //   raised alternative has the same operators, blanks, separators and lower bounds, and each of its
 //   other versions is the old one, or has the same `v` and wildcards and as many components; but if
 //   the given version is a pre-release, `^1` and the like may get three numbers. If there is `||`,
-//   none of the versions that are looked at is lost. Raising that range again does nothing
+//   none of the versions that are looked at is lost. A random requirement with `||` has its last
+//   alternative raised in place if and only if each version that differs is an upper bound without a
+//   pre-release, except for `-0` after `<`. Raising that range again does nothing
 // - or that it can't be raised, which is only counted
 //
 // The other commands have to return the same as the first one.
@@ -256,7 +258,7 @@ function answered (lists) {
 // ---- how a result is written
 
 const quoted = (it) => it.replace(/[\\^$.*+?()[\]{}|/-]/g, '\\$&')
-const PRE = '(-[0-9A-Za-z.-]+)?'
+const PRE = '(?:-[0-9A-Za-z.-]+)?'
 
 // Whether a term means the same with three numbers: after `^`, after `~` with two numbers or more,
 // and in Cargo's dialect without an operator.
@@ -301,9 +303,21 @@ function isInStyle (one, result) {
   const terms = pieces.alternatives[pieces.alternatives.length - 1]
   const pattern = terms.map((it) => quoted(it.before) + patternOf(dialect, pre, it)).join('')
   const bars = pieces.bars[pieces.bars.length - 1]
-  const places = [quoted(before) + pattern + quoted(after)]
-  if (bars) places.push(quoted(before + last + bars) + pattern + quoted(after))
-  return places.some((it) => new RegExp(`^${it}$`).test(result))
+  const inPlace = new RegExp(`^${quoted(before) + pattern + quoted(after)}$`).exec(result)
+  if (!bars) return inPlace !== null
+  const added = new RegExp(`^${quoted(before + last + bars) + pattern + quoted(after)}$`).exec(result)
+  if (!inPlace && !added) return false
+  const [, ...versions] = inPlace ?? added
+  return staysInPlace(terms, versions) === (inPlace !== null)
+}
+
+// Whether the last alternative of a range with `||` is raised in place, if these are its versions
+// then: those that differ are upper bounds without a pre-release, except for `-0` after `<`.
+function staysInPlace (terms, versions) {
+  const mayBeRaised = ({ operator, version: { pre } }) =>
+    ['<', '<=', '-'].includes(operator) && (pre === '' || (pre === '-0' && operator === '<'))
+  return terms.filter((it) => !it.isLower)
+    .every((it, at) => versions[at] === text(it.version) || mayBeRaised(it))
 }
 
 // ---- the comparison

@@ -9,8 +9,8 @@ use crate::proved::semver_ranges::RangeError;
 use crate::proved::semver_versions::version::{VersionRef, read_ref_in};
 use crate::rattle_std::AllocError;
 use crate::proved::tool_ranges::at_or_above::has_at_or_above;
-use crate::proved::tool_ranges::meaning::{Rules, read, satisfies};
-use crate::proved::version_sets::VersionSet;
+use crate::proved::tool_ranges::meaning::{Rules, satisfies};
+use crate::proved::tool_ranges::widening::is_widened;
 
 /// Why a requirement can't be raised.
 #[derive(Clone, Copy, PartialEq, Eq, Debug)]
@@ -57,6 +57,7 @@ impl From<AllocError> for UpgradeError {
 /// npm      v1.x                2.3.4       v2.x
 /// npm      1.2 - 1.9           2.3.4       1.2 - 2.3
 /// npm      ~1.2 || ^2.0.0      3.1.0       ~1.2 || ^2.0.0 || ^3.1.0
+/// npm      ^0.5 || >=1.2 <2    2.3.4       ^0.5 || >=1.2 <3
 /// npm      ^1.2                2.0.0-rc.1  ^2.0.0-rc.1
 /// ```
 ///
@@ -73,14 +74,15 @@ impl From<AllocError> for UpgradeError {
 ///   says which number is raised by one, and what follows that is 0. A pre-release `0` is kept.
 /// - `>=` and `>` are kept.
 ///
-/// If the range has `||` and would lose a version, then the raised terms are added as one more
-/// alternative instead. Everything else stays as it is.
+/// If the range has `||`, the raised terms are added as one more alternative instead, so that no
+/// version is lost. They are raised in place only if all versions that change are upper bounds:
+/// those of `<` and `<=`, and right versions of hyphen ranges. An upper bound with a pre-release
+/// isn't raised in place either, except for `<` with the pre-release `0`. Everything else stays as
+/// it is.
 ///
-/// It reads the range and the raised range, and each term of the last alternative once more. If the
-/// range has no `||`, it allocates only the raised range. For a pre-release it may allocate two
-/// strings, one after the other, of which the second one has three numbers where they are needed.
-/// If the range has `||`, it also allocates the range with one more alternative, and the sets of
-/// the versions of these ranges.
+/// It takes linear time. It allocates only the raised range, and before that at most three strings
+/// that it doesn't return: the range with its last alternative raised in place, if it has `||`, and
+/// both forms again, if the version is a pre-release and needs three numbers.
 ///
 /// # Errors
 ///
@@ -130,9 +132,9 @@ fn raised_in_some_form(
     raised_range(range, version, meaning, Form::InFull)
 }
 
-/// Returns the range with its last alternative raised to a version: in place, or, if that would
-/// lose a version although the range has `||`, as one more alternative. It is `None` if the result
-/// wouldn't contain the version. `Err` means out of memory.
+/// Returns the range with its last alternative raised to a version: in place, or, if the range has
+/// `||` and isn't widened then, as one more alternative. It is `None` if the result wouldn't
+/// contain the version. `Err` means out of memory.
 fn raised_range(
     range: &str,
     version: &VersionRef<'_>,
@@ -152,9 +154,7 @@ fn raised_range(
     if !has_bars(range.as_bytes()) {
         return Ok(Some(in_place));
     }
-    let old = set_of(range, meaning)?;
-    let set = set_of(in_place.as_str(), meaning)?;
-    if keeps_all(&old, &set) {
+    if is_widened(range, in_place.as_str(), meaning.dialect) {
         return Ok(Some(in_place));
     }
     let longer = raised_as_one_more(range, &last, version, meaning.dialect, form)?;
@@ -164,8 +164,7 @@ fn raised_range(
     if !is_satisfied(longer.as_str(), version, meaning) {
         return Ok(None);
     }
-    let longer_set = set_of(longer.as_str(), meaning)?;
-    if keeps_all(&old, &longer_set) {
+    if is_widened(range, longer.as_str(), meaning.dialect) {
         return Ok(Some(longer));
     }
     Ok(None)
@@ -177,17 +176,4 @@ fn is_satisfied(range: &str, version: &VersionRef<'_>, meaning: Rules) -> bool {
         Ok(met) => met,
         Err(_) => false,
     }
-}
-
-/// Returns the set of the versions of a range. `Err` means out of memory.
-fn set_of(range: &str, meaning: Rules) -> Result<VersionSet, AllocError> {
-    match read(meaning, range) {
-        Ok(set) => Ok(set),
-        Err(_) => Err(AllocError),
-    }
-}
-
-/// Returns whether the second set contains every version that the first one does.
-fn keeps_all(old: &VersionSet, new: &VersionSet) -> bool {
-    matches!(old.is_subset(new), Ok(true))
 }

@@ -30,20 +30,17 @@ impl<'text> Checked<'text> {
     /// or a number that is raised for one of its bounds, is above the limit of the dialect.
     #[inline(always)]
     pub fn new(begin: Events<'text>, dialect: Dialect) -> Result<Checked<'text>, RangeError> {
-        let grammar = dialect.grammar();
-        let mut events = begin;
-        let Some(event) = events.next_in(grammar) else {
+        let Some((first, rest)) = first_term(begin, dialect.grammar()) else {
             return Err(RangeError::NotARange);
         };
-        let Event::Simple(first) = event? else {
-            return Err(RangeError::NotARange);
-        };
-        if survey(&mut events, fits(&first, dialect), dialect)? {
+        let fit = fits(&first, dialect);
+        if fit & rest.is_at_end() {
             return Ok(Checked {
                 only: Some(first),
-                events,
+                events: rest,
             });
         }
+        survey(rest, fit, dialect)?;
         Ok(Checked {
             only: None,
             events: begin,
@@ -64,22 +61,38 @@ impl<'text> Checked<'text> {
     }
 }
 
-/// Checks the rest of a range string, where `fit` says whether the terms before it fit. Returns
-/// whether there was nothing to check.
+/// Returns the first term of a range string, and the events after it. It returns `None` if the
+/// string isn't in the grammar.
 #[inline(always)]
-fn survey(events: &mut Events<'_>, fit: bool, dialect: Dialect) -> Result<bool, RangeError> {
+pub(crate) fn first_term<'text>(
+    begin: Events<'text>,
+    grammar: Grammar,
+) -> Option<(Simple<'text>, Events<'text>)> {
+    let mut rest = begin;
+    let Ok(event) = rest.next_in(grammar)? else {
+        return None;
+    };
+    match event {
+        Event::Simple(first) => Some((first, rest)),
+        Event::NextRange => None,
+    }
+}
+
+/// Checks the rest of a range string, where `fit` says whether the terms before it fit. Returns the
+/// number of ranges, for which a vector is allocated.
+#[inline(always)]
+pub(crate) fn survey(mut rest: Events<'_>, fit: bool, dialect: Dialect) -> Result<usize, RangeError> {
     let grammar = dialect.grammar();
     let mut fit = fit;
-    let mut is_end = true;
-    while let Some(event) = events.next_in(grammar) {
+    let mut ranges = 1usize;
+    while let Some(event) = rest.next_in(grammar) {
         match event? {
             Event::Simple(simple) => fit &= fits(&simple, dialect),
-            Event::NextRange => {}
+            Event::NextRange => ranges = ranges.saturating_add(1),
         }
-        is_end = false;
     }
     if fit {
-        Ok(is_end)
+        Ok(ranges)
     } else {
         Err(RangeError::NumberTooLarge)
     }

@@ -42,6 +42,12 @@ impl<'text> Cursor<'text> {
         }
     }
 
+    /// Returns whether nothing is left.
+    #[inline(always)]
+    pub(crate) fn is_at_end(&self) -> bool {
+        !self.begins_range && self.rest.is_empty()
+    }
+
     /// Returns the next term, or the event that a range is empty or that the next range begins, or
     /// an error if the string isn't in the grammar from there on. It returns `None` at the end, and
     /// after an error.

@@ -39,6 +39,15 @@ impl<'input> Events<'input> {
         }
     }
 
+    /// Returns whether nothing is left.
+    #[inline(always)]
+    pub(crate) fn is_at_end(&self) -> bool {
+        match &self.upper {
+            None => self.cursor.is_at_end(),
+            Some(_) => false,
+        }
+    }
+
     /// Returns the next event in a dialect, or an error if the string isn't in the grammar from
     /// there on. It returns `None` at the end, and after an error.
     #[inline(always)]

@@ -2,14 +2,14 @@
 //! A range string as plain comparators: those of the sides of its terms.
 
 use crate::rattle_std::prelude::*;
-use crate::proved::semver_ranges::checked::Checked;
+use crate::proved::semver_ranges::checked::{first_term, survey};
 use crate::proved::semver_ranges::dialect::Dialect;
 use crate::proved::semver_ranges::events::{Event, Events};
 use crate::proved::semver_ranges::grammar::Simple;
 use crate::proved::semver_ranges::partial::{Partial, lowest_pre_release};
 use crate::proved::semver_ranges::range::{Comparator, Identifier, Op, Range};
 use crate::proved::semver_ranges::range_set::{RangeError, RangeSet};
-use crate::proved::semver_ranges::table::{Side, is_past, sides};
+use crate::proved::semver_ranges::table::{Side, fits, is_past, sides};
 use crate::rattle_std::AllocError;
 
 /// How the bounds of intervals are written.
@@ -32,8 +32,17 @@ pub(crate) fn rewrite(
     dialect: Dialect,
     style: Style,
 ) -> Result<RangeSet, RangeError> {
-    let checked = Checked::new(begin, dialect)?;
-    match ranges(checked, dialect, style) {
+    let Some((first, rest)) = first_term(begin, dialect.grammar()) else {
+        return Err(RangeError::NotARange);
+    };
+    let fit = fits(&first, dialect);
+    let made = if fit & rest.is_at_end() {
+        one_range(&first, dialect, style)
+    } else {
+        let count = survey(rest, fit, dialect)?;
+        all_ranges(begin, count, dialect, style)
+    };
+    match made {
         Ok(ranges) => Ok(RangeSet {
             ranges,
             compat: dialect.mode(),
@@ -42,18 +51,40 @@ pub(crate) fn rewrite(
     }
 }
 
-/// Returns the ranges of a string that was checked. `Err` means out of memory.
+/// Returns the range of the only term of a string. `Err` means out of memory.
 #[inline(always)]
-fn ranges(
-    mut checked: Checked<'_>,
+fn one_range(
+    simple: &Simple<'_>,
+    dialect: Dialect,
+    style: Style,
+) -> Result<Vec<Range>, AllocError> {
+    let mut comparator_set = Vec::fallible_with_capacity(2)?;
+    push(simple, dialect, style, &mut comparator_set)?;
+    let mut ranges = Vec::fallible_with_capacity(1)?;
+    ranges.fallible_push(Range {
+        comparator_set,
+        compat: dialect.mode(),
+    })?;
+    Ok(ranges)
+}
+
+/// Returns the ranges of a string that was checked, and has `count` of them. `Err` means out of
+/// memory.
+#[inline(always)]
+fn all_ranges(
+    mut events: Events<'_>,
+    count: usize,
     dialect: Dialect,
     style: Style,
 ) -> Result<Vec<Range>, AllocError> {
     let grammar = dialect.grammar();
     let compat = dialect.mode();
-    let mut ranges = Vec::fallible_with_capacity(1)?;
+    let mut ranges = Vec::fallible_with_capacity(count)?;
     let mut comparator_set = Vec::fallible_with_capacity(4)?;
-    while let Some(event) = checked.next(grammar) {
+    while let Some(event) = events.next_in(grammar) {
+        let Ok(event) = event else {
+            return Ok(ranges);
+        };
         match event {
             Event::Simple(simple) => push(&simple, dialect, style, &mut comparator_set)?,
             Event::NextRange => {

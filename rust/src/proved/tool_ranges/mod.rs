@@ -17,3 +17,4 @@ pub mod rewriting;
 pub mod satisfying;
 mod sets;
 pub mod version_range;
+pub mod widening;

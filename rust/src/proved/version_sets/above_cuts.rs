@@ -3,13 +3,13 @@
 
 use crate::rattle_std::prelude::*;
 use crate::proved::version_sets::cut::Cut;
-use crate::proved::semver_ranges::table::Side;
 use crate::proved::version_sets::pre_release_end::PreReleaseEnd;
 use crate::proved::version_sets::release::{Release, next_numbers};
 use crate::proved::version_sets::span_end::SpanEnd;
 use crate::proved::version_sets::successor::Successor;
 use crate::proved::semver_ranges::comparing::InRanges;
 use crate::proved::semver_ranges::partial::Place;
+use crate::proved::semver_ranges::table::Side;
 use crate::proved::semver_texts::decimals::number_of_digits;
 use crate::proved::semver_texts::dotted::{of_parts, text_of_parts};
 use crate::proved::semver_texts::grammar::Digits;

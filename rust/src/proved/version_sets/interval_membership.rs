@@ -3,9 +3,9 @@
 
 use crate::rattle_std::prelude::*;
 use crate::proved::version_sets::cut::{Cut, Interval};
-use crate::proved::semver_ranges::table::Side;
 use crate::proved::semver_ranges::comparing::InRanges;
 use crate::proved::semver_ranges::partial::Place;
+use crate::proved::semver_ranges::table::Side;
 use crate::proved::semver_texts::grammar::Digits;
 use crate::proved::semver_texts::identifiers::{ByDigits, Joined};
 use crate::proved::semver_texts::precedence::compare;

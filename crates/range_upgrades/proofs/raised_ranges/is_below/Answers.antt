@@ -1,7 +1,7 @@
 use Rattle.std.proofs.Common.{◌≡◌, Bool, Err, true, false, not, ap, refl, sym, ◌∙◌, true≢false}
 use Rattle.version_sets.specs.declared.rules.PreReleases.TheVariants.{Included}
 use Rattle.tool_ranges.specs.declared.meaning.Rules.{Rules}
-use Rattle.range_upgrades.proofs.Sets.{no_set, range_has}
+use Rattle.range_upgrades.proofs.Satisfied.{no_set, range_has}
 use Rattle.range_upgrades.proofs.raised_ranges.is_below.Goals as goal
 
 pub returns-in-Ok : goal.returns-in-Ok

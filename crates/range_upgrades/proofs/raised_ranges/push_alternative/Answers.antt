@@ -3,7 +3,7 @@ use Rattle.range_terms.specs.WrittenTerms.{WrittenVersion, term_value, terms_in,
 use Rattle.range_terms.specs.WrittenTexts.{version_text}
 use Rattle.range_upgrades.specs.RaisedRanges.{IsPart, last_version}
 use Rattle.range_upgrades.specs.RaisedVersions.{HasRaised, raised_version}
-use Rattle.range_upgrades.proofs.Sets.{true_not_false}
+use Rattle.range_upgrades.proofs.Satisfied.{true_not_false}
 use Rattle.range_upgrades.proofs.RaisedTerms.{Goes, goes_first, goes_last, goes_on, goes_past, none_last, only_last, stops}
 use Rattle.range_upgrades.proofs.raised_ranges.push_alternative.Goals as goal
 

@@ -1,5 +1,5 @@
 use Rattle.std.proofs.Common.{Err, ap}
-use Rattle.range_upgrades.proofs.Sets.{no_set, range_met}
+use Rattle.range_upgrades.proofs.Satisfied.{no_set, range_met}
 use Rattle.range_upgrades.proofs.upgrade.is_satisfied.Goals as goal
 
 pub returns-in-Ok : goal.returns-in-Ok

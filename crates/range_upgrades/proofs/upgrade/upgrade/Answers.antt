@@ -5,7 +5,7 @@ use Rattle.semver_ranges.specs.DialectTable.{grammar_of}
 use Rattle.range_upgrades.specs.Upgrades.{HasVersionFrom}
 use Rattle.range_upgrades.specs.declared.upgrade.UpgradeError.TheVariants.{CannotUpgrade, InvalidRange, OutOfMemory}
 use Rattle.range_upgrades.proofs.Results.{Clauses, IsValid, clauses, err_is, invalid_version, read_fits, unread, valid_range}
-use Rattle.range_upgrades.proofs.Sets.{range_has, true_not_false}
+use Rattle.range_upgrades.proofs.Satisfied.{range_has, true_not_false}
 use Rattle.range_upgrades.proofs.upgrade.upgrade.Goals as goal
 
 pub returns-in_default : goal.returns-in_default

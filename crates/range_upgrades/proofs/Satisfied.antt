@@ -1,21 +1,23 @@
--- From what a set contains to which versions satisfy the range.
+-- From what a call says of a tree to which versions satisfy the range.
 use Rattle.std.proofs.Common.{◌≡◌, ◌≢◌, ◌∙◌, ap, refl, sym, subst, Bool, true, false, true≢false}
 use Rattle.std.specs.Prelude.{◌↔◌, Err}
 use Rattle.semver_texts.specs.Digits.{digits_in, plain_by, version_by}
 use Rattle.semver_texts.specs.Texts.{Text}
-use Rattle.semver_texts.specs.Versions.{PlainVersion, VersionValue, without_build}
+use Rattle.semver_texts.specs.Versions.{PlainVersion, VersionValue}
 use Rattle.semver_versions.specs.VersionRefs.{VersionRefValue, kept_version_of, version_of}
 use Rattle.tool_ranges.specs.AtOrAbove.{HasAtOrAbove}
-use Rattle.tool_ranges.specs.Meanings.{meant_as}
-use Rattle.version_sets.specs.VersionSets.{Fits, IsIn, SetValue}
+use Rattle.tool_ranges.specs.Meanings.{meant_as, meant_by}
+use Rattle.version_sets.specs.VersionSets.{Fits}
+use Rattle.version_sets.specs.declared.rules.PreReleases.{PreReleases}
 use Rattle.semver_ranges.specs.declared.range_set.RangeError.{RangeError}
 use Rattle.semver_ranges.specs.declared.range_set.RangeError.TheVariants.{NotARange, NumberTooLarge, OutOfMemory}
 use Rattle.semver_ranges.specs.RangeTree.{SetTree}
 use Rattle.tool_ranges.specs.Dialects.{HasSetAs, RefusesAs, SpellsAs, fits_as}
 use Rattle.semver_ranges.specs.DialectTable.{grammar_of}
 use Rattle.semver_ranges.specs.declared.dialect.Dialect.{Dialect}
+use Rattle.tool_ranges.specs.Widening.{IsWidened}
 use Rattle.tool_ranges.specs.declared.meaning.Rules.{Rules}
-use Rattle.range_upgrades.specs.Upgrades.{HasVersionFrom, IsReadIn, IsSatisfied, IsSetOf, LosesNone}
+use Rattle.range_upgrades.specs.Upgrades.{HasVersionFrom, IsReadIn, IsSatisfied, LosesNone}
 
 -- a borrowed version reads identifiers of digits as its dialect does
 pub digits_of : (d : Dialect) (o : VersionRefValue) → IsReadIn d o → o.digits ≡ digits_in (grammar_of d)
@@ -57,20 +59,6 @@ module _ (same : HaveOneTree) (m : Rules) (t : Text) (o : VersionRefValue) (read
         λ some. own ∙ sym (some.1 is.0 is.1),
       )
 
-module _ (m : Rules) (t : Text) (set : SetValue) (is : IsSetOf m t set) where
-  -- a version is in the set if and only if it satisfies the range
-  pub in_set : (w : VersionValue) → Fits w.plain → IsSatisfied m t w → IsIn w.plain set
-  in_set w fits (range, met) =
-      (fits, is.meaning range.0 w range.1 fits ∙ sym (met range.0 range.1))
-
-  pub from_set : (w : VersionValue) → IsIn w.plain set → IsSatisfied m t w
-  from_set w (fits, found) = (is.is_range, λ tree spelled. sym found ∙ is.meaning tree w spelled fits)
-
-pub none_lost : (m : Rules) (old new : Text) (a b : SetValue) → IsSetOf m old a → IsSetOf m new b → ((v : PlainVersion) → IsIn v a → IsIn v b)
-    → LosesNone m old new
-none_lost m old new a b of_old of_new keeps = λ w fits met.
-    from_set m new b of_new w (keeps w.plain (in_set m old a of_old w fits met))
-
 -- a string that couldn't be read, although there was enough memory, has no set
 pub no_set : {A : Type 0} → HaveOneTree
     → (d : Dialect) (t : Text) (e : RangeError) → RefusesAs {A = A} d t (Err e) → e ≢ OutOfMemory → ¬ (HasSetAs d t)
@@ -83,8 +71,12 @@ no_set same d t OutOfMemory refused enough set = enough refl
 pub true_not_false : true ≡ false → ⊥
 true_not_false = true≢false
 
--- if no version is lost, then the new set contains each version of the old one
-pub keeps_none : (m : Rules) (old new : Text) (a b : SetValue) → IsSetOf m old a → IsSetOf m new b → LosesNone m old new
-    → (v : PlainVersion) → IsIn v a → IsIn v b
-keeps_none m old new a b of_old of_new keeps v found =
-    in_set m new b of_new (without_build v) found.0 (keeps (without_build v) found.0 (from_set m old a of_old (without_build v) found))
+-- no version is lost if each one that satisfies a tree of a range satisfies those of the range that it is widened to
+pub none_lost : (m : Rules) (old new : Text) → IsWidened m.dialect old new
+    → ((rule : PreReleases) (tree other : SetTree) (w : VersionValue) → SpellsAs m.dialect tree old → SpellsAs m.dialect other new
+    → Fits w.plain → meant_by m.dialect rule tree w ≡ true → meant_by m.dialect rule other w ≡ true)
+    → LosesNone m old new
+none_lost m old new is keeps = λ w fits met. (
+  (is.new_tree, is.new_spelled, is.new_fits),
+  λ other spelled. sym (keeps m.pre_releases met.0.0 other w met.0.1 spelled fits (sym (met.1 met.0.0 met.0.1))),
+)
