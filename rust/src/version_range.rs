@@ -5,10 +5,9 @@ use crate::proved::tool_ranges::highest::Extreme;
 use crate::proved::tool_ranges::satisfying;
 use crate::proved::requirements::requirement::requirement;
 use crate::proved::tool_ranges::rewriting::rewrite;
-use crate::proved::version_sets::{Combination, Release};
+use crate::proved::version_sets::Combination;
 use crate::{AsVersion, Dialect, Error, ErrorKind, RangeSet, Rules, Version, VersionRange};
 use alloc::string::String;
-use core::hash::{Hash, Hasher};
 use core::ops::{BitAnd, BitOr, Sub};
 
 /// Returns whether a version satisfies a range. Both are read by the same rules: in a [`Dialect`],
@@ -297,18 +296,6 @@ impl VersionRange {
     #[must_use]
     pub fn to_requirement(&self) -> Option<String> {
         requirement(self).unwrap_or_else(|_| out_of_memory())
-    }
-}
-
-impl Hash for VersionRange {
-    /// Hashes the rules, the boundaries of releases, and the three numbers of each boundary of
-    /// pre-releases. Equal ranges have the same boundaries.
-    fn hash<H: Hasher>(&self, state: &mut H) {
-        self.rules().hash(state);
-        self.versions().releases.hash(state);
-        for boundary in &self.versions().pre_releases {
-            Release::from_version(&boundary.version).hash(state);
-        }
     }
 }
 

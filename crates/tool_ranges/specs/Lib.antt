@@ -12,4 +12,5 @@ pub mod Satisfying
 pub mod AtOrAbove
 pub mod Widening
 pub mod VersionRanges
+pub mod HashedRanges
 pub mod Highest

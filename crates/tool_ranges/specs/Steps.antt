@@ -9,3 +9,4 @@ pub mod WidenedEvents
 pub mod NpmReading
 pub mod Printed
 pub mod SameRanges
+pub mod HashedRanges

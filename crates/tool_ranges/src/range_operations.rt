@@ -8,6 +8,7 @@ ghost use Rattle.version_sets.specs.VersionSets.{IsIn, contains};
 
 use crate::version_range::VersionRange;
 use std::alloc::Global;
+use std::hash::{Hash, Hasher};
 use version_sets::{Combination, OperationError};
 
 impl VersionRange {
@@ -126,4 +127,21 @@ impl Eq for VersionRange {
     ghost use Rattle.tool_ranges.specs.Steps.SameRanges.{ranges_equiv};
 
     ghost laws = { ranges_equiv };
+}
+
+impl Hash for VersionRange {
+    ghost use Rattle.tool_ranges.specs.HashedRanges.{hashed_range};
+    ghost use Rattle.tool_ranges.specs.Steps.HashedRanges.{same_ranges_hash_alike};
+
+    ghost hash_input = { hashed_range };
+
+    ghost respects_eq = { same_ranges_hash_alike };
+
+    /// Hashes the rules, the boundaries of the releases, and the three numbers of each boundary of
+    /// the pre-releases.
+    fn hash<H: Hasher>(&self, state: &mut H) {
+        self.meaning.dialect.number().hash(state);
+        self.meaning.pre_releases.number().hash(state);
+        self.versions.hash(state);
+    }
 }

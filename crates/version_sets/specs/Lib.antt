@@ -2,6 +2,7 @@
 pub mod Releases
 pub mod Boundaries
 pub mod VersionSets
+pub mod HashedSets
 pub mod AtOrAbove
 -- two sets that are combined or compared
 pub mod Combinations

@@ -12,6 +12,7 @@ pub mod Sweeps
 pub mod SweepViews
 pub mod Combined
 pub mod SameSets
+pub mod HashedSets
 -- some versions of a set
 pub mod Between
 pub mod Lower

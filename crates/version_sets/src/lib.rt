@@ -10,6 +10,7 @@ mod boundary;
 mod comparators;
 mod conjunction;
 mod cut;
+mod hashing;
 mod interval_membership;
 pub mod laws;
 mod lowest;

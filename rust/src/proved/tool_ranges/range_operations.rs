@@ -3,6 +3,7 @@
 
 use crate::rattle_std::prelude::*;
 use crate::proved::tool_ranges::version_range::VersionRange;
+use crate::rattle_std::hash::{Hash, Hasher};
 use crate::proved::version_sets::{Combination, OperationError};
 
 impl VersionRange {
@@ -68,4 +69,14 @@ impl PartialEq for VersionRange {
 }
 
 impl Eq for VersionRange {
+}
+
+impl Hash for VersionRange {
+    /// Hashes the rules, the boundaries of the releases, and the three numbers of each boundary of
+    /// the pre-releases.
+    fn hash<H: Hasher>(&self, state: &mut H) {
+        self.meaning.dialect.number().hash(state);
+        self.meaning.pre_releases.number().hash(state);
+        self.versions.hash(state);
+    }
 }

@@ -11,6 +11,7 @@ mod boundary;
 mod comparators;
 mod conjunction;
 mod cut;
+mod hashing;
 mod interval_membership;
 mod lowest;
 mod pre_release;
