@@ -37,10 +37,7 @@ impl Version {
     /// ```
     #[inline]
     pub fn parse(string: &str, dialect: Dialect) -> Result<Version, Error> {
-        match read_ref_in(string.as_bytes(), dialect.grammar()) {
-            Some(version) => version.owned().map_err(|_| Error::out_of_memory()),
-            None => Err(Error::from_string(Expected::Version, dialect, string)),
-        }
+        VersionRef::parse(string, dialect)?.owned().map_err(|_| Error::out_of_memory())
     }
 
     /// Returns a version without build metadata that is given as data of 0.10. What is printed after
