@@ -75,7 +75,6 @@ KNOWN = {
     '[] as IntoIterator': 'into_iter',
     '[] as Ord': 'cmp', '[] as PartialEq': 'eq',
     'bool': 'then_some', 'char': 'encode_utf8 is_ascii', 'char as From': 'from',
-    'i32 as Hash': 'hash',
     'own as Hash': 'hash', 'own as IntoIterator': 'into_iter',
     'own as Iterator': 'any by_ref next', 'own as Ord': 'cmp', 'own as PartialEq': 'eq ne',
     'own as Write': 'write write_fmt',

@@ -140,8 +140,7 @@ impl Hash for VersionRange {
     /// Hashes the rules, the boundaries of the releases, and the three numbers of each boundary of
     /// the pre-releases.
     fn hash<H: Hasher>(&self, state: &mut H) {
-        self.meaning.dialect.number().hash(state);
-        self.meaning.pre_releases.number().hash(state);
+        self.meaning.hash(state);
         self.versions.hash(state);
     }
 }
