@@ -120,7 +120,7 @@ def constants_in_rust():
         yield f'COMPONENT_{name.upper()}', number
     yield 'REASON_NONE', '0'
     for path, kind, function, prefix in (
-        ('invalid_strings/reasons', 'Reason', 'row', 'REASON'), ('tool_ranges/dialect', 'Dialect', 'number', 'DIALECT'),
+        ('invalid_strings/reasons', 'Reason', 'row', 'REASON'), ('semver_ranges/dialect', 'Dialect', 'number', 'DIALECT'),
         ('version_sets/rules', 'PreReleases', 'number', 'PRE_RELEASES'), ('semver_ranges/operator', 'Operator', 'number', 'OPERATOR'),
     ):
         body = re.search(rf'fn {function}\(.*?\n    \}}', read(f'rust/src/proved/{path}.rs'), re.S)[0]

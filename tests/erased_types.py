@@ -68,7 +68,7 @@ KNOWN = {
     'Vec as DerefMut': 'deref_mut', 'Vec as Extend': 'extend', 'Vec as Index': 'index',
     'Vec as IndexMut': 'index_mut',
     'Zip as IntoIterator': 'into_iter', 'Zip as Iterator': 'all next',
-    '[]': '''as_slice copy_from_slice escape_ascii first get get_mut is_empty iter last len
+    '[]': '''as_slice copy_from_slice escape_ascii first get is_empty iter last len
         partition_point reverse sort_unstable_by split_at split_first split_last starts_with
         strip_prefix''',
     '[] as Hash': 'hash', '[] as Index': 'index', '[] as IndexMut': 'index_mut',

@@ -105,7 +105,7 @@ try_installed_library() {
         fail 'a function has another version'
     # What reads a range is compiled once for each dialect, so that it is fast.
     strip --strip-unneeded -o "$work/stripped" "$lib/libsemver_parser.so"
-    [ "$(wc -c < "$work/stripped")" -le 500000 ] || fail 'the shared library is too large'
+    [ "$(wc -c < "$work/stripped")" -le 600000 ] || fail 'the shared library is too large'
     readelf -lW "$lib/libsemver_parser.so" | grep GNU_STACK | grep -q ' RW ' || fail 'the stack of the shared library is executable'
     try_library -I "$prefix/include" "$lib/libsemver_parser.a"
     try_library -I "$prefix/include" -static -L "$lib" -lsemver_parser

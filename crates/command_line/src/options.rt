@@ -16,9 +16,9 @@ ghost use Rattle.command_line.specs.Options.{HasValue, TellsNotTaken, name_in};
 ghost use Rattle.command_line.specs.Options.{no_options};
 
 use crate::error::{ArgumentError, Quoted};
+use semver_ranges::dialect::Dialect;
 use std::alloc::Global;
 use std::marker::Model;
-use semver_ranges::dialect::Dialect;
 use tool_ranges::meaning::Rules;
 use version_sets::PreReleases;
 

@@ -7,9 +7,9 @@ use crate::error::ArgumentError;
 use crate::refused::{refused_text, refused_version};
 use invalid_strings::escaped::Escaped;
 use semver_parser::RangeError;
+use semver_ranges::dialect::Dialect;
 use std::io::{self, ErrorKind};
 use std::process::ExitCode;
-use semver_ranges::dialect::Dialect;
 
 /// A program. Each line that it writes to standard error begins with its name. If a line can't be
 /// written there, it is left out.

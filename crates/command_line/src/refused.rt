@@ -10,8 +10,8 @@ use crate::excerpt::Excerpt;
 use invalid_ranges::refusals::{Refusal, refused};
 use invalid_strings::refusals::explain;
 use semver_parser::RangeError;
-use std::alloc::{AllocError, Global};
 use semver_ranges::dialect::Dialect;
+use std::alloc::{AllocError, Global};
 
 /// Returns the message for an error: the error and the range, and two more lines with the offset
 /// and the reason. A long string is shortened. `Err` means out of memory.

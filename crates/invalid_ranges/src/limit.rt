@@ -13,13 +13,13 @@ ghost use Rattle.invalid_ranges.specs.TooLarge.{offset_in, offset_in_item, witho
 
 use invalid_strings::reasons::Reason;
 use semver_ranges::cursor::{Cursor, Event};
+use semver_ranges::dialect::Dialect;
 use semver_ranges::operator::Operator;
+use semver_ranges::table::limit;
 use semver_ranges::term::RawVersion;
 use semver_texts::bytes::run_len;
 use semver_texts::decimals::number_of_digits;
 use semver_texts::dotted::split_at_dot;
-use semver_ranges::dialect::Dialect;
-use semver_ranges::table::limit;
 use tool_ranges::large_numbers::too_large;
 
 /// Returns the offset of the number that is too large in a range. It is in the first term that

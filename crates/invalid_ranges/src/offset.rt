@@ -9,8 +9,8 @@ ghost use Rattle.invalid_ranges.specs.Prefixes.{BeginsAs};
 
 use invalid_strings::longest::{Language, longest_prefix};
 use semver_ranges::RangeError;
-use std::alloc::{AllocError, Global};
 use semver_ranges::dialect::Dialect;
+use std::alloc::{AllocError, Global};
 use tool_ranges::meaning::{self, Rules};
 use version_sets::PreReleases;
 

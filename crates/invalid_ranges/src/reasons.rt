@@ -19,11 +19,11 @@ use crate::offset::is_range;
 use invalid_strings::buffers::join;
 use invalid_strings::prefix_bytes::{self, byte_at, ends_in_zero, from_end, has_no_digit};
 use invalid_strings::reasons::Reason;
+use semver_ranges::dialect::Dialect;
 use semver_texts::bytes::is_part_byte;
 use semver_texts::grammar::Grammar;
 use semver_texts::npm_limits::MAX_SAFE_BUILD_LENGTH;
 use std::alloc::{AllocError, Global};
-use semver_ranges::dialect::Dialect;
 
 /// Returns why a string stops being a range at an offset.
 pub(crate) fn reason_at(

@@ -17,8 +17,8 @@ use crate::offset::{check, prefix_end};
 use crate::reasons::reason_at;
 use invalid_strings::reasons::Reason;
 use semver_ranges::RangeError;
-use std::alloc::{AllocError, Global};
 use semver_ranges::dialect::Dialect;
+use std::alloc::{AllocError, Global};
 
 /// The error of an invalid range string: its offset and its reason.
 #[derive(Clone, Copy)]

@@ -17,12 +17,12 @@ ghost use Rattle.range_terms.specs.Steps.{YieldsTerm};
 
 use crate::term::{Component, PartialVersion, Span, Term};
 use semver_ranges::cursor::{Cursor, Event};
+use semver_ranges::dialect::Dialect;
 use semver_ranges::term::{RawTerm, RawVersion};
 use semver_ranges::{RangeError, partial};
 use semver_texts::dotted::text_of_parts;
 use semver_texts::grammar::Grammar;
 use std::marker::Model;
-use semver_ranges::dialect::Dialect;
 use tool_ranges::meaning::{Rules, check};
 use version_sets::PreReleases;
 

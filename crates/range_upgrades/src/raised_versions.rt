@@ -10,9 +10,9 @@ ghost use Rattle.range_upgrades.specs.RaisedVersions.{next_bound, next_numbers};
 ghost use Rattle.range_upgrades.specs.RaisedVersions.{raised_version};
 
 use range_terms::term::{Component, PartialVersion};
+use semver_ranges::dialect::Dialect;
 use semver_ranges::operator::Operator;
 use semver_versions::version::VersionRef;
-use semver_ranges::dialect::Dialect;
 use version_sets::Release;
 
 /// How many components a raised version has.

@@ -11,10 +11,10 @@ ghost use Rattle.version_sets.specs.declared.rules.PreReleases.TheVariants.{Excl
 ghost use Rattle.release_filter.specs.KeptReleases.{kept_releases};
 
 use crate::contained::contained;
+use semver_ranges::dialect::Dialect;
 use semver_ranges::{Compat, RangeError};
 use semver_versions::version::Version;
 use std::alloc::Global;
-use semver_ranges::dialect::Dialect;
 use tool_ranges::meaning::{self, Rules};
 use version_sets::{PreReleases, VersionSet};
 

@@ -8,8 +8,8 @@ ghost use Rattle.repaired_strings.specs.declared.errors.Expected.TheVariants.{Ra
 use invalid_ranges::refusals as ranges;
 use invalid_strings::reasons::Reason;
 use invalid_strings::refusals as versions;
-use std::alloc::{AllocError, Global};
 use semver_ranges::dialect::Dialect;
+use std::alloc::{AllocError, Global};
 
 /// What a string is meant as.
 #[derive(Clone, Copy, PartialEq, Eq, Debug)]

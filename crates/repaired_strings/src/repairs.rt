@@ -12,9 +12,9 @@ ghost use Rattle.repaired_strings.specs.Repairs.{space_before, without_zeros};
 use crate::errors::{Expected, StringError, first_error};
 use crate::spans::span_at;
 use invalid_strings::reasons::Reason;
+use semver_ranges::dialect::Dialect;
 use semver_texts::white_space::is_ascii_white_space;
 use std::alloc::{AllocError, Global};
-use semver_ranges::dialect::Dialect;
 
 /// How many parts of a string are replaced at most.
 const MOST_REPAIRS: usize = 32;

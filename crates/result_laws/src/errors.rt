@@ -12,8 +12,8 @@ use repaired_strings::errors::Expected;
 use repaired_strings::laws;
 use semver_errors::error::Error;
 use semver_ranges::RangeError;
-use std::alloc::{AllocError, Global};
 use semver_ranges::dialect::Dialect;
+use std::alloc::{AllocError, Global};
 use tool_ranges::satisfying::SatisfiesError;
 
 /// A result of `suggestion`.

@@ -8,10 +8,9 @@ use invalid_ranges::laws::{one_limit_offset, one_offset, one_reason};
 use invalid_ranges::refusals::{Refusal, refused};
 use range_terms::terms::Terms;
 use semver_parser::{Compat, RangeError, RangeSet};
-use std::alloc::{AllocError, Global};
 use semver_ranges::dialect::Dialect;
-use tool_ranges::rewriting;
-use tool_ranges::{cargo, npm};
+use std::alloc::{AllocError, Global};
+use tool_ranges::{cargo, npm, rewriting};
 
 /// Two results of `RangeSet::parse`, or of a function below, for the same inputs.
 type Answers = (Result<RangeSet, RangeError>, Result<RangeSet, RangeError>);

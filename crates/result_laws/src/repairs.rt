@@ -9,8 +9,8 @@ use repaired_strings::errors::{Expected, StringError, first_error};
 use repaired_strings::laws;
 use repaired_strings::repairs::repaired;
 use repaired_strings::spans::span_at;
-use std::alloc::{AllocError, Global};
 use semver_ranges::dialect::Dialect;
+use std::alloc::{AllocError, Global};
 
 /// A result of `first_error`.
 type Found = Result<Option<StringError>, AllocError>;

@@ -16,10 +16,10 @@ use invalid_strings::escaped::write_character;
 use range_upgrades::upgrade::UpgradeError;
 use repaired_strings::errors::Expected;
 use semver_ranges::RangeError;
+use semver_ranges::dialect::Dialect;
 use semver_tokens::{lexer, parser};
 use std::alloc::{AllocError, Global};
 use std::fmt;
-use semver_ranges::dialect::Dialect;
 use tool_ranges::satisfying::SatisfiesError;
 use version_sets::OperationError;
 

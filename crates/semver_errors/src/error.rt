@@ -12,9 +12,9 @@ use range_terms::term::Span;
 use repaired_strings::errors::{Expected, first_error};
 use repaired_strings::repairs::repaired;
 use repaired_strings::spans::span_at;
+use semver_ranges::dialect::Dialect;
 use std::alloc::{AllocError, Global};
 use std::marker::Model;
-use semver_ranges::dialect::Dialect;
 
 /// The kind of an [`Error`]: what a program can do about it. [`Error::reason`] says why.
 ///

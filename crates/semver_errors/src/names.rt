@@ -5,8 +5,8 @@ ghost use Rattle.semver_errors.specs.ErrorValues.{IsOrOutOfMemory, UnknownName};
 ghost use Rattle.semver_errors.specs.Names.{dialect_named, dialect_names, rule_named, rule_names};
 
 use crate::error::Error;
-use std::alloc::Global;
 use semver_ranges::dialect::Dialect;
+use std::alloc::Global;
 use version_sets::PreReleases;
 
 // Determined by: equation.

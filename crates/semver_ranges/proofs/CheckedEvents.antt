@@ -24,7 +24,7 @@ use Rattle.semver_ranges.specs.Steps.CursorViews.{HasLeft, IsBegunIn, IsEventOf,
 use Rattle.semver_ranges.specs.Steps.FoundItems.{comparator, simple_of}
 use Rattle.semver_ranges.specs.Steps.Reading.{after_blanks, read as tree_of}
 use Rattle.semver_ranges.specs.Steps.RangeEvents.{Event, before_others, event_fits, events, events_of, in_front, next_range, one_simple, put}
-use Rattle.semver_ranges.specs.Steps.RangeEvents.{set_events, some_comparators, yielded}
+use Rattle.semver_ranges.specs.Steps.RangeEvents.{set_events, yielded}
 use Rattle.semver_ranges.proofs.EventSteps.{begin_left}
 use Rattle.semver_ranges.proofs.ReadingSound.{read_sound}
 

@@ -12,14 +12,11 @@ use Rattle.semver_ranges.specs.declared.range.Range.{Range}
 use Rattle.semver_ranges.specs.declared.range_set.RangeSet.{RangeSet}
 use Rattle.semver_ranges.specs.declared.range_set.RangeError.TheVariants.{NotARange, NumberTooLarge, OutOfMemory}
 use Rattle.semver_ranges.specs.declared.range_set.RangeError.{RangeError}
-use Rattle.semver_ranges.specs.declared.events.Event.TheVariants as event
-use Rattle.semver_ranges.specs.declared.events.Events.{Events}
 use Rattle.semver_ranges.specs.RangeTree.{Simple, RangeTree, SetTree}
 use Rattle.semver_texts.specs.Texts.{Text}
 use Rattle.semver_ranges.specs.RewritingTable.{PlainComparator, PlainRange, PlainSet, fits_by}
 use Rattle.semver_ranges.specs.Steps.Answers.{IsAnswerBy, IsAnswerOf}
 use Rattle.semver_ranges.specs.Steps.Answers.{range_of_simples, ranges_by}
-use Rattle.semver_ranges.specs.Steps.CursorViews.{HasLeft, IsFirst}
 use Rattle.semver_ranges.specs.Steps.Reading.{read}
 use Rattle.semver_ranges.specs.Steps.RangeEvents.{Event, one_simple, next_range, put, in_front, yielded, events_of}
 use Rattle.semver_ranges.specs.Steps.RangeEvents.{event_fits, set_events}
@@ -27,7 +24,6 @@ use Rattle.semver_ranges.specs.RangeViews.{comparator_of, range_of}
 use Rattle.semver_ranges.proofs.ReadingSound.{read_sound}
 use Rattle.semver_ranges.proofs.Tables.{IsTable}
 use Rattle.semver_ranges.proofs.EventLists.{set_fits}
-use Rattle.semver_ranges.proofs.FoundEvents.{first_bars}
 
 -- whether the events that are left fit, and those before them did; `None` if the text isn't in the
 -- grammar

@@ -9,8 +9,7 @@ use Rattle.semver_ranges.specs.declared.term.RawTerm as written
 use Rattle.semver_ranges.specs.declared.term.RawVersion.{RawVersion}
 use Rattle.semver_texts.specs.Texts.{Text}
 use Rattle.semver_ranges.specs.TextItems.{FoundTerm, FoundWord, Item, empty_range, one_term}
-use Rattle.semver_ranges.specs.Steps.Items.{IsItemOf, IsTermAt, IsTermOf, IsUpperOf, IsViewOf, IsWordOf}
-use Rattle.semver_ranges.specs.Steps.FoundItems.{simple_of}
+use Rattle.semver_ranges.specs.Steps.Items.{IsItemOf, IsTermOf, IsUpperOf, IsViewOf, IsWordOf}
 use Rattle.semver_ranges.specs.Steps.Items.{simples_of}
 use Rattle.semver_ranges.specs.RangeTree.{Simple}
 use Rattle.semver_ranges.specs.Steps.Reading.{simple}

@@ -5,7 +5,7 @@ use Rattle.semver_texts.specs.Versions.{numbers, IdentifierValue}
 use Rattle.semver_texts.specs.declared.grammar.Grammar.TheVariants.{Crate}
 use Rattle.semver_ranges.specs.declared.dialect.Dialect.TheVariants.{CrateCargo, CrateNpm}
 use Rattle.semver_ranges.specs.declared.operator.Operator.{Operator}
-use Rattle.semver_ranges.specs.declared.operator.Operator.TheVariants.{Bare, Equal, Less, LessOrEqual, Greater, GreaterOrEqual, Tilde}
+use Rattle.semver_ranges.specs.declared.operator.Operator.TheVariants.{Bare, Less, LessOrEqual, Greater, GreaterOrEqual, Tilde}
 use Rattle.semver_ranges.specs.declared.operator.Operator.TheVariants.{Caret, Hyphen}
 use Rattle.semver_ranges.specs.declared.range.Compat.{Compat}
 use Rattle.semver_ranges.specs.declared.range.Compat.TheVariants as mode
@@ -15,7 +15,7 @@ use Rattle.semver_ranges.specs.declared.range_set.RangeSet.{RangeSet}
 use Rattle.semver_ranges.specs.declared.rewriting.Style.{Style}
 use Rattle.std.specs.Prelude.{Result}
 use Rattle.semver_ranges.specs.DialectTable.{grammar_of, mode_of, own_dialect}
-use Rattle.semver_ranges.specs.Partials.{filled, pre_release, stated}
+use Rattle.semver_ranges.specs.Partials.{filled, pre_release}
 use Rattle.semver_ranges.specs.RangeTree.{Simple}
 use Rattle.semver_ranges.specs.RewritingTable.{cell, comparator, simple_fits, up_with, with_pre_release, written_cell, written_set}
 use Rattle.semver_ranges.specs.RewritingTable.{written_simple}

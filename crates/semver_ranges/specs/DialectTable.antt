@@ -34,7 +34,7 @@ abbrev pub limit : Dialect → ℕ
 limit Npm = 2 ^ 53 - 1
 limit dialect = 2 ^ 64 - 1
 
--- the grammar of versions in a dialect
+-- the grammar of versions and ranges in a dialect
 abbrev pub grammar_of : Dialect → Grammar
 grammar_of Cargo = grammar.Cargo
 grammar_of Npm = grammar.Npm

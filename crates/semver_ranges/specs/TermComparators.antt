@@ -13,8 +13,8 @@ use Rattle.semver_ranges.specs.ExactBounds.{exact_bound, lowest_pre_release}
 use Rattle.semver_ranges.specs.RewritingTable.{PlainComparator, comparator, up, up_with}
 use Rattle.semver_ranges.specs.Sides.{SideValue, below, at, past, above, ends_past, sides}
 
--- the comparator of a lower side. With `Lowest` it is right for all versions. Otherwise `below` and
--- `at` give the same one, which is right only for releases
+-- the comparator of a lower side. With `Lowest` it is right for all versions. Otherwise those of
+-- `below` and `above` are right only for releases: they leave out the pre-releases of their numbers
 abbrev pub lower_comparator : Style → SideValue → PlainVersion → PlainComparator
 lower_comparator Lowest (above k) z = comparator Gte (exact_bound (up k (numbers z)))
 lower_comparator style (above k) z = comparator Gte (up k (numbers z))

@@ -97,7 +97,7 @@ pub(crate) fn first_term<'text>(
 }
 
 /// Checks the rest of a range string, where `fit` says whether the terms before it fit. Returns the
-/// number of ranges, for which a vector is allocated.
+/// number of ranges of the whole string, which `rewriting` uses as a capacity.
 #[inline(always)]
 pub(crate) fn survey(mut rest: Events<'_>, fit: bool, dialect: Dialect) -> Result<usize, RangeError>
     ensures { (o : Option (List SomeEvent)) → HasLeft (grammar_of dialect) rest.entry o

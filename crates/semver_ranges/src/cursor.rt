@@ -32,7 +32,7 @@ pub enum Event<'text> {
 pub struct Cursor<'text> {
     /// What follows the last term or the last bars, and the blanks after them.
     rest: &'text [u8],
-    /// Whether no term of the current range was read.
+    /// Whether no event of the current range was returned.
     begins_range: bool,
 }
 

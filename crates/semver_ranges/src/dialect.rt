@@ -34,8 +34,8 @@ pub enum Dialect {
 
 impl Dialect {
     // Determined by: equation.
-    /// Returns the grammar of versions in this dialect. Both dialects of the crate have the crate's
-    /// grammar.
+    /// Returns the grammar of versions and ranges in this dialect. Both dialects of the crate have
+    /// the crate's grammar.
     #[must_use]
     pub fn grammar(self) -> Grammar
         ensures grammar { result ≡ grammar_of self }

@@ -1,4 +1,5 @@
-//! Range strings as plain data: a `RangeSet` of plain comparators.
+//! Range strings in each dialect: how they are read, the table of the sides of each term, and a
+//! `RangeSet` of plain comparators.
 //!
 //! Hints for speed: the functions that read a byte of most strings, those that make a term, and the
 //! table, are `inline(always)`, with one copy for each loop, so what they read stays in registers.

@@ -47,7 +47,7 @@ pub struct Components<'input> {
     pub build: &'input [u8],
 }
 
-/// The number of numbers in a partial.
+/// How many numbers a partial has.
 #[derive(Clone, Copy, Debug)]
 pub enum PartialKind {
     /// None: it begins with a wildcard.
@@ -265,8 +265,8 @@ impl<'input> Partial<'input> {
 
     // Determined by: free, a number that can't be raised: ../replayed_cases/stdin.
     /// Returns the numbers up to a place, with the last of them raised by one, and zeros after it.
-    /// A number that is 2^64 - 1 isn't raised, since this is computed before it is known whether
-    /// the term fits.
+    /// A number that is 2^64 - 1 isn't raised: `tool_ranges` also computes this for terms that
+    /// don't fit.
     #[inline(always)]
     pub fn raised(&self, place: Place) -> (u64, u64, u64)
         ensures { may_rise (2 ^ 64 - 1) (Some (above (place_number place)))

@@ -2,10 +2,10 @@
 
 use crate::checksum::Checksum;
 use release_filter::{LineEnd, LineOptions, Lines, LinesError, Selection};
+use semver_ranges::dialect::Dialect;
 use std::alloc::Global;
 use std::io;
 use std::io::Write;
-use semver_ranges::dialect::Dialect;
 use tool_ranges::meaning::Rules;
 use tool_ranges::version_range::VersionRange;
 use version_sets::PreReleases;

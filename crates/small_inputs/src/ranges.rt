@@ -7,13 +7,12 @@ use range_terms::terms::Terms;
 use release_filter::{filter_text, release_meets, version_meets};
 use semver_parser::version::{self, Version, VersionRef};
 use semver_parser::{Compat, RangeError, RangeSet, report};
+use semver_ranges::dialect::Dialect;
 use std::alloc::{AllocError, Global};
 use std::io;
 use std::io::Write;
-use semver_ranges::dialect::Dialect;
-use tool_ranges::rewriting;
 use tool_ranges::meaning::{Rules, check};
-use tool_ranges::npm;
+use tool_ranges::{npm, rewriting};
 use version_sets::PreReleases;
 
 pub const DIALECTS: [Dialect; 4] = [

@@ -16,7 +16,7 @@ use Rattle.semver_ranges.specs.Steps.RangeEvents.{Event, event_fits}
 use Rattle.tool_ranges.specs.Dialects.{fits_as}
 use Rattle.tool_ranges.specs.Steps.Checked.{IsCheckedAs}
 use Rattle.tool_ranges.specs.Steps.TextEvents.{events_in, ranges_of, read_as, text_events}
-use Rattle.tool_ranges.specs.Steps.Reading.{IsRead, IsRefusedAs}
+use Rattle.tool_ranges.specs.Steps.Reading.{IsRefusedAs}
 use Rattle.tool_ranges.proofs.MatchedEvents.{ranges_fit}
 
 module _ (d : Dialect) (t : Text) where

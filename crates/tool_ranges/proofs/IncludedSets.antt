@@ -1,6 +1,6 @@
 -- With every pre-release within the bounds, the comparators that are printed for a tree of npm are
 -- those of `rewritten_included`.
-use Rattle.std.proofs.Common.{◌≡◌, List, [], ◌∷◌, refl}
+use Rattle.std.proofs.Common.{◌≡◌, [], ◌∷◌, refl}
 use Rattle.std.specs.List.{flat_map}
 use Rattle.semver_texts.proofs.Lists.{by_test}
 use Rattle.semver_ranges.specs.declared.range.Compat.TheVariants as mode

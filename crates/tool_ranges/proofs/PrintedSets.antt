@@ -1,6 +1,6 @@
 -- The ranges that are printed, found from the events of a text, and those that are printed for each
 -- tree of npm.
-use Rattle.std.proofs.Common.{◌≡◌, true, false, List, [], ◌∷◌, ◌++◌, map, refl, sym, ap, ◌∙◌, append_assoc}
+use Rattle.std.proofs.Common.{◌≡◌, true, List, [], ◌∷◌, map, refl, sym, ap, ◌∙◌}
 use Rattle.std.specs.Prelude.{Err, IfOk, Ok, Result}
 use Rattle.semver_texts.specs.Texts.{Text}
 use Rattle.semver_ranges.specs.declared.range.Compat.{Compat}
@@ -14,7 +14,7 @@ use Rattle.semver_ranges.specs.RangeTree.{RangeTree, SetTree, Simple}
 use Rattle.semver_ranges.specs.RangeViews.{set_of}
 use Rattle.semver_ranges.specs.RewritingTable.{PlainComparator, range_by}
 use Rattle.semver_ranges.specs.Steps.Answers.{IsAnswerBy, range_of_simples, ranges_by}
-use Rattle.semver_ranges.specs.Steps.RangeEvents.{Event, next_range, yielded}
+use Rattle.semver_ranges.specs.Steps.RangeEvents.{next_range, yielded}
 use Rattle.semver_ranges.proofs.EventLists.{range_made}
 use Rattle.semver_ranges.proofs.EventSums.{front_made}
 use Rattle.semver_ranges.specs.declared.rewriting.Style.{Style}

@@ -1,15 +1,13 @@
 -- The sides of a term don't depend on how its identifiers of digits are read.
-use Rattle.std.proofs.Common.{◌≡◌, ℕ, zero, suc, ◌-◌, ◌^◌, Bool, true, false, not, ◌&&◌, Option, Some, None, List, nat_le, refl, ap, sym, ◌∙◌, arith}
-use Rattle.std.specs.List.{list_all}
+use Rattle.std.proofs.Common.{◌≡◌, Bool, not, Option, ap, sym, ◌∙◌}
 use Rattle.semver_texts.specs.Digits.{plain_by}
 use Rattle.semver_texts.specs.Texts.{is_empty}
-use Rattle.semver_texts.specs.Versions.{numbers, PlainVersion}
+use Rattle.semver_texts.specs.Versions.{PlainVersion}
 use Rattle.semver_texts.specs.declared.grammar.Digits.{Digits}
-use Rattle.semver_ranges.specs.Sides.{SideValue, below, at, past, above}
+use Rattle.semver_ranges.specs.Sides.{SideValue}
 use Rattle.version_sets.specs.Steps.Cuts.{is_between}
 use Rattle.version_sets.proofs.DigitLaws.{by_empty}
 use Rattle.tool_ranges.specs.Steps.Table.{is_between_releases}
-use Rattle.semver_ranges.specs.Sides.{may_rise}
 
 module _ (all : Bool → Option SideValue × Option SideValue) (p : PlainVersion) (digits : Digits) where
   same_pre : (not (is_empty p.pre)) ≡ not (is_empty (plain_by digits p).pre)

@@ -145,9 +145,9 @@ fn sides_beside(simple: &Simple<'_>) -> (Option<Side>, Option<Side>)
 }
 
 /// Returns the interval for pre-releases by default in npm's dialect. It begins at the version of
-/// the term, or at the release that is raised above it, even if the interval for all versions
-/// begins below all pre-releases of these numbers. If it begins at 0.0.0, there is no lower bound,
-/// except for `=0.0.0`.
+/// the term, or for `>` with one or two numbers at the next release, such as 1.3.0 for `>1.2`, even
+/// if the interval for all versions begins below all pre-releases of these numbers. If it begins at
+/// 0.0.0, there is no lower bound, except for `=0.0.0`.
 #[inline(always)]
 fn from_release<'t>(simple: &Simple<'t>) -> Interval<'t>
     requires { PartsPass simple.now.partial }
@@ -166,8 +166,8 @@ fn from_release<'t>(simple: &Simple<'t>) -> Interval<'t>
 
 /// Returns the lower cut of the interval for pre-releases in npm's dialect, if it excludes any
 /// version. `is_one` says whether the interval ends directly above the same version, as that of
-/// `=0.0.0` does. The raised number saturates, since this is computed before it is known whether
-/// the term fits.
+/// `=0.0.0` does. The raised number saturates, since `matching` computes this also for a term
+/// that doesn't fit.
 #[inline(always)]
 fn release_of<'t>(partial: &Partial<'t>, lower: Option<Side>, is_one: bool) -> Option<Cut<'t>>
     requires { PartsPass partial.now }

@@ -16,9 +16,9 @@ use semver_ranges::partial::{Component, Components, Place};
 use semver_ranges::table::{Side, fits, limit, sides};
 
 // Determined by: equation.
-/// Returns the index of the number of a term that is too large, or `None` if the term fits: of the
-/// first number above the limit of the dialect, or if there is none, of the number that is raised
-/// for one of the sides and can't be. It is below 3.
+/// Returns the index of the number of a term that is too large, or `None` if the term fits. It is
+/// that of the first number above the limit of the dialect, or if there is none, that of the number
+/// that is raised for one of the sides and can't be. It is below 3.
 #[must_use]
 pub fn too_large(operator: Operator, written: &Components<'_>, dialect: Dialect) -> Option<usize>
     requires { list_all is_part (cut_at_dots written.now.pre.now) ≡ true }

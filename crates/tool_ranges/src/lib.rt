@@ -1,5 +1,6 @@
-//! Ranges as Cargo and npm themselves read them, and as the two modes of the crate `semver-parser`
-//! do, which differs from both.
+//! What a range means in each dialect: which versions satisfy it, their set, and its comparators.
+//! The dialects are those of Cargo and npm themselves, and the two modes of the crate
+//! `semver-parser`, which differ from both.
 #![tactic(auto)]
 
 pub mod at_or_above;

@@ -1,4 +1,4 @@
-//! The events of a range string in each dialect. Nothing here allocates.
+//! The events of a range string in each dialect, and the check of a string. Nothing here allocates.
 
 ghost use Rattle.std.specs.Prelude.{◌≡◌, ◌≢◌, Err, IfOk, None, MatchResult};
 ghost use Rattle.semver_ranges.specs.DialectTable.{grammar_of};
@@ -37,7 +37,8 @@ pub(crate) fn events_of(text: &str, dialect: Dialect) -> Result<Events<'_>, Rang
     }
 }
 
-/// Returns whether a string has only characters and commas that a range may have.
+/// Returns whether a string keeps the rule of its dialect about whole strings: Cargo's about the
+/// number of commas, and npm's about characters beyond ASCII.
 #[inline(always)]
 fn may_be_a_range(text: &str, dialect: Dialect) -> bool
     ensures { result ≡ may_be_a_range dialect text.now }

@@ -1,4 +1,4 @@
-//! A range in each dialect as plain comparators with exact bounds.
+//! A range in each dialect as plain comparators.
 
 ghost use Rattle.std.specs.Prelude.{◌≡◌, [], IfOk, IsTrue};
 ghost use Rattle.semver_texts.specs.Versions.{PlainVersion};

@@ -11,7 +11,7 @@ use Rattle.version_sets.specs.declared.rules.PreReleases.TheVariants.{Excluded, 
 use Rattle.version_sets.specs.PreReleaseTable.{number_of as rule_number}
 use Rattle.version_sets.specs.Steps.HashedSets.{same_sets_hash_alike}
 use Rattle.version_sets.specs.VersionSets.{same_set}
-use Rattle.tool_ranges.specs.DialectTable.{number_of}
+use Rattle.semver_ranges.specs.DialectTable.{number_of}
 use Rattle.tool_ranges.specs.HashedRanges.{hashed_range, rule_place}
 use Rattle.tool_ranges.specs.VersionRanges.{RangeValue, same_meaning, same_range}
 

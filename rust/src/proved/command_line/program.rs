@@ -7,9 +7,9 @@ use crate::proved::command_line::error::ArgumentError;
 use crate::proved::command_line::refused::{refused_text, refused_version};
 use crate::proved::invalid_strings::escaped::Escaped;
 use crate::proved::semver_parser::RangeError;
+use crate::proved::semver_ranges::dialect::Dialect;
 use crate::rattle_std::io::{self, ErrorKind};
 use crate::rattle_std::process::ExitCode;
-use crate::proved::semver_ranges::dialect::Dialect;
 
 /// A program. Each line that it writes to standard error begins with its name. If a line can't be
 /// written there, it is left out.

@@ -7,8 +7,8 @@ use crate::proved::command_line::excerpt::Excerpt;
 use crate::proved::invalid_ranges::refusals::{Refusal, refused};
 use crate::proved::invalid_strings::refusals::explain;
 use crate::proved::semver_parser::RangeError;
-use crate::rattle_std::AllocError;
 use crate::proved::semver_ranges::dialect::Dialect;
+use crate::rattle_std::AllocError;
 
 /// Returns the message for an error: the error and the range, and two more lines with the offset
 /// and the reason. A long string is shortened. `Err` means out of memory.

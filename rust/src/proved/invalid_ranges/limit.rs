@@ -4,13 +4,13 @@
 use crate::rattle_std::prelude::*;
 use crate::proved::invalid_strings::reasons::Reason;
 use crate::proved::semver_ranges::cursor::{Cursor, Event};
+use crate::proved::semver_ranges::dialect::Dialect;
 use crate::proved::semver_ranges::operator::Operator;
+use crate::proved::semver_ranges::table::limit;
 use crate::proved::semver_ranges::term::RawVersion;
 use crate::proved::semver_texts::bytes::run_len;
 use crate::proved::semver_texts::decimals::number_of_digits;
 use crate::proved::semver_texts::dotted::split_at_dot;
-use crate::proved::semver_ranges::dialect::Dialect;
-use crate::proved::semver_ranges::table::limit;
 use crate::proved::tool_ranges::large_numbers::too_large;
 
 /// Returns the offset of the number that is too large in a range. It is in the first term that

@@ -6,8 +6,8 @@
 use crate::rattle_std::prelude::*;
 use crate::proved::invalid_strings::longest::{Language, longest_prefix};
 use crate::proved::semver_ranges::RangeError;
-use crate::rattle_std::AllocError;
 use crate::proved::semver_ranges::dialect::Dialect;
+use crate::rattle_std::AllocError;
 use crate::proved::tool_ranges::meaning::{self, Rules};
 use crate::proved::version_sets::PreReleases;
 

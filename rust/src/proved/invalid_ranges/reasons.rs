@@ -9,11 +9,11 @@ use crate::proved::invalid_ranges::offset::is_range;
 use crate::proved::invalid_strings::buffers::join;
 use crate::proved::invalid_strings::prefix_bytes::{self, byte_at, ends_in_zero, from_end, has_no_digit};
 use crate::proved::invalid_strings::reasons::Reason;
+use crate::proved::semver_ranges::dialect::Dialect;
 use crate::proved::semver_texts::bytes::is_part_byte;
 use crate::proved::semver_texts::grammar::Grammar;
 use crate::proved::semver_texts::npm_limits::MAX_SAFE_BUILD_LENGTH;
 use crate::rattle_std::AllocError;
-use crate::proved::semver_ranges::dialect::Dialect;
 
 /// Returns why a string stops being a range at an offset.
 pub(crate) fn reason_at(

@@ -7,8 +7,8 @@ use crate::proved::invalid_ranges::offset::{check, prefix_end};
 use crate::proved::invalid_ranges::reasons::reason_at;
 use crate::proved::invalid_strings::reasons::Reason;
 use crate::proved::semver_ranges::RangeError;
-use crate::rattle_std::AllocError;
 use crate::proved::semver_ranges::dialect::Dialect;
+use crate::rattle_std::AllocError;
 
 /// The error of an invalid range string: its offset and its reason.
 #[derive(Clone, Copy)]

@@ -4,11 +4,11 @@
 use crate::rattle_std::prelude::*;
 use crate::proved::range_terms::term::{Component, PartialVersion, Span, Term};
 use crate::proved::semver_ranges::cursor::{Cursor, Event};
+use crate::proved::semver_ranges::dialect::Dialect;
 use crate::proved::semver_ranges::term::{RawTerm, RawVersion};
 use crate::proved::semver_ranges::{RangeError, partial};
 use crate::proved::semver_texts::dotted::text_of_parts;
 use crate::proved::semver_texts::grammar::Grammar;
-use crate::proved::semver_ranges::dialect::Dialect;
 use crate::proved::tool_ranges::meaning::{Rules, check};
 use crate::proved::version_sets::PreReleases;
 

@@ -6,11 +6,11 @@ use crate::proved::range_upgrades::alternatives::Alternative;
 use crate::proved::range_upgrades::raised_versions::{Form, raised_version};
 use crate::proved::range_terms::term::{PartialVersion, Term};
 use crate::proved::range_terms::terms::of_range;
+use crate::proved::semver_ranges::dialect::Dialect;
 use crate::proved::semver_ranges::operator::Operator;
 use crate::proved::semver_versions::version::VersionRef;
 use crate::rattle_std::AllocError;
 use crate::proved::tool_ranges::at_or_above::has_at_or_above;
-use crate::proved::semver_ranges::dialect::Dialect;
 use crate::proved::tool_ranges::meaning::Rules;
 use crate::proved::version_sets::PreReleases;
 

@@ -3,9 +3,9 @@
 
 use crate::rattle_std::prelude::*;
 use crate::proved::range_terms::term::{Component, PartialVersion};
+use crate::proved::semver_ranges::dialect::Dialect;
 use crate::proved::semver_ranges::operator::Operator;
 use crate::proved::semver_versions::version::VersionRef;
-use crate::proved::semver_ranges::dialect::Dialect;
 use crate::proved::version_sets::Release;
 
 /// How many components a raised version has.

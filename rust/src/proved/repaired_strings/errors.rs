@@ -5,8 +5,8 @@ use crate::rattle_std::prelude::*;
 use crate::proved::invalid_ranges::refusals as ranges;
 use crate::proved::invalid_strings::reasons::Reason;
 use crate::proved::invalid_strings::refusals as versions;
-use crate::rattle_std::AllocError;
 use crate::proved::semver_ranges::dialect::Dialect;
+use crate::rattle_std::AllocError;
 
 /// What a string is meant as.
 #[derive(Clone, Copy, PartialEq, Eq, Debug)]

@@ -5,9 +5,9 @@ use crate::rattle_std::prelude::*;
 use crate::proved::repaired_strings::errors::{Expected, StringError, first_error};
 use crate::proved::repaired_strings::spans::span_at;
 use crate::proved::invalid_strings::reasons::Reason;
+use crate::proved::semver_ranges::dialect::Dialect;
 use crate::proved::semver_texts::white_space::is_ascii_white_space;
 use crate::rattle_std::AllocError;
-use crate::proved::semver_ranges::dialect::Dialect;
 
 /// How many parts of a string are replaced at most.
 const MOST_REPAIRS: usize = 32;

@@ -7,10 +7,10 @@ use crate::proved::invalid_strings::escaped::write_character;
 use crate::proved::range_upgrades::upgrade::UpgradeError;
 use crate::proved::repaired_strings::errors::Expected;
 use crate::proved::semver_ranges::RangeError;
+use crate::proved::semver_ranges::dialect::Dialect;
 use crate::proved::semver_tokens::{lexer, parser};
 use crate::rattle_std::AllocError;
 use crate::rattle_std::fmt;
-use crate::proved::semver_ranges::dialect::Dialect;
 use crate::proved::tool_ranges::satisfying::SatisfiesError;
 use crate::proved::version_sets::OperationError;
 

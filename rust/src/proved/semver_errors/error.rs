@@ -7,8 +7,8 @@ use crate::proved::range_terms::term::Span;
 use crate::proved::repaired_strings::errors::{Expected, first_error};
 use crate::proved::repaired_strings::repairs::repaired;
 use crate::proved::repaired_strings::spans::span_at;
-use crate::rattle_std::AllocError;
 use crate::proved::semver_ranges::dialect::Dialect;
+use crate::rattle_std::AllocError;
 
 /// The kind of an [`Error`]: what a program can do about it. [`Error::reason`] says why.
 ///

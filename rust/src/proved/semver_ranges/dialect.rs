@@ -30,8 +30,8 @@ pub enum Dialect {
 }
 
 impl Dialect {
-    /// Returns the grammar of versions in this dialect. Both dialects of the crate have the crate's
-    /// grammar.
+    /// Returns the grammar of versions and ranges in this dialect. Both dialects of the crate have
+    /// the crate's grammar.
     #[must_use]
     pub(crate) fn grammar(self) -> Grammar {
         match self {

@@ -1,6 +1,6 @@
 // Made by tools/erase.py from crates/semver_ranges/src/events.rt; not edited by hand.
-//! The events of a range string, in plain terms: each term has one version, and the two sides of a
-//! hyphen range are terms of their own. Nothing here allocates.
+//! The events of a range string, with each term as a `Simple`, which has one version. The two sides
+//! of a hyphen range are terms of their own. Nothing here allocates.
 
 use crate::rattle_std::prelude::*;
 use crate::proved::semver_ranges::cursor::{self, Cursor};
@@ -11,11 +11,12 @@ use crate::proved::semver_ranges::range_set::RangeError;
 use crate::proved::semver_ranges::term::RawTerm;
 use crate::proved::semver_texts::grammar::Grammar;
 
-/// The next part of a range string, in plain terms.
+/// The next part of a range string, with its terms as `Simple`s.
 #[derive(Clone, Copy)]
 pub enum Event<'input> {
     /// A term of the range. An empty range gives a bare wildcard. A hyphen range gives its left
-    /// side, and `<=` its right side. A side without a number is left out if the other one has one.
+    /// side, and its right side as a term with `<=`. A side without a number is left out if the
+    /// other one has one.
     Simple(Simple<'input>),
     /// Two bars, after which the next range begins.
     NextRange,

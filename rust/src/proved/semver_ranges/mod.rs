@@ -1,5 +1,6 @@
 // Made by tools/erase.py from crates/semver_ranges/src/lib.rt; not edited by hand.
-//! Range strings as plain data: a `RangeSet` of plain comparators.
+//! Range strings in each dialect: how they are read, the table of the sides of each term, and a
+//! `RangeSet` of plain comparators.
 //!
 //! Hints for speed: the functions that read a byte of most strings, those that make a term, and the
 //! table, are `inline(always)`, with one copy for each loop, so what they read stays in registers.

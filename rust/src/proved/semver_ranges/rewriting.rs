@@ -1,5 +1,8 @@
 // Made by tools/erase.py from crates/semver_ranges/src/rewriting.rt; not edited by hand.
 //! A range string as plain comparators: those of the sides of its terms.
+//!
+//! `rewrite` makes no `Checked`, for speed: with one, it took up to 15 % more instructions for a single
+//! term.
 
 use crate::rattle_std::prelude::*;
 use crate::proved::semver_ranges::checked::{first_term, survey};
@@ -15,7 +18,7 @@ use crate::rattle_std::AllocError;
 /// How the bounds of intervals are written.
 #[derive(Clone, Copy)]
 pub enum Style {
-    /// A raised upper bound has no pre-release, such as `<2.0.0`.
+    /// A raised upper bound has no pre-release, such as `<2.0.0`. Only the crate's dialects use it.
     Plain,
     /// A raised upper bound has the lowest pre-release, such as `<2.0.0-0`.
     Exact,
@@ -127,7 +130,8 @@ fn push(
 }
 
 /// Returns the comparator of a lower side. With `Lowest` it is right for all versions. Otherwise
-/// `Below` and `At` give the same one, which is right only for releases. `Err` means out of memory.
+/// those of `Below` and `Above` are right only for releases: they leave out the pre-releases of
+/// their numbers. `Err` means out of memory.
 #[inline(always)]
 fn lower_comparator(
     partial: &Partial<'_>,

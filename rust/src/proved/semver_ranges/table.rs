@@ -2,12 +2,13 @@
 //! The table with the sides of each term, between which its versions are, in each dialect.
 //!
 //! The numbers of a term have a block of versions: if there are one or two, all versions with these
-//! numbers, and if there are three, only that version. `<` contains the versions below the block,
-//! and `<=` those that aren't above it. `>=`, and the left side of a hyphen range, contain the
-//! versions that aren't below it. `>` contains those above it, or in the dialects of the crate
-//! those above its first version. `=` contains the block itself. `~` and `^` contain the versions
-//! from the beginning of the block to the last one that begins with the same one, two or three
-//! numbers. A term without an operator is read like `=` or like `^`.
+//! numbers (`beginning` says with which pre-releases), and if there are three, only that version.
+//! `<` contains the versions below the block, and `<=` those that aren't above it. `>=`, and the
+//! left side of a hyphen range, contain the versions that aren't below it. `>` contains those above
+//! it, or in the dialects of the crate those above its first version. `=` contains the block
+//! itself. `~` and `^` contain the versions from the beginning of the block to the last one with
+//! the same numbers up to a place. A term without an operator is read like `=`, or after three
+//! numbers in Cargo mode like `^`.
 
 use crate::rattle_std::prelude::*;
 use crate::proved::semver_ranges::dialect::Dialect;
@@ -57,8 +58,8 @@ pub fn sides(simple: &Simple<'_>, dialect: Dialect) -> (Option<Side>, Option<Sid
     }
 }
 
-/// Returns the sides for a term without a number. In Cargo's dialect such a term is written without
-/// an operator.
+/// Returns the sides for a term without a number. In Cargo's dialect it is a wildcard alone, which
+/// `Simple::of` reads as `=`. In the others, no release satisfies `<*` and `>*`.
 #[inline(always)]
 fn sides_of_nothing(
     operator: Operator,
@@ -76,9 +77,10 @@ fn sides_of_nothing(
 ///
 /// - In the dialects of the crate it begins at the zero-filled version.
 /// - For Cargo and npm, a block of fewer than three numbers begins below all pre-releases with
-///   these numbers, except with Cargo's `<` and npm's `~`. A block of three numbers begins at the
-///   version.
-/// - For npm, `^0.2.3` and `0.2.3 - 1` begin below all pre-releases of 0.2.3, too.
+///   these numbers, except with Cargo's `<` and npm's `~` after one or two numbers. A block of
+///   three numbers begins at the version.
+/// - For npm, `^0.2.3` and the left side of any hyphen range begin below all pre-releases of their
+///   numbers, too, if they have no pre-release.
 #[inline(always)]
 fn beginning(simple: &Simple<'_>, dialect: Dialect) -> Side {
     let partial = &simple.partial;

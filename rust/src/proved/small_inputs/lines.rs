@@ -5,9 +5,9 @@
 use crate::rattle_std::prelude::*;
 use crate::proved::small_inputs::checksum::Checksum;
 use crate::proved::release_filter::{LineEnd, LineOptions, Lines, LinesError, Selection};
+use crate::proved::semver_ranges::dialect::Dialect;
 use crate::rattle_std::io;
 use crate::rattle_std::io::Write;
-use crate::proved::semver_ranges::dialect::Dialect;
 use crate::proved::tool_ranges::meaning::Rules;
 use crate::proved::tool_ranges::version_range::VersionRange;
 use crate::proved::version_sets::PreReleases;

@@ -10,13 +10,12 @@ use crate::proved::range_terms::terms::Terms;
 use crate::proved::release_filter::{filter_text, release_meets, version_meets};
 use crate::proved::semver_parser::version::{self, Version, VersionRef};
 use crate::proved::semver_parser::{Compat, RangeError, RangeSet, report};
+use crate::proved::semver_ranges::dialect::Dialect;
 use crate::rattle_std::AllocError;
 use crate::rattle_std::io;
 use crate::rattle_std::io::Write;
-use crate::proved::semver_ranges::dialect::Dialect;
-use crate::proved::tool_ranges::rewriting;
 use crate::proved::tool_ranges::meaning::{Rules, check};
-use crate::proved::tool_ranges::npm;
+use crate::proved::tool_ranges::{npm, rewriting};
 use crate::proved::version_sets::PreReleases;
 
 pub const DIALECTS: [Dialect; 4] = [

@@ -1,6 +1,7 @@
 // Made by tools/erase.py from crates/tool_ranges/src/lib.rt; not edited by hand.
-//! Ranges as Cargo and npm themselves read them, and as the two modes of the crate `semver-parser`
-//! do, which differs from both.
+//! What a range means in each dialect: which versions satisfy it, their set, and its comparators.
+//! The dialects are those of Cargo and npm themselves, and the two modes of the crate
+//! `semver-parser`, which differ from both.
 
 use crate::rattle_std::prelude::*;
 pub mod at_or_above;

@@ -1,5 +1,5 @@
 // Made by tools/erase.py from crates/tool_ranges/src/reading.rt; not edited by hand.
-//! The events of a range string in each dialect. Nothing here allocates.
+//! The events of a range string in each dialect, and the check of a string. Nothing here allocates.
 
 use crate::rattle_std::prelude::*;
 use crate::proved::tool_ranges::cargo::has_few_commas;
@@ -24,7 +24,8 @@ pub(crate) fn events_of(text: &str, dialect: Dialect) -> Result<Events<'_>, Rang
     }
 }
 
-/// Returns whether a string has only characters and commas that a range may have.
+/// Returns whether a string keeps the rule of its dialect about whole strings: Cargo's about the
+/// number of commas, and npm's about characters beyond ASCII.
 #[inline(always)]
 fn may_be_a_range(text: &str, dialect: Dialect) -> bool {
     match dialect {

@@ -1,5 +1,5 @@
 // Made by tools/erase.py from crates/tool_ranges/src/rewriting.rt; not edited by hand.
-//! A range in each dialect as plain comparators with exact bounds.
+//! A range in each dialect as plain comparators.
 
 use crate::rattle_std::prelude::*;
 use crate::proved::tool_ranges::reading::events_of;

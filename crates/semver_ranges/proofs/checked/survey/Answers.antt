@@ -1,4 +1,4 @@
-use Rattle.std.proofs.Common.{◌≡◌, Some, None, Option, List, [], Err, refl, ap, ◌∙◌, rules}
+use Rattle.std.proofs.Common.{◌≡◌, Some, Option, List, [], Err, refl, ap, ◌∙◌, rules}
 use Rattle.semver_ranges.specs.Steps.RangeEvents.{Event}
 use Rattle.semver_ranges.specs.DialectTable.{grammar_of}
 use Rattle.semver_ranges.specs.Steps.CursorViews.{Gives, HasLeft}

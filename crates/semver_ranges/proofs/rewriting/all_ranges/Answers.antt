@@ -1,13 +1,11 @@
-use Rattle.std.proofs.Common.{◌≡◌, ◌++◌, true, Some, None, Option, List, [], map, sym, ap, ◌∙◌, rules}
+use Rattle.std.proofs.Common.{◌≡◌, ◌++◌, Some, Option, List, [], map, sym, ap, ◌∙◌, rules}
 use Rattle.std.proofs.lemmas.Bool.{and_parts}
-use Rattle.std.specs.List.{list_all}
 use Rattle.semver_ranges.specs.DialectTable.{grammar_of, mode_of}
 use Rattle.semver_ranges.specs.RangeViews.{comparator_of, range_of}
-use Rattle.semver_ranges.specs.Sides.{term_fits}
 use Rattle.semver_ranges.specs.TermComparators.{printed_term}
 use Rattle.semver_ranges.specs.Steps.Answers.{ranges_by}
 use Rattle.semver_ranges.specs.Steps.CursorViews.{Gives, HasLeft}
-use Rattle.semver_ranges.specs.Steps.RangeEvents.{Event, event_fits}
+use Rattle.semver_ranges.specs.Steps.RangeEvents.{Event}
 use Rattle.semver_ranges.proofs.EventSums.{range_ended, text_ended}
 use Rattle.semver_ranges.proofs.FoundEvents.{NextSimple, next_bars, next_simple}
 use Rattle.semver_ranges.proofs.rewriting.all_ranges.Goals as goal

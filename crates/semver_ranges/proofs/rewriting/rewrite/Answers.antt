@@ -1,18 +1,14 @@
-use Rattle.std.proofs.Common.{◌≡◌, Bool, Option, Some, Err, Ok, List, [], ◌∷◌, true, ◌∙◌, map, sym, subst, rules}
+use Rattle.std.proofs.Common.{◌≡◌, Bool, Option, Some, Err, Ok, List, [], ◌∷◌, ◌∙◌, sym, subst, rules}
 use Rattle.std.proofs.lemmas.Bool.{and_parts}
-use Rattle.std.specs.List.{list_all}
 use Rattle.semver_texts.specs.Texts.{Text}
-use Rattle.semver_ranges.specs.DialectTable.{grammar_of, mode_of}
-use Rattle.semver_ranges.specs.RangeViews.{range_of}
-use Rattle.semver_ranges.specs.Sides.{term_fits}
-use Rattle.semver_ranges.specs.TermComparators.{printed_term}
+use Rattle.semver_ranges.specs.DialectTable.{grammar_of}
 use Rattle.semver_ranges.specs.declared.range_set.RangeError.{RangeError}
 use Rattle.semver_ranges.specs.declared.range_set.RangeError.TheVariants.{NotARange, NumberTooLarge, OutOfMemory}
 use Rattle.semver_ranges.specs.RangeTree.{Simple}
 use Rattle.semver_ranges.specs.Steps.Answers.{IsInvalidBy, IsRefusalBy}
 use Rattle.semver_ranges.specs.Steps.Checked.{FindsFirst, IsSurveyed}
 use Rattle.semver_ranges.specs.Steps.CursorViews.{IsBegunIn}
-use Rattle.semver_ranges.specs.Steps.RangeEvents.{Event, event_fits, events, one_simple}
+use Rattle.semver_ranges.specs.Steps.RangeEvents.{Event, events, one_simple}
 use Rattle.semver_ranges.proofs.CheckedEvents.{begun_left, only, refused, surveyed}
 use Rattle.semver_ranges.proofs.FitCells.{read_fits}
 use Rattle.semver_ranges.proofs.rewriting.rewrite.Goals as goal
