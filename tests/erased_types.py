@@ -64,7 +64,7 @@ KNOWN = {
     'T as PartialOrd': 'ge', 'T as Read': 'read', 'T as Write': 'flush write write_all write_fmt',
     'TakeWhile as Iterator': 'count', 'Utf8Error': 'valid_up_to',
     # `extend` is from `fallible_vec!`, which has allocated.
-    'Vec': 'as_mut_slice as_slice clear is_empty len new pop truncate', 'Vec as Deref': 'deref',
+    'Vec': 'as_mut_slice as_slice clear into_boxed_slice is_empty len new pop truncate', 'Vec as Deref': 'deref',
     'Vec as DerefMut': 'deref_mut', 'Vec as Extend': 'extend', 'Vec as Index': 'index',
     'Vec as IndexMut': 'index_mut',
     'Zip as IntoIterator': 'into_iter', 'Zip as Iterator': 'all next',

@@ -16,7 +16,7 @@ UNKNOWN = {'unsafe', 'extern', 'static', 'macro_rules', 'async', 'await', 'isize
 
 # Imports from crates that aren't in this repository.
 IMPORTS = set('''
-    std::alloc::AllocError std::alloc::Global std::cmp::Ordering std::env std::fmt
+    std::alloc::AllocError std::alloc::Global std::boxed::BoxedSlice std::cmp::Ordering std::env std::fmt
     std::fmt::Display std::fmt::Formatter std::fmt::Write std::fs std::hash::Hash
     std::hash::Hasher std::io std::io::BufRead
     std::io::BufReader std::io::BufWriter std::io::ErrorKind std::io::IsTerminal std::io::Read
@@ -33,7 +33,7 @@ CASTS = {'u8', 'u32', 'u64'}
 
 # Names that rules know, or that are in both preludes: nothing else may have them.
 KNOWN = NUMBERS | set('''
-    AllocError AllocGlobal AsMut AsRef Box BufReader BufWriter Clone Copy Default Drop Eprint Eq Err
+    AllocError AllocGlobal AsMut AsRef Box BoxedSlice BufReader BufWriter Clone Copy Default Drop Eprint Eq Err
     ErrorKind ExitCode Extend FallibleClone Fn FnMut FnOnce Formatter From FromIterator Global
     HostRuntime Into IntoIterator Iterator Model None Ok Option Ord Ordering PartialEq PartialOrd
     Print Result Sized Some String ToOwned ToString TryFrom TryInto Vec Write alloc bool char cmp

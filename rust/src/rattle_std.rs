@@ -385,6 +385,10 @@ pub mod io {
     }
 }
 
+pub mod boxed {
+    pub type BoxedSlice<T> = alloc::boxed::Box<[T]>;
+}
+
 /// The names that each erased file has in scope.
 pub mod prelude {
     #[cfg(feature = "std")]

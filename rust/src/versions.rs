@@ -6,7 +6,6 @@ use crate::proved::semver_texts::grammar::Digits;
 use crate::proved::semver_versions::version::read_ref_in;
 use crate::{version, Dialect, Error, Version, VersionRef};
 use alloc::string::String;
-use alloc::vec::Vec;
 use core::str::FromStr;
 
 impl Version {
@@ -19,7 +18,7 @@ impl Version {
     /// ```
     #[must_use]
     pub const fn new(major: u64, minor: u64, patch: u64) -> Version {
-        Version { major, minor, patch, parts: Vec::new(), pre_len: 0 }
+        Version { major, minor, patch, parts: None, pre_len: 0 }
     }
 
     /// Reads a version in a dialect.

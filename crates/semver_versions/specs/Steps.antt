@@ -1,3 +1,4 @@
 pub mod Reading
 pub mod OrderLaws
 pub mod SameParts
+pub mod Owned

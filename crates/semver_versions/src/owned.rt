@@ -2,15 +2,18 @@
 
 ghost use Rattle.std.specs.Prelude.{◌≡◌, ◌++◌, ◌⊎◌, ◌<◌, IfOk, IfErr, length};
 ghost use Rattle.std.specs.Prelude.{◌↔◌, Some, not, true};
+ghost use Rattle.std.specs.Box.{boxed_slice_items};
 ghost use Rattle.std.specs.Ordering.{eq_by_cmp};
 ghost use Rattle.semver_texts.specs.Precedence.{precedence};
 ghost use Rattle.semver_texts.specs.Texts.{is_empty};
 ghost use Rattle.semver_texts.specs.declared.grammar.Digits.TheVariants.{AnySize};
+ghost use Rattle.semver_versions.specs.Steps.Owned.{part_bytes};
 ghost use Rattle.semver_versions.specs.VersionOrder.{HaveSameParts, order, semver_of};
 
 use crate::version_ref::VersionRef;
 use semver_texts::grammar::Digits;
 use std::alloc::{AllocError, Global};
+use std::boxed::BoxedSlice;
 use std::cmp::Ordering;
 use std::fmt;
 use std::hash::{Hash, Hasher};
@@ -36,9 +39,10 @@ pub struct Version {
     pub(crate) major: u64,
     pub(crate) minor: u64,
     pub(crate) patch: u64,
-    /// The bytes of the pre-release, and then those of the build metadata. They aren't a `String`,
-    /// whose bytes would have to be checked for UTF-8 when a version is read.
-    pub(crate) parts: Vec<u8>,
+    /// The bytes of the pre-release, and then those of the build metadata, if there are any. They
+    /// aren't a `String`, whose bytes would have to be checked for UTF-8 when a version is read, and
+    /// no `Vec`, which would make versions longer and so slower to sort.
+    pub(crate) parts: Option<BoxedSlice<u8>>,
     pub(crate) pre_len: usize,
 }
 
@@ -168,7 +172,11 @@ impl Version {
     pub fn as_version_ref(&self) -> VersionRef<'_>
         ensures { result ≡ self.now }
     {
-        let (pre, build) = self.parts.as_slice().split_at(self.pre_len);
+        let parts: &[u8] = match &self.parts {
+            Some(parts) => parts,
+            None => &[],
+        };
+        let (pre, build) = parts.split_at(self.pre_len);
         VersionRef {
             major: self.major,
             minor: self.minor,
@@ -186,6 +194,7 @@ impl Model for Version {
     ghost use Rattle.std.specs.Prelude.{◌≤◌, drop, length, take};
     ghost use Rattle.semver_texts.specs.declared.grammar.Digits.TheVariants.{AnySize};
     ghost use Rattle.semver_versions.specs.VersionRefs.{VersionRefValue};
+    ghost use Rattle.semver_versions.specs.Steps.Owned.{part_bytes};
     ghost use Rattle.semver_versions.specs.Steps.Reading.{ArePartTexts};
 
     ghost Value = { VersionRefValue };
@@ -194,16 +203,16 @@ impl Model for Version {
       major = o.major;
       minor = o.minor;
       patch = o.patch;
-      pre = take o.pre_len o.parts.items;
-      build = drop o.pre_len o.parts.items;
+      pre = take o.pre_len (part_bytes o.parts);
+      build = drop o.pre_len (part_bytes o.parts);
       pre_offset = 0;
       build_offset = 0;
       digits = AnySize;
     } };
 
-    ghost invariant = { λ o. (o.pre_len ≤ length o.parts.items)
-        × (ArePartTexts (take o.pre_len o.parts.items)
-        × ArePartTexts (drop o.pre_len o.parts.items)) };
+    ghost invariant = { λ o. (o.pre_len ≤ length (part_bytes o.parts))
+        × (ArePartTexts (take o.pre_len (part_bytes o.parts))
+        × ArePartTexts (drop o.pre_len (part_bytes o.parts))) };
 }
 
 // Determined by: equation.
@@ -313,28 +322,28 @@ impl<'t> VersionRef<'t> {
 
     /// Returns the bytes of the pre-release, and then those of the build metadata.
     #[inline(always)]
-    fn joined(&self, alloc: Global) -> Result<Vec<u8>, AllocError>
-        ensures joined { IfOk result (λ parts. parts.items ≡ self.now.pre ++ self.now.build) }
+    fn joined(&self, alloc: Global) -> Result<Option<BoxedSlice<u8>>, AllocError>
+        ensures joined { IfOk result (λ parts. part_bytes parts ≡ self.now.pre ++ self.now.build) }
         ensures out_of_memory { IfErr result
             (λ _. (0 < length self.now.pre) ⊎ (0 < length self.now.build)) }
     {
         if self.pre.is_empty() && self.build.is_empty() {
-            return Ok(Vec::new(alloc));
+            return Ok(None);
         }
-        joined(alloc, self.pre, self.build)
+        Ok(Some(joined(alloc, self.pre, self.build)?))
     }
 }
 
 /// Returns the bytes of both slices in one list. It is compiled separately, for speed: most
 /// versions have no identifiers.
 #[inline(never)]
-fn joined(alloc: Global, first: &[u8], second: &[u8]) -> Result<Vec<u8>, AllocError>
-    ensures { IfOk result (λ bytes. bytes.items ≡ first.now ++ second.now) }
+fn joined(alloc: Global, first: &[u8], second: &[u8]) -> Result<BoxedSlice<u8>, AllocError>
+    ensures { IfOk result (λ bytes. boxed_slice_items bytes ≡ first.now ++ second.now) }
 {
     let mut bytes = Vec::with_capacity(alloc, first.len().saturating_add(second.len()))?;
     bytes.extend_from_slice(first)?;
     bytes.extend_from_slice(second)?;
-    Ok(bytes)
+    Ok(bytes.into_boxed_slice())
 }
 
 // Determined by: equation.

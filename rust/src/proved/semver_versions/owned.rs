@@ -5,6 +5,7 @@ use crate::rattle_std::prelude::*;
 use crate::proved::semver_versions::version_ref::VersionRef;
 use crate::proved::semver_texts::grammar::Digits;
 use crate::rattle_std::AllocError;
+use crate::rattle_std::boxed::BoxedSlice;
 use crate::rattle_std::cmp::Ordering;
 use crate::rattle_std::fmt;
 use crate::rattle_std::hash::{Hash, Hasher};
@@ -29,9 +30,10 @@ pub struct Version {
     pub(crate) major: u64,
     pub(crate) minor: u64,
     pub(crate) patch: u64,
-    /// The bytes of the pre-release, and then those of the build metadata. They aren't a `String`,
-    /// whose bytes would have to be checked for UTF-8 when a version is read.
-    pub(crate) parts: Vec<u8>,
+    /// The bytes of the pre-release, and then those of the build metadata, if there are any. They
+    /// aren't a `String`, whose bytes would have to be checked for UTF-8 when a version is read, and
+    /// no `Vec`, which would make versions longer and so slower to sort.
+    pub(crate) parts: Option<BoxedSlice<u8>>,
     pub(crate) pre_len: usize,
 }
 
@@ -135,7 +137,11 @@ impl Version {
     #[must_use]
     #[inline(always)]
     pub fn as_version_ref(&self) -> VersionRef<'_> {
-        let (pre, build) = self.parts.as_slice().split_at(self.pre_len);
+        let parts: &[u8] = match &self.parts {
+            Some(parts) => parts,
+            None => &[],
+        };
+        let (pre, build) = parts.split_at(self.pre_len);
         VersionRef {
             major: self.major,
             minor: self.minor,
@@ -208,22 +214,22 @@ impl<'t> VersionRef<'t> {
 
     /// Returns the bytes of the pre-release, and then those of the build metadata.
     #[inline(always)]
-    fn joined(&self) -> Result<Vec<u8>, AllocError> {
+    fn joined(&self) -> Result<Option<BoxedSlice<u8>>, AllocError> {
         if self.pre.is_empty() && self.build.is_empty() {
-            return Ok(Vec::new());
+            return Ok(None);
         }
-        joined(self.pre, self.build)
+        Ok(Some(joined(self.pre, self.build)?))
     }
 }
 
 /// Returns the bytes of both slices in one list. It is compiled separately, for speed: most
 /// versions have no identifiers.
 #[inline(never)]
-fn joined(first: &[u8], second: &[u8]) -> Result<Vec<u8>, AllocError> {
+fn joined(first: &[u8], second: &[u8]) -> Result<BoxedSlice<u8>, AllocError> {
     let mut bytes = Vec::fallible_with_capacity(first.len().saturating_add(second.len()))?;
     bytes.fallible_extend_from_slice(first)?;
     bytes.fallible_extend_from_slice(second)?;
-    Ok(bytes)
+    Ok(bytes.into_boxed_slice())
 }
 
 impl fmt::Display for Version {
