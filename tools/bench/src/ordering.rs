@@ -1,4 +1,4 @@
-//! Compares and sorts versions that were parsed before.
+//! Compares, sorts and clones versions that were parsed before.
 
 use crate::generation::Make;
 use crate::texts::COUNT;
@@ -10,14 +10,15 @@ pub struct Parsed {
     semver: Vec<semver::Version>,
 }
 
-/// Compares or sorts versions. Returns a number that depends on their order.
+/// Compares, sorts or clones versions. Returns a number that depends on the result.
 pub type Call = fn(&Parsed) -> u64;
 
 /// Rows: a title, and the calls that are compared.
-pub const ROWS: [(&str, Call, Call); 3] = [
+pub const ROWS: [(&str, Call, Call); 4] = [
     ("comparing two versions", compared_here, compared_by_semver),
     ("sorting references to 1,000 versions", sorted_here, sorted_by_semver),
-    ("cloning and sorting 1,000 versions", cloned_here, cloned_by_semver),
+    ("cloning 1,000 versions", cloned_here, cloned_by_semver),
+    ("cloning and sorting 1,000 versions", sorted_clones_here, sorted_clones_by_semver),
 ];
 
 /// Parses versions, plain and with identifiers, in groups of 1,000. Checks that both sides put each
@@ -69,12 +70,21 @@ fn sorted_by_semver(parsed: &Parsed) -> u64 {
     middle(parsed.semver.iter().collect()).major
 }
 
-/// Returns the major of the version in the middle.
+/// Returns the major of the last version.
 fn cloned_here(parsed: &Parsed) -> u64 {
-    middle(parsed.here.clone()).major()
+    parsed.here.clone().last().map_or(0, |version| version.major())
 }
 
 fn cloned_by_semver(parsed: &Parsed) -> u64 {
+    parsed.semver.clone().last().map_or(0, |version| version.major)
+}
+
+/// Returns the major of the version in the middle.
+fn sorted_clones_here(parsed: &Parsed) -> u64 {
+    middle(parsed.here.clone()).major()
+}
+
+fn sorted_clones_by_semver(parsed: &Parsed) -> u64 {
     middle(parsed.semver.clone()).major
 }
 
