@@ -108,7 +108,7 @@ some_lines | "$program" small > "$work/some"
 }
 [ $# = 0 ] || compare "$1"
 changes semver_versions/reader.rs 'patch <= MAX_SAFE_INTEGER' 'patch < MAX_SAFE_INTEGER'
-changes tool_ranges/table.rs '(place) < most' '(place) <= most'
+changes semver_ranges/table.rs '(place) < most' '(place) <= most'
 changes version_sets/boundaries.rs 'borrowed, digits).is_ge()' 'borrowed, digits).is_gt()'
 changes release_filter/line_texts.rs "LineFeed => b'\n'" "LineFeed => b'\r'"
 echo 'small inputs: passed, and 4 edits were found'

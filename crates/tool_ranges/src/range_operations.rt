@@ -1,4 +1,4 @@
-//! Set operations on ranges with the same meaning, and comparisons.
+//! Set operations on ranges with the same meaning, comparisons, and hashes.
 
 ghost use Rattle.std.specs.Prelude.{◌≡◌, ◌≢◌, ◌↔◌, Err, IfOk, false, true};
 ghost use Rattle.semver_texts.specs.Versions.{PlainVersion};

@@ -42,7 +42,7 @@ pub fn from_str(alloc: Global) -> Ending {
     }
 }
 
-/// Reads nine ranges: the sizes of eight are remembered, and capacity for the ninth is guessed.
+/// Reads nine ranges, of which the last has more comparators than the others.
 pub fn ninth_range(alloc: Global) -> Ending {
     parse_text(
         alloc,

@@ -1,5 +1,5 @@
 // Made by tools/erase.py from crates/tool_ranges/src/range_operations.rt; not edited by hand.
-//! Set operations on ranges with the same meaning, and comparisons.
+//! Set operations on ranges with the same meaning, comparisons, and hashes.
 
 use crate::rattle_std::prelude::*;
 use crate::proved::tool_ranges::version_range::VersionRange;

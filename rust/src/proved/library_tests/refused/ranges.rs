@@ -44,7 +44,7 @@ pub fn from_str() -> Ending {
     }
 }
 
-/// Reads nine ranges: the sizes of eight are remembered, and capacity for the ninth is guessed.
+/// Reads nine ranges, of which the last has more comparators than the others.
 pub fn ninth_range() -> Ending {
     parse_text(
         "<1||<2||<3||<4||<5||<6||<7||<8||1 2 3",
