@@ -15,10 +15,11 @@ use Rattle.semver_ranges.specs.declared.operator.Operator.TheVariants.{LessOrEqu
 use Rattle.semver_ranges.specs.RangeTree.{components, SetTree}
 use Rattle.semver_ranges.specs.TextItems.{FoundWord, Item, one_term}
 use Rattle.semver_ranges.specs.declared.dialect.Dialect.{Dialect}
+use Rattle.semver_ranges.specs.CargoGrammar.{read_in}
 use Rattle.semver_ranges.specs.DialectTable.{limit}
 use Rattle.tool_ranges.specs.Dialects.{SpellsAs}
 use Rattle.semver_ranges.specs.DialectTable.{grammar_of}
-use Rattle.tool_ranges.specs.FittingTerms.{read_in, too_large}
+use Rattle.tool_ranges.specs.FittingTerms.{too_large}
 use Rattle.tool_ranges.specs.SpelledItems.{items_in}
 use Rattle.invalid_strings.specs.Reasons.{bound_too_large_in, too_large_in}
 use Rattle.invalid_strings.specs.declared.reasons.Reason.{Reason}
@@ -41,7 +42,7 @@ number_begin n v k = n - length (without_v v.from) + component_begin k (componen
 -- the offset of the number that is too large in a version after an operator, if they don't fit
 abbrev pub offset_in : Dialect → ℕ → Operator → FoundWord → Option ℕ
 offset_in d n operator v = option_map (number_begin n v)
-    (too_large d (read_in d (record { operator = operator; partial = v.partial })))
+    (too_large d (read_in (grammar_of d) (record { operator = operator; partial = v.partial })))
 
 -- such an offset in a term. The right side of a hyphen range is read as a term with `<=`
 abbrev pub offset_in_term : Dialect → ℕ → Operator → FoundWord → Option FoundWord → Option ℕ

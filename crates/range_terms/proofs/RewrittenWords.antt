@@ -22,7 +22,8 @@ use Rattle.range_terms.specs.declared.term.Span.{Span}
 use Rattle.range_terms.specs.RewrittenVersions.{text_with}
 use Rattle.range_terms.specs.Rewriting as rewriting
 use Rattle.range_terms.specs.WrittenTerms.{component_of, version_of}
-use Rattle.range_terms.specs.WrittenTexts.{component_text, part_text}
+use Rattle.semver_versions.specs.VersionOrder.{part_text}
+use Rattle.range_terms.specs.WrittenTexts.{component_text}
 
 -- a component with another number, a partial version with the numbers and the pre-release of
 -- another version, and the text of this partial version

@@ -3,6 +3,7 @@ use Prim.Native.Char.{code}
 use Rattle.std.specs.Prelude.{if◌then◌else◌, Option, Some, None, [], ◌∷◌, ◌++◌, decimal, codes}
 use Rattle.std.specs.Prelude.{encode_utf8}
 use Rattle.semver_texts.specs.Texts.{Text}
+use Rattle.semver_versions.specs.VersionOrder.{part_text}
 use Rattle.range_terms.specs.declared.term.Component.{Component}
 use Rattle.range_terms.specs.declared.term.Component.TheVariants.{Number, Wildcard}
 use Rattle.range_terms.specs.WrittenTerms.{WrittenVersion}
@@ -16,11 +17,6 @@ component_text (Wildcard c) = encode_utf8 c
 abbrev pub dot_text : Option Component → Text
 dot_text None = []
 dot_text (Some c) = code "." ∷ component_text c
-
--- a pre-release or build metadata after its mark, if there is any
-abbrev pub part_text : Text → Text → Text
-part_text mark [] = []
-part_text mark (b ∷ t) = mark ++ (b ∷ t)
 
 -- the text of a version: its `v`, its components separated by dots, its pre-release and its build
 -- metadata

@@ -4,7 +4,8 @@ ghost use Rattle.std.specs.Prelude.{◌≡◌, option_map};
 ghost use Rattle.std.specs.Fmt.{WritesOnOk};
 ghost use Rattle.range_terms.specs.Rewriting.{component_with, states_three, with_version};
 ghost use Rattle.range_terms.specs.WrittenTerms.{version_value};
-ghost use Rattle.range_terms.specs.WrittenTexts.{dot_text, part_text};
+ghost use Rattle.semver_versions.specs.VersionOrder.{part_text};
+ghost use Rattle.range_terms.specs.WrittenTexts.{dot_text};
 
 use semver_ranges::operator::Operator;
 use semver_versions::version::VersionRef;

@@ -33,8 +33,8 @@ pub record PlainSet : Type 0 where
   pub ranges : List PlainRange
   pub compat : Compat
 
--- a desugared term, which is a cell of the table: z is the zero-filled version, and up(k) has the
--- first k stated numbers with the k-th raised by one, and then zeros
+-- a cell of the table, which says what a term becomes: z is the zero-filled version, and up(k) has
+-- the first k stated numbers with the k-th raised by one, and then zeros
 pub data Cell : Type 0 where
   from_zero : Cell  -- `>=0.0.0`
   below_zero : Cell  -- `<0.0.0`

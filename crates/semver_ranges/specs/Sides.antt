@@ -12,9 +12,6 @@ use Rattle.semver_ranges.specs.declared.operator.Operator.TheVariants.{GreaterOr
 use Rattle.semver_ranges.specs.declared.operator.Operator.TheVariants.{Hyphen}
 use Rattle.semver_ranges.specs.RangeTree.{Simple}
 use Rattle.semver_ranges.specs.Partials.{leading_place, stated, zero_filled}
-use Rattle.semver_ranges.specs.declared.table.Side.{Side}
-use Rattle.semver_ranges.specs.declared.table.Side.TheVariants.{Below, At, Past, Above}
-use Rattle.semver_ranges.specs.Steps.PartialViews.{place_number}
 use Rattle.semver_ranges.specs.declared.dialect.Dialect.{Dialect}
 use Rattle.semver_ranges.specs.declared.dialect.Dialect.TheVariants.{Cargo, Npm, CrateCargo}
 use Rattle.semver_ranges.specs.declared.dialect.Dialect.TheVariants.{CrateNpm}
@@ -27,12 +24,6 @@ pub data SideValue : Type 0 where
   at : SideValue
   past : SideValue
   above : ℕ → SideValue
-
-abbrev pub side_value : Side → SideValue
-side_value Below = below
-side_value At = at
-side_value Past = past
-side_value (Above place) = above (place_number place)
 
 -- the versions that have the stated numbers are a block. This is the side at which it begins. In
 -- the crate's dialects it is directly below the zero-filled version. In the others, with fewer than

@@ -1,7 +1,7 @@
 //! A range string as plain comparators: those of the sides of its terms.
 //!
-//! `rewrite` makes no `Checked`, for speed: with one, it took up to 15 % more instructions for a single
-//! term.
+//! `rewrite` makes no `Checked`, for speed: with one, it took up to 15 % more instructions for a
+//! single term.
 
 ghost use Rattle.std.specs.Prelude.{◌≡◌, ◌++◌, ◌^◌, ◌-◌, ◌∷◌, [], List, Some, IfOk, map, true};
 ghost use Rattle.std.specs.List.{list_all};
@@ -11,12 +11,13 @@ ghost use Rattle.semver_ranges.specs.DialectTable.{grammar_of, mode_of};
 ghost use Rattle.semver_ranges.specs.RangeTree.{Simple as SimpleTree};
 ghost use Rattle.semver_ranges.specs.RangeViews.{comparator_of, identifier_of, range_of};
 ghost use Rattle.semver_ranges.specs.RewritingTable.{comparator, with_pre_release};
-ghost use Rattle.semver_ranges.specs.Sides.{may_rise, side_value, term_fits};
+ghost use Rattle.semver_ranges.specs.Sides.{may_rise, term_fits};
 ghost use Rattle.semver_ranges.specs.TermComparators.{lower_comparator, pre_of, printed_term};
 ghost use Rattle.semver_ranges.specs.TermComparators.{upper_comparator};
 ghost use Rattle.semver_ranges.specs.Steps.Answers.{IsAnswerBy, ranges_by};
 ghost use Rattle.semver_ranges.specs.Steps.CursorViews.{HasLeft, IsBegunIn, IsSimpleOf};
 ghost use Rattle.semver_ranges.specs.Steps.PartialViews.{PartsPass, of_numbers, version_of};
+ghost use Rattle.semver_ranges.specs.Steps.PartialViews.{side_value};
 ghost use Rattle.semver_ranges.specs.Steps.RangeEvents.{Event as SomeEvent, event_fits, events};
 ghost use Rattle.semver_ranges.specs.Steps.RangeEvents.{one_simple};
 

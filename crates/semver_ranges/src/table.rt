@@ -13,9 +13,9 @@ ghost use Rattle.std.specs.Prelude.{◌≡◌, ◌&&◌, not, option_map};
 ghost use Rattle.semver_texts.specs.Texts.{is_empty};
 ghost use Rattle.semver_texts.specs.Versions.{numbers};
 ghost use Rattle.semver_ranges.specs.DialectTable.{limit};
-ghost use Rattle.semver_ranges.specs.Sides.{block_begins, ends_past, may_rise, side_value, sides};
+ghost use Rattle.semver_ranges.specs.Sides.{block_begins, ends_past, may_rise, sides};
 ghost use Rattle.semver_ranges.specs.Sides.{sides_fit, sides_of_nothing};
-ghost use Rattle.semver_ranges.specs.Steps.PartialViews.{stated_of, version_of};
+ghost use Rattle.semver_ranges.specs.Steps.PartialViews.{side_value, stated_of, version_of};
 
 use crate::dialect::Dialect;
 use crate::grammar::Simple;

@@ -1,9 +1,5 @@
 -- npm's limits, with their names in node-semver 7.
-use Rattle.std.specs.Prelude.{ℕ, ◌-◌, ◌^◌, Bool, nat_le}
-
--- whether a number is at most 2^53 - 1, which is JavaScript's `Number.MAX_SAFE_INTEGER`
-abbrev pub is_safe : ℕ → Bool
-is_safe n = nat_le n (2 ^ 53 - 1)
+use Rattle.std.specs.Prelude.{ℕ, ◌-◌}
 
 -- the largest number of characters in a version: `MAX_LENGTH`
 abbrev pub max_length : ℕ

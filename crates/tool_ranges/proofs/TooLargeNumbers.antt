@@ -4,17 +4,16 @@ use Rattle.std.specs.List.{list_all}
 use Rattle.std.specs.Str.Parse.{digits_value}
 use Rattle.semver_texts.proofs.Lists.{by_test}
 use Rattle.semver_texts.specs.Texts.{is_empty}
+use Rattle.semver_texts.specs.declared.grammar.Grammar.{Grammar}
 use Rattle.semver_ranges.specs.declared.partial.Component.{Component}
 use Rattle.semver_ranges.specs.declared.partial.Component.TheVariants.{Number}
 use Rattle.semver_ranges.specs.RangeTree.{PartialTree, Simple, is_wildcard, one, two, three}
 use Rattle.semver_ranges.specs.Partials.{stated, zero_filled}
 use Rattle.semver_ranges.specs.Steps.PartialViews.{AreComponentsOf, IsValue}
-use Rattle.semver_ranges.specs.CargoGrammar.{read_in as read_as_in}
-use Rattle.semver_ranges.specs.DialectTable.{grammar_of}
+use Rattle.semver_ranges.specs.CargoGrammar.{is_cargo, read_in}
 use Rattle.semver_ranges.specs.declared.dialect.Dialect.{Dialect}
-use Rattle.semver_ranges.specs.declared.dialect.Dialect.TheVariants.{Cargo, Npm, CrateCargo, CrateNpm}
 use Rattle.semver_ranges.specs.DialectTable.{limit}
-use Rattle.tool_ranges.specs.FittingTerms.{first_above, read_in, too_large}
+use Rattle.tool_ranges.specs.FittingTerms.{first_above, too_large}
 use Rattle.semver_ranges.specs.Sides.{raised_index, sides, term_fits}
 
 -- if no number of a term is above the limit and the term doesn't fit, the raised number is too large
@@ -52,9 +51,6 @@ module _ (most : ℕ) (patch : Option Component) (x : Option ℕ) where
       (λ y. rw (is.0.0, is.1.0, y, small (digits_value 10 a) is.0.1, above (digits_value 10 b) is.1.1) refl)
       (λ n. rw (is.0.0, is.1.0, n, small (digits_value 10 a) is.0.1, above (digits_value 10 b) is.1.1) refl)
 
--- a term with the operator that a dialect reads is the one with the operator of its grammar
-pub same_read_in : (d : Dialect) (s : Simple) → read_as_in (grammar_of d) s ≡ read_in d s
-same_read_in Cargo s = refl
-same_read_in Npm s = refl
-same_read_in CrateCargo s = refl
-same_read_in CrateNpm s = refl
+-- a grammar reads another operator of a term, but no other numbers
+pub same_partial : (g : Grammar) (s : Simple) → (read_in g s).partial ≡ s.partial
+same_partial g s = by_test (is_cargo g) (λ cargo. rw cargo refl) (λ other. rw other refl)

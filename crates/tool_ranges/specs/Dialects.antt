@@ -12,13 +12,12 @@ use Rattle.semver_ranges.specs.RewritingTable.{PlainSet, fits_by, set_by}
 use Rattle.semver_ranges.specs.ExactBounds.{rewritten_exactly}
 use Rattle.version_sets.specs.declared.rules.PreReleases.TheVariants.{ByDialect}
 use Rattle.semver_ranges.specs.declared.rewriting.Style.TheVariants.{Exact}
-use Rattle.semver_ranges.specs.DialectTable.{mode_of}
+use Rattle.semver_ranges.specs.DialectTable.{grammar_of, mode_of}
 use Rattle.semver_ranges.specs.declared.dialect.Dialect.{Dialect}
 use Rattle.semver_ranges.specs.declared.dialect.Dialect.TheVariants.{Cargo, Npm, CrateCargo}
 use Rattle.semver_ranges.specs.declared.dialect.Dialect.TheVariants.{CrateNpm}
-use Rattle.semver_ranges.specs.CargoGrammar.{SpellsRequirement}
+use Rattle.semver_ranges.specs.CargoGrammar.{SpellsRequirement, read_in}
 use Rattle.tool_ranges.specs.CargoMeaning.{meets_requirement}
-use Rattle.tool_ranges.specs.FittingTerms.{read_in}
 use Rattle.tool_ranges.specs.NpmGrammar.{SpellsNpmRange}
 use Rattle.tool_ranges.specs.NpmMeaning.{meets_npm}
 use Rattle.semver_ranges.specs.Sides.{term_fits}
@@ -34,7 +33,7 @@ SpellsAs CrateNpm tree t = Spells tree t
 -- whether the numbers that a tree states, and those of its raised bounds, are at most 2^64 - 1, or
 -- at most 2^53 - 1 in npm's dialect
 abbrev pub fits_as : Dialect → SetTree → Bool
-fits_as dialect tree = fits_by (λ s. term_fits dialect (read_in dialect s)) tree
+fits_as dialect tree = fits_by (λ s. term_fits dialect (read_in (grammar_of dialect) s)) tree
 
 -- whether a release satisfies a tree
 abbrev pub means_release : Dialect → SetTree → PlainVersion → Bool
@@ -51,7 +50,7 @@ abbrev pub rewritten_as : Dialect → SetTree → PlainSet
 rewritten_as CrateCargo tree = rewritten_exactly compat.Cargo tree
 rewritten_as CrateNpm tree = rewritten_exactly compat.Npm tree
 rewritten_as dialect tree =
-    set_by (λ s. printed_term Exact dialect (read_in dialect s)) (mode_of dialect) tree
+    set_by (λ s. printed_term Exact dialect (read_in (grammar_of dialect) s)) (mode_of dialect) tree
 
 -- the set is the one that each tree of the text is rewritten to
 abbrev pub IsRewrittenAs : Dialect → Text → PlainSet → Type 0

@@ -1,26 +1,13 @@
--- The operator of a term that a dialect reads, and which number of a term is too large.
+-- Which number of a term is too large.
 use Rattle.std.specs.Prelude.{ℕ, not, if◌then◌else◌, List, nat_le}
 use Rattle.std.specs.Prelude.{Option, Some, None, unwrap_or}
 use Rattle.std.specs.List.{list_all, prefix_len}
 use Rattle.semver_texts.specs.Texts.{is_empty}
-use Rattle.semver_ranges.specs.declared.operator.Operator.{Operator}
 use Rattle.semver_ranges.specs.RangeTree.{Simple}
 use Rattle.semver_ranges.specs.Partials.{stated, zero_filled}
 use Rattle.semver_ranges.specs.declared.dialect.Dialect.{Dialect}
-use Rattle.semver_ranges.specs.declared.dialect.Dialect.TheVariants.{Cargo}
-use Rattle.semver_ranges.specs.CargoGrammar.{as_read}
 use Rattle.semver_ranges.specs.DialectTable.{limit}
 use Rattle.semver_ranges.specs.Sides.{raised_index, sides, term_fits}
-
--- the operator that the dialect reads, and a term with it
-abbrev pub operator_in : Dialect → Simple → Operator
-operator_in Cargo s = (as_read s).operator
-operator_in dialect s = s.operator
-
-abbrev pub read_in : Dialect → Simple → Simple
-read_in dialect s = record { operator = operator_in dialect s; partial = s.partial }
-
--- ---- the number that is too large
 
 -- the index of the first number above the limit, if there is one
 abbrev pub first_above : ℕ → List ℕ → Option ℕ

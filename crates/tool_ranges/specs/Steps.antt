@@ -6,7 +6,6 @@ pub mod Matching
 pub mod Building
 pub mod Reaching
 pub mod WidenedEvents
-pub mod NpmReading
 pub mod Printed
 pub mod SameRanges
 pub mod HashedRanges

@@ -5,9 +5,12 @@ ghost use Rattle.std.specs.List.{list_all};
 ghost use Rattle.semver_texts.specs.Texts.{cut_at_dots, is_part};
 ghost use Rattle.semver_ranges.specs.Partials.{stated};
 ghost use Rattle.semver_ranges.specs.RangeTree.{PartialTree, Simple as SimpleTree};
-ghost use Rattle.semver_ranges.specs.Sides.{above, raised_for, raised_index, side_value};
+ghost use Rattle.semver_ranges.specs.Sides.{above, raised_for, raised_index};
 ghost use Rattle.semver_ranges.specs.Steps.PartialViews.{AreWritten, IsValue, place_number};
-ghost use Rattle.tool_ranges.specs.FittingTerms.{first_above, read_in, too_large};
+ghost use Rattle.semver_ranges.specs.Steps.PartialViews.{side_value};
+ghost use Rattle.semver_ranges.specs.CargoGrammar.{read_in};
+ghost use Rattle.semver_ranges.specs.DialectTable.{grammar_of};
+ghost use Rattle.tool_ranges.specs.FittingTerms.{first_above, too_large};
 
 use semver_ranges::dialect::Dialect;
 use semver_ranges::grammar::Simple;
@@ -23,7 +26,7 @@ use semver_ranges::table::{Side, fits, limit, sides};
 pub fn too_large(operator: Operator, written: &Components<'_>, dialect: Dialect) -> Option<usize>
     requires { list_all is_part (cut_at_dots written.now.pre.now) ≡ true }
     ensures value { (s : SimpleTree) → operator ≡ s.operator → AreWritten s.partial written.now
-        → result ≡ too_large dialect (read_in dialect s) }
+        → result ≡ too_large dialect (read_in (grammar_of dialect) s) }
     ensures small { IfSome result (λ index. index < 3) }
 {
     let simple = Simple::of(operator, written, dialect.grammar());

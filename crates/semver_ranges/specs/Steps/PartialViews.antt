@@ -15,6 +15,9 @@ use Rattle.semver_ranges.specs.declared.partial.Place.{Place}
 use Rattle.semver_ranges.specs.declared.partial.Place.TheVariants.{Major, Minor, Patch}
 use Rattle.semver_ranges.specs.RangeTree.{PartialTree, one, two, three, is_wildcard}
 use Rattle.semver_ranges.specs.RangeTree.{build_parts, pre_parts}
+use Rattle.semver_ranges.specs.Sides.{SideValue, below, at, past, above}
+use Rattle.semver_ranges.specs.declared.table.Side.{Side}
+use Rattle.semver_ranges.specs.declared.table.Side.TheVariants.{Below, At, Past, Above}
 use Rattle.semver_texts.specs.Texts.{is_part}
 use Rattle.semver_texts.specs.Texts.{Text, cut_at_dots}
 use Rattle.semver_texts.specs.Versions.{PlainVersion}
@@ -40,12 +43,20 @@ version_of p =
       pre = map kept (cut_at_dots p.pre.now);
     }
 
--- the position of a number, counted from 1; and below, the number at a position
+-- the position of a number, counted from 1
 abbrev pub place_number : Place → ℕ
 place_number Major = 1
 place_number Minor = 2
 place_number Patch = 3
 
+-- the side that the code's table gives
+abbrev pub side_value : Side → SideValue
+side_value Below = below
+side_value At = at
+side_value Past = past
+side_value (Above place) = above (place_number place)
+
+-- the number at a position
 abbrev pub number_at : Place → Partial → ℕ
 number_at Major p = p.major
 number_at Minor p = p.minor

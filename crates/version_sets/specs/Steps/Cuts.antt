@@ -12,7 +12,8 @@ use Rattle.semver_texts.specs.declared.grammar.Digits.{Digits}
 use Rattle.semver_ranges.specs.Partials.{kept}
 use Rattle.version_sets.specs.declared.cut.Cut.{Cut}
 use Rattle.version_sets.specs.declared.cut.Interval.{Interval}
-use Rattle.semver_ranges.specs.Sides.{SideValue, below, at, past, above, side_value}
+use Rattle.semver_ranges.specs.Sides.{SideValue, below, at, past, above}
+use Rattle.semver_ranges.specs.Steps.PartialViews.{side_value}
 
 -- how the first n numbers of a version compare with those of another
 abbrev pub first_numbers : ℕ → PlainVersion → PlainVersion → Ordering

@@ -3,9 +3,8 @@ use Rattle.std.specs.Prelude.{is_some, option_map}
 use Rattle.semver_ranges.specs.RangeTree.{Simple}
 use Rattle.semver_ranges.specs.RangeViews.{comparator_of}
 use Rattle.semver_ranges.specs.Steps.CursorViews.{IsSimpleOf}
-use Rattle.semver_ranges.specs.Steps.PartialViews.{version_of}
+use Rattle.semver_ranges.specs.Steps.PartialViews.{side_value, version_of}
 use Rattle.semver_ranges.specs.declared.table.Side.{Side}
-use Rattle.semver_ranges.specs.Sides.{side_value}
 use Rattle.semver_ranges.specs.Sides.{term_fits}
 use Rattle.semver_ranges.specs.TermComparators.{at_side, lower_comparator, printed_term, upper_comparator}
 use Rattle.semver_ranges.specs.Sides.{ends_past}

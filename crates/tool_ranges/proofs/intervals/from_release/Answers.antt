@@ -1,12 +1,11 @@
 use Rattle.std.proofs.Common.{ap, ◌∙◌, ◌&&◌, ◌-◌, ◌^◌, not, nat_le}
 use Rattle.std.specs.Prelude.{option_map}
-use Rattle.semver_ranges.specs.Sides.{side_value}
 use Rattle.std.specs.List.{list_all}
 use Rattle.std.proofs.lemmas.Bool.{and_parts}
 use Rattle.semver_texts.specs.Digits.{plain_by}
 use Rattle.semver_texts.specs.Texts.{is_empty}
 use Rattle.semver_texts.specs.Versions.{numbers}
-use Rattle.semver_ranges.specs.Steps.PartialViews.{stated_of, version_of}
+use Rattle.semver_ranges.specs.Steps.PartialViews.{side_value, stated_of, version_of}
 use Rattle.semver_ranges.specs.declared.dialect.Dialect.TheVariants.{Npm}
 use Rattle.tool_ranges.specs.Steps.Table.{is_past_release}
 use Rattle.semver_ranges.specs.Sides.{may_rise, sides}
