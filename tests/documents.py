@@ -49,7 +49,7 @@ MOST_FREE = 9
 MOST_EDITS = 24
 # How many lines of rust/src may be written by hand, except for these files, which have names and the
 # original's signatures. Move what decides into Rattle instead of raising it.
-MOST_BY_HAND = 302
+MOST_BY_HAND = 299
 NAMES_BY_HAND = {'docs.rs', 'lib.rs', 'original.rs'}
 
 # The pages that are generated.

@@ -153,8 +153,7 @@ impl VersionRange {
     /// ```
     #[must_use]
     pub fn min_version(&self) -> Option<Version> {
-        let lowest = self.try_lowest_version().unwrap_or_else(|_| out_of_memory());
-        lowest.as_ref().map(Version::without_build)
+        self.lowest_owned().unwrap_or_else(|_| out_of_memory())
     }
 
     /// Returns whether the other range contains every version that this one does. One may have been

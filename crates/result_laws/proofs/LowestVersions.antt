@@ -11,11 +11,12 @@ use Rattle.semver_parser.specs.Precedence.{precedence}
 use Rattle.semver_parser.specs.Versions.{PlainVersion}
 use Rattle.semver_parser.specs.VersionViews.{version_value}
 use Rattle.semver_parser.specs.declared.version.Version.{Version}
+use Rattle.semver_versions.specs.VersionRefs.{VersionRefValue, owned_value}
 use Rattle.version_sets.specs.VersionSets.{SetValue, IsIn, IsLowest, IsRelease, HasNone}
 use Rattle.version_sets.specs.Comparisons.{IsLowestOf, TellsLowest}
 use Rattle.version_sets.specs.Releases.{release_value}
 use Rattle.version_sets.specs.declared.Release.{Release}
-use Rattle.result_laws.specs.OneResult.{AreOne}
+use Rattle.result_laws.specs.OneResult.{AreOne, itself}
 use Rattle.result_laws.proofs.OneResult.{one_made, of_ok}
 use Rattle.result_laws.proofs.SameSets.{plainly}
 
@@ -29,6 +30,10 @@ HasNoBuild x = IfSome x (λ version. (version_value version).build ≡ [])
 
 abbrev IsNoneIfNone : (K : PlainVersion → Type 0) → SetValue → Option Version → Type 0
 IsNoneIfNone K set x = (x ≡ None) ↔ HasNone K set
+
+-- the clause of `lowest_owned` about that version
+abbrev IsOwned : (K : PlainVersion → Type 0) → SetValue → Option VersionRefValue → Type 0
+IsOwned K set x = IfSome x (λ version. (v : PlainVersion) × IsLowest K set v × (version ≡ owned_value (plain_kept v)))
 
 -- these clauses imply `TellsLowest`, which is how the clauses of a comparison are stated
 lower_one : (K : PlainVersion → Type 0) (set : SetValue) (x : Option Version) → IsThat K set x → HasNoBuild x → IsNoneIfNone K set x
@@ -68,6 +73,20 @@ module _ (total : IsTotalOrder precedence) (exact : (v w : PlainVersion) → (pr
       → IfOk s (IsThat K set) → IfOk s HasNoBuild → IfOk s (IsNoneIfNone K set) → AreOne alloc_error (option_map version_value) r s
   one_call K set r s p b n p' b' n' = one_made (option_map version_value) r s (λ x y is is'. one_lowest _ x y
       (lower_one K set x (of_ok _ is p) (of_ok _ is b) (of_ok _ is n)) (lower_one K set y (of_ok _ is' p') (of_ok _ is' b') (of_ok _ is' n')))
+
+  one_owned : (K : PlainVersion → Type 0) (set : SetValue) (x y : Option VersionRefValue)
+      → IsOwned K set x → (x ≡ None) ↔ HasNone K set → IsOwned K set y → (y ≡ None) ↔ HasNone K set → x ≡ y
+  one_owned K set None y p n q n' = sym (n'.1 (n.0 refl))
+  one_owned K set x None p n q n' = n.1 (n'.0 refl)
+  one_owned K set (Some a) (Some b) (v, p, is) n (w, q, is') n' =
+      let e = level v w (q.lowest v p.is_of_kind p.is_in) (p.lowest w q.is_of_kind q.is_in) in
+      ap Some (is ∙ ap (λ u. owned_value (plain_kept u)) e ∙ sym is')
+
+  -- two results of `lowest_owned` are equal
+  pub one_owned_call : (K : PlainVersion → Type 0) (set : SetValue) (r s : Result (Option VersionRefValue) AllocError)
+      → IfOk r (IsOwned K set) → IfOk r (λ x. (x ≡ None) ↔ HasNone K set)
+      → IfOk s (IsOwned K set) → IfOk s (λ x. (x ≡ None) ↔ HasNone K set) → AreOne alloc_error itself r s
+  one_owned_call K set r s p n p' n' = one_made itself r s (λ x y is is'. one_owned K set x y (of_ok _ is p) (of_ok _ is n) (of_ok _ is' p') (of_ok _ is' n'))
 
   pub one_lowest_release : (set : SetValue) (x y : Option Release) → IfSome x (λ r. IsLowest IsRelease set (release_value r))
       → (x ≡ None) ↔ HasNone IsRelease set → IfSome y (λ r. IsLowest IsRelease set (release_value r))

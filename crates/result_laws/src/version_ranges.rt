@@ -4,10 +4,12 @@ ghost use Rattle.std.specs.Prelude.{◌≡◌, alloc_error, IfOk, option_map};
 ghost use Rattle.semver_parser.specs.VersionViews.{version_value};
 ghost use Rattle.result_laws.specs.OneResult.{AreOne, itself};
 ghost use Rattle.result_laws.specs.SameSets.{AreAlikeRanges};
+ghost use Rattle.version_sets.specs.Printable.{IsPrintable};
 
 use semver_parser::laws::precedence_is_total;
 use semver_parser::version::Version;
 use semver_ranges::RangeError;
+use semver_versions::owned;
 use semver_versions::placed::PlacedVersion;
 use std::alloc::{AllocError, Global};
 use tool_ranges::highest::Extreme;
@@ -65,6 +67,21 @@ pub fn one_lowest_version(
 {
     precedence_is_total();
     (range.lowest_version(alloc), range.lowest_version(alloc))
+}
+
+/// `VersionRange::lowest_owned` has only one permitted result.
+pub fn one_lowest_owned(
+    alloc: Global,
+    range: &VersionRange,
+) -> (
+    Result<Option<owned::Version>, AllocError>,
+    Result<Option<owned::Version>, AllocError>,
+)
+    requires printable { IsPrintable range.now.versions }
+    ensures one { AreOne alloc_error itself result.0 result.1 }
+{
+    precedence_is_total();
+    (range.lowest_owned(alloc), range.lowest_owned(alloc))
 }
 
 /// `VersionRange::contains_bytes` has only one permitted result.

@@ -2,6 +2,7 @@ pub mod CutIdentifiers
 pub mod DialectVersionRefs
 pub mod KeptTexts
 pub mod OneVersion
+mod PrintedPre
 pub mod BorrowedVersions
 pub mod ReadTexts
 pub mod ReadVersions

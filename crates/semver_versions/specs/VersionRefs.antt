@@ -1,17 +1,18 @@
 -- Borrowed versions: three numbers, the text of the pre-release and that of the build metadata, and
 -- the offsets at which both begin in the text of the version.
 use Prim.Native.Char.{code}
-use Rattle.std.specs.Prelude.{◌≡◌, ℕ, suc, ◌+◌, ◌^◌, ◌&&◌, nat_lt, if◌then◌else◌, List, [], ◌∷◌}
+use Rattle.std.specs.Prelude.{◌≡◌, ℕ, true, suc, ◌+◌, ◌^◌, ◌&&◌, nat_lt, if◌then◌else◌, List, [], ◌∷◌}
 use Rattle.std.specs.Prelude.{length, map, take, drop, decimal}
-use Rattle.std.specs.List.{join_with_byte, prefix_len}
+use Rattle.std.specs.List.{join_with_byte, list_all, prefix_len}
 use Rattle.std.specs.Str.Parse.{digits_value}
 use Rattle.semver_texts.specs.Digits.{digits_in, version_by}
-use Rattle.semver_texts.specs.Texts.{Text, cut_at_dots, is_number, is_space}
+use Rattle.semver_texts.specs.Texts.{Text, cut_at_dots, is_number, is_part, is_space}
 use Rattle.semver_texts.specs.ToolVersions.{SpellsIn, before_numbers}
-use Rattle.semver_texts.specs.Versions.{IdentifierValue, numeric, alphanumeric, VersionValue}
+use Rattle.semver_texts.specs.Versions.{IdentifierValue, numeric, alphanumeric, PlainVersion}
+use Rattle.semver_texts.specs.Versions.{VersionValue}
 use Rattle.semver_texts.specs.Versions.{numbers}
 use Rattle.semver_texts.specs.declared.grammar.Digits.{Digits}
-use Rattle.semver_texts.specs.declared.grammar.Digits.TheVariants.{Kept}
+use Rattle.semver_texts.specs.declared.grammar.Digits.TheVariants.{Kept, AnySize}
 use Rattle.semver_texts.specs.declared.grammar.Grammar.{Grammar}
 use Rattle.semver_texts.specs.PrintedText.{identifier_text, plain_text}
 use Rattle.semver_texts.specs.VersionGrammar.{SpellsVersion}
@@ -52,6 +53,23 @@ version_ref_after digits before v = record {
       (dotted_text v.plain.pre);
   build_offset = after_mark (before + length (plain_text v.plain)) (dotted_text v.build);
   digits = digits;
+}
+
+-- the text of each identifier of the pre-release can be a part of a text of a version
+abbrev pub HasPartTexts : PlainVersion → Type 0
+HasPartTexts v = list_all is_part (map identifier_text v.pre) ≡ true
+
+-- a version without build metadata as one that owns its strings
+abbrev pub owned_value : PlainVersion → VersionRefValue
+owned_value v = record {
+  major = v.major;
+  minor = v.minor;
+  patch = v.patch;
+  pre = dotted_text v.pre;
+  build = [];
+  pre_offset = 0;
+  build_offset = 0;
+  digits = AnySize;
 }
 
 -- the borrowed version of a version that the text spells, with `before` bytes before the version

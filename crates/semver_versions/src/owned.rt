@@ -1,17 +1,23 @@
 //! Versions that own their strings.
 
-ghost use Rattle.std.specs.Prelude.{◌≡◌, ◌++◌, ◌⊎◌, ◌<◌, IfOk, IfErr, length};
-ghost use Rattle.std.specs.Prelude.{◌↔◌, Some, not, true};
+ghost use Rattle.std.specs.Prelude.{◌≡◌, ◌++◌, ◌⊎◌, ◌<◌, ◌^◌, IfOk, IfErr, length};
+ghost use Rattle.std.specs.Prelude.{◌↔◌, Some, [], not, true};
 ghost use Rattle.std.specs.Box.{boxed_slice_items};
+ghost use Rattle.std.specs.List.{AllByRecursion};
 ghost use Rattle.std.specs.Ordering.{eq_by_cmp};
 ghost use Rattle.semver_texts.specs.Precedence.{precedence};
+ghost use Rattle.semver_texts.specs.PrintedText.{plain_text};
 ghost use Rattle.semver_texts.specs.Texts.{is_empty};
+ghost use Rattle.semver_texts.specs.VersionViews.{version_value};
+ghost use Rattle.semver_texts.specs.Versions.{PlainVersion, numbers};
 ghost use Rattle.semver_texts.specs.declared.grammar.Digits.TheVariants.{AnySize};
 ghost use Rattle.semver_versions.specs.Steps.Owned.{part_bytes};
 ghost use Rattle.semver_versions.specs.VersionOrder.{HaveSameParts, order, semver_of};
+ghost use Rattle.semver_versions.specs.VersionRefs.{HasPartTexts, dotted_text, owned_value};
 
 use crate::version_ref::VersionRef;
 use semver_texts::grammar::Digits;
+use semver_texts::version;
 use std::alloc::{AllocError, Global};
 use std::boxed::BoxedSlice;
 use std::cmp::Ordering;
@@ -130,6 +136,30 @@ impl Version {
         ensures { result ≡ not (is_empty self.now.pre) }
     {
         self.pre_len > 0
+    }
+
+    // Determined by: equation.
+    /// Returns a version of 0.10 that has no build metadata, as a version of this type. `Err` means
+    /// out of memory.
+    pub fn of_plain(alloc: Global, original: &version::Version) -> Result<Version, AllocError>
+        requires no_build { (version_value original.now).build ≡ [] }
+        requires parts { HasPartTexts (version_value original.now).plain }
+        ensures same { IfOk result (λ version. version
+            ≡ owned_value (version_value original.now).plain) }
+    {
+        let (major, minor, patch) = (original.major, original.minor, original.patch);
+        let printed = original.to_string(alloc)?;
+        let borrowed = VersionRef {
+            major,
+            minor,
+            patch,
+            pre: printed_pre(&printed),
+            build: &[],
+            before_pre: 0,
+            before_build: 0,
+            digits: Digits::AnySize,
+        };
+        borrowed.owned(alloc)
     }
 
     // Determined by: equation.
@@ -331,6 +361,17 @@ impl<'t> VersionRef<'t> {
             return Ok(None);
         }
         Ok(Some(joined(alloc, self.pre, self.build)?))
+    }
+}
+
+/// Returns the pre-release in the string of a version without build metadata.
+fn printed_pre(printed: &str) -> &[u8]
+    ensures { (v : PlainVersion) → AllByRecursion (λ n. n < 2 ^ 64) (numbers v)
+        → printed.now ≡ plain_text v → result.now ≡ dotted_text v.pre }
+{
+    match printed.split_once('-') {
+        Some((_, pre)) => pre.as_bytes(),
+        None => &[],
     }
 }
 

@@ -5,7 +5,8 @@ ghost use Rattle.semver_texts.specs.Digits.{digits_in, plain_kept};
 ghost use Rattle.semver_texts.specs.VersionViews.{version_value};
 ghost use Rattle.semver_texts.specs.Texts.{Text};
 ghost use Rattle.semver_texts.specs.Versions.{PlainVersion};
-ghost use Rattle.semver_versions.specs.VersionRefs.{IsVersionRefIn, kept_version_of, version_of};
+ghost use Rattle.semver_versions.specs.VersionRefs.{HasPartTexts, IsVersionRefIn};
+ghost use Rattle.semver_versions.specs.VersionRefs.{kept_version_of, owned_value, version_of};
 ghost use Rattle.semver_ranges.specs.DialectTable.{limit};
 ghost use Rattle.tool_ranges.specs.Dialects.{RefusesAs};
 ghost use Rattle.semver_ranges.specs.DialectTable.{grammar_of};
@@ -19,6 +20,7 @@ use crate::meaning::{self, Rules};
 use crate::satisfying::SatisfiesError;
 use semver_ranges::RangeError;
 use semver_ranges::table::limit;
+use semver_versions::owned;
 use semver_versions::version::{Version, VersionRef, read_ref_in};
 use std::alloc::{AllocError, Global};
 use std::fmt;
@@ -99,6 +101,9 @@ impl VersionRange {
             (version_value version).build ≡ [])) }
         ensures none { IfOk result (λ lowest. (lowest ≡ None)
             ↔ HasNone (IsWithin (limit self.now.meaning.dialect)) self.now.versions) }
+        // If the range was read from a string, its pre-release can be written in one.
+        ensures parts { IsPrintable self.now.versions → IfOk result (λ lowest.
+            IfSome lowest (λ version. HasPartTexts (version_value version).plain)) }
         // It can run out of memory only if that version is a pre-release.
         ensures out_of_memory { IfErr result (λ _. (v : PlainVersion)
             × IsLowest (IsWithin (limit self.now.meaning.dialect)) self.now.versions v
@@ -106,6 +111,23 @@ impl VersionRange {
     {
         self.versions
             .lowest_within(alloc, limit(self.meaning.dialect))
+    }
+
+    // Determined by: law result_laws::version_ranges::one_lowest_owned.
+    /// Returns the result of [`VersionRange::lowest_version`] as a version that owns its strings.
+    /// `Err` means out of memory.
+    pub fn lowest_owned(&self, alloc: Global) -> Result<Option<owned::Version>, AllocError>
+        requires printable { IsPrintable self.now.versions }
+        ensures lowest { IfOk result (λ lowest. IfSome lowest (λ version. (v : PlainVersion)
+            × IsLowest (IsWithin (limit self.now.meaning.dialect)) self.now.versions v
+            × (version ≡ owned_value (plain_kept v)))) }
+        ensures none { IfOk result (λ lowest. (lowest ≡ None)
+            ↔ HasNone (IsWithin (limit self.now.meaning.dialect)) self.now.versions) }
+    {
+        let Some(lowest) = self.lowest_version(alloc)? else {
+            return Ok(None);
+        };
+        Ok(Some(owned::Version::of_plain(alloc, &lowest)?))
     }
 
     // Determined by: equation.

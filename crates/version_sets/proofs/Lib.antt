@@ -23,6 +23,7 @@ mod WithinLaws
 -- sets as ranges of comparators, and as texts
 mod IntervalLaws
 mod SetRangeLaws
+mod PartTexts
 mod PrintedBoundaries
 mod WrittenSets
 mod ReadBack

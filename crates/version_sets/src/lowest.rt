@@ -5,12 +5,14 @@ ghost use Rattle.std.specs.Prelude.{false, option_map, true};
 ghost use Rattle.semver_texts.specs.Digits.{plain_kept};
 ghost use Rattle.semver_texts.specs.Versions.{PlainVersion, without_build as unbuilt};
 ghost use Rattle.semver_texts.specs.VersionViews.{version_value};
+ghost use Rattle.version_sets.specs.Printable.{IsPrintable};
 ghost use Rattle.version_sets.specs.Releases.{release_value};
 ghost use Rattle.version_sets.specs.VersionSets.{Fits, IsRelease, IsPreRelease};
 ghost use Rattle.version_sets.specs.VersionSets.{IsLowest, IsWithin, HasNone};
 ghost use Rattle.version_sets.specs.Steps.Within.{first_value};
 ghost use Rattle.version_sets.specs.Steps.Lower.{is_below, lower};
 ghost use Rattle.semver_versions.specs.ReadVersions.{read_plain};
+ghost use Rattle.semver_versions.specs.VersionRefs.{HasPartTexts};
 
 use crate::release::Release;
 use crate::version_set::VersionSet;
@@ -55,6 +57,9 @@ impl VersionSet {
             (version_value version).build ≡ [])) }
         ensures none { IfOk result (λ lowest.
             (lowest ≡ None) ↔ HasNone (IsWithin most) self.now) }
+        // If the set was read from a string, its pre-release can be written in one.
+        ensures parts { IsPrintable self.now → IfOk result (λ lowest. IfSome lowest (λ version.
+            HasPartTexts (version_value version).plain)) }
         // It can run out of memory only if that version is a pre-release.
         ensures out_of_memory { IfErr result (λ _. (v : PlainVersion)
             × IsLowest (IsWithin most) self.now v × IsPreRelease v) }

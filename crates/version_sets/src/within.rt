@@ -1,11 +1,13 @@
 //! The first version of a kind, with numbers within a limit, that is inside some boundaries.
 
-ghost use Rattle.std.specs.Prelude.{◌≡◌, [], false, map, option_map, IfOk};
+ghost use Rattle.std.specs.Prelude.{◌≡◌, [], Bool, true, false, map, option_map, IfOk, IfSome};
+ghost use Rattle.std.specs.List.{list_all};
 ghost use Rattle.std.specs.Ordering.{is_eq, is_lt};
 ghost use Rattle.semver_texts.specs.Digits.{plain_kept};
 ghost use Rattle.semver_texts.specs.Precedence.{precedence};
 ghost use Rattle.semver_texts.specs.Texts.{is_empty};
 ghost use Rattle.semver_texts.specs.VersionViews.{version_value};
+ghost use Rattle.semver_texts.specs.Versions.{PlainVersion};
 ghost use Rattle.semver_versions.specs.ReadVersions.{read_plain};
 ghost use Rattle.version_sets.specs.Releases.{release_value};
 ghost use Rattle.version_sets.specs.VersionSets.{AreBoundaries};
@@ -44,8 +46,9 @@ impl<'a, T: Boundary> First<'a, T> {
     /// Returns the first version at or above a boundary whose numbers are at most `most`.
     fn from_boundary(boundary: &'a T, most: u64) -> Option<First<'a, T>>
         requires { is_empty (T.place boundary.now).pre ≡ T.are_releases }
-        ensures { IsFirstFrom (IsOfKindWithin T.are_releases most) (T.place boundary.entry.now)
+        ensures first { IsFirstFrom (IsOfKindWithin T.are_releases most) (T.place boundary.entry.now)
             (option_map (first_value T.are_releases T.place) result) }
+        ensures boundary { IfSome result (λ first. first.boundary ≡ boundary.entry) }
     {
         let numbers = boundary.numbers().within(most)?;
         Some(First { boundary, numbers })
@@ -141,8 +144,11 @@ impl Release {
 /// Returns the first version inside the boundaries whose numbers are at most `most`.
 pub(crate) fn first_inside<T: Boundary>(boundaries: &[T], most: u64) -> Option<First<'_, T>>
     requires { AreBoundaries (IsOfKind T.are_releases) (map T.place boundaries.now) }
-    ensures { IsFirstInside (IsOfKindWithin T.are_releases most) (map T.place boundaries.now)
+    ensures first { IsFirstInside (IsOfKindWithin T.are_releases most) (map T.place boundaries.now)
         (option_map (first_value T.are_releases T.place) result) }
+    // What is true of each boundary is true of the one that it is at or after.
+    ensures boundary { (p : PlainVersion → Bool) → list_all p (map T.place boundaries.now) ≡ true
+        → IfSome result (λ first. p (T.place first.boundary.now) ≡ true) }
 {
     let mut rest = boundaries;
     loop {

@@ -1,8 +1,8 @@
 // Made by tools/erase.py from crates/semver_ranges/src/rewriting.rt; not edited by hand.
 //! A range string as plain comparators: those of the sides of its terms.
 //!
-//! `rewrite` makes no `Checked`, for speed: with one, it took up to 15 % more instructions for a single
-//! term.
+//! `rewrite` makes no `Checked`, for speed: with one, it took up to 15 % more instructions for a
+//! single term.
 
 use crate::rattle_std::prelude::*;
 use crate::proved::semver_ranges::checked::{first_term, survey};

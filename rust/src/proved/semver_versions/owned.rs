@@ -4,6 +4,7 @@
 use crate::rattle_std::prelude::*;
 use crate::proved::semver_versions::version_ref::VersionRef;
 use crate::proved::semver_texts::grammar::Digits;
+use crate::proved::semver_texts::version;
 use crate::rattle_std::AllocError;
 use crate::rattle_std::boxed::BoxedSlice;
 use crate::rattle_std::cmp::Ordering;
@@ -103,6 +104,24 @@ impl Version {
     #[must_use]
     pub fn is_pre_release(&self) -> bool {
         self.pre_len > 0
+    }
+
+    /// Returns a version of 0.10 that has no build metadata, as a version of this type. `Err` means
+    /// out of memory.
+    pub(crate) fn of_plain(original: &version::Version) -> Result<Version, AllocError> {
+        let (major, minor, patch) = (original.major, original.minor, original.patch);
+        let printed = original.fallible_to_string()?;
+        let borrowed = VersionRef {
+            major,
+            minor,
+            patch,
+            pre: printed_pre(&printed),
+            build: &[],
+            before_pre: 0,
+            before_build: 0,
+            digits: Digits::AnySize,
+        };
+        borrowed.owned()
     }
 
     /// Compares two versions by precedence (SemVer 2.0.0, section 11). Build metadata is ignored.
@@ -219,6 +238,14 @@ impl<'t> VersionRef<'t> {
             return Ok(None);
         }
         Ok(Some(joined(self.pre, self.build)?))
+    }
+}
+
+/// Returns the pre-release in the string of a version without build metadata.
+fn printed_pre(printed: &str) -> &[u8] {
+    match printed.split_once('-') {
+        Some((_, pre)) => pre.as_bytes(),
+        None => &[],
     }
 }
 

@@ -6,6 +6,7 @@ use crate::proved::tool_ranges::meaning::{self, Rules};
 use crate::proved::tool_ranges::satisfying::SatisfiesError;
 use crate::proved::semver_ranges::RangeError;
 use crate::proved::semver_ranges::table::limit;
+use crate::proved::semver_versions::owned;
 use crate::proved::semver_versions::version::{Version, VersionRef, read_ref_in};
 use crate::rattle_std::AllocError;
 use crate::rattle_std::fmt;
@@ -53,6 +54,15 @@ impl VersionRange {
     pub(crate) fn try_lowest_version(&self) -> Result<Option<Version>, AllocError> {
         self.versions
             .lowest_within(limit(self.meaning.dialect))
+    }
+
+    /// Returns the result of [`VersionRange::lowest_version`] as a version that owns its strings.
+    /// `Err` means out of memory.
+    pub(crate) fn lowest_owned(&self) -> Result<Option<owned::Version>, AllocError> {
+        let Some(lowest) = self.try_lowest_version()? else {
+            return Ok(None);
+        };
+        Ok(Some(owned::Version::of_plain(&lowest)?))
     }
 
     /// Returns the range that contains the versions of a set.
