@@ -16,8 +16,8 @@ UNKNOWN = {'unsafe', 'extern', 'static', 'macro_rules', 'async', 'await', 'isize
 
 # Imports from crates that aren't in this repository.
 IMPORTS = set('''
-    std::alloc::AllocError std::alloc::Global std::boxed::BoxedSlice std::cmp::Ordering std::env std::fmt
-    std::fmt::Display std::fmt::Formatter std::fmt::Write std::fs std::hash::Hash
+    std::alloc::AllocError std::alloc::Global std::boxed::BoxedSlice std::cmp::Ordering std::env
+    std::fmt std::fmt::Display std::fmt::Formatter std::fmt::Write std::fs std::hash::Hash
     std::hash::Hasher std::io std::io::BufRead
     std::io::BufReader std::io::BufWriter std::io::ErrorKind std::io::IsTerminal std::io::Read
     std::io::Write std::marker::Model std::mem std::ops::Range std::process::ExitCode
@@ -33,9 +33,9 @@ CASTS = {'u8', 'u32', 'u64'}
 
 # Names that rules know, or that are in both preludes: nothing else may have them.
 KNOWN = NUMBERS | set('''
-    AllocError AllocGlobal AsMut AsRef Box BoxedSlice BufReader BufWriter Clone Copy Default Drop Eprint Eq Err
-    ErrorKind ExitCode Extend FallibleClone Fn FnMut FnOnce Formatter From FromIterator Global
-    HostRuntime Into IntoIterator Iterator Model None Ok Option Ord Ordering PartialEq PartialOrd
+    AllocError AllocGlobal AsMut AsRef Box BoxedSlice BufReader BufWriter Clone Copy Default Drop
+    Eprint Eq Err ErrorKind ExitCode Extend FallibleClone Fn FnMut FnOnce Formatter From FromIterator
+    Global HostRuntime Into IntoIterator Iterator Model None Ok Option Ord Ordering PartialEq PartialOrd
     Print Result Sized Some String ToOwned ToString TryFrom TryInto Vec Write alloc bool char cmp
     core env fmt fs io laws marker mem process proved rattle_std rt self std str thiserror
 '''.split())

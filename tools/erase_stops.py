@@ -7,9 +7,10 @@ from rattle_source import OPEN, begins_item
 # Types and modules of std.
 OWNERS = set('Vec String Box Rc Option Result Iterator str mem io env fs iter slice char'.split())
 # What is imported of std, besides modules.
-IMPORTS = set('''AllocError BoxedSlice BufRead BufReader BufWriter Display Env ErrorKind ExitCode Formatter
-    Global Hash Hasher IsTerminal Model Ordering Range Read Write'''.split())
-MODULES = set('alloc as boxed cmp env fmt fs hash io iter marker mem ops process rt self str'.split())
+IMPORTS = set('''AllocError BoxedSlice BufRead BufReader BufWriter Display Env ErrorKind ExitCode
+    Formatter Global Hash Hasher IsTerminal Model Ordering Range Read Write'''.split())
+MODULES = set('''alloc as boxed cmp env fmt fs hash io iter marker mem ops process rt self
+    str'''.split())
 SAME_MACROS = {'matches', 'unreachable', 'write'}
 SAME_ATTRIBUTES = {'cold', 'derive', 'inline', 'must_use', 'non_exhaustive'}
 DERIVES = set('Clone Copy Debug Drop Eq Error Hash Ord PartialEq PartialOrd'.split())
