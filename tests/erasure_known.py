@@ -33,11 +33,12 @@ CASTS = {'u8', 'u32', 'u64'}
 
 # Names that rules know, or that are in both preludes: nothing else may have them.
 KNOWN = NUMBERS | set('''
-    AllocError AllocGlobal AsMut AsRef Box BoxedSlice BufReader BufWriter Clone Copy Default Drop
-    Eprint Eq Err ErrorKind ExitCode Extend FallibleClone Fn FnMut FnOnce Formatter From FromIterator
-    Global HostRuntime Into IntoIterator Iterator Model None Ok Option Ord Ordering PartialEq PartialOrd
-    Print Result Sized Some String ToOwned ToString TryFrom TryInto Vec Write alloc bool char cmp
-    core env fmt fs io laws marker mem process proved rattle_std rt self std str thiserror
+    AllocError AllocGlobal AsMut AsRef Box BoxedSlice BufReader BufWriter Clone Copy Default
+    Drop Eprint Eq Err ErrorKind ExitCode Extend FallibleClone Fn FnMut FnOnce Formatter From
+    FromIterator Global HostRuntime Into IntoIterator Iterator Model None Ok Option Ord Ordering
+    PartialEq PartialOrd Print Result Sized Some String ToOwned ToString TryFrom TryInto Vec
+    Write alloc bool char cmp core env fmt fs io laws marker mem process proved rattle_std rt
+    self std str thiserror
 '''.split())
 
 # Methods whose calls rule 12 renames, whatever type has them, and the one that `write!` calls.
